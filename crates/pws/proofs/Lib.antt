@@ -1,0 +1,12 @@
+pub mod Cases
+pub mod Answers
+pub mod Facts
+pub mod Queues
+pub mod Preorder
+pub mod Starts
+pub mod Steps
+pub mod Moves
+pub mod Simulation
+pub mod Tagged
+pub mod Insertion
+pub mod Dropping

@@ -1,0 +1,9 @@
+pub mod Program
+pub mod Machine
+pub mod Configurations
+pub mod Order
+pub mod Entries
+pub mod Sequences
+pub mod Tagged
+pub mod Insertion
+pub mod Cases
