@@ -15,7 +15,7 @@ use Rattle.records.specs.declared.program.Counted.{Counted}
 use Rattle.records.specs.declared.program.Counted.the-variants.{Records, Stopped}
 use Rattle.records.specs.Bytes.{choose, byte, cut}
 use Rattle.records.specs.declared.program.Shape.{Shape}
-use Rattle.records.specs.Records.{firstNumber, checked, isKind, inRange, statesNumber, transitionNumber, transitionNames, targetNumber, stateNames}
+use Rattle.records.specs.Records.{firstNumber, checked, isKind, inRange, statesNumber, transitionNumber, transitionNames, targetNumber, stateNames, isStep, stepBody, stepNames, stepNumber, entryNumber, pointerNames}
 use Rattle.records.specs.ProgramPart.{unlessEnd, countThen, statesFrom, rowFrom}
 
 -- ---- answers
@@ -144,3 +144,15 @@ module _ (f : List ℕ) (at : ℕ) where
     pub target-fine : checked (targetNumber s states f at n) at ≡ Fine → Good (not (isKind f at 4)) (cut f at 4) (leb 16 n) false (not (stateNames s states f at))
     unfolding targetNumber
     target-fine e = good at e
+
+  -- ---- and of the evidence part
+
+  pub step-fine : (s : Shape) (transitions n : ℕ) → checked (stepNumber s transitions f at n) at ≡ Fine
+      → Good (not (isStep f at)) (cut f at (stepBody f at)) (leb 1024 n) false (not (stepNames s transitions f at))
+  unfolding stepNumber
+  step-fine s transitions n e = good at e
+
+  pub entry-fine : (s : Shape) (states : List ℕ) (full : Bool) → checked (entryNumber s states f at full) at ≡ Fine
+      → Good (not (isKind f at 16)) (cut f at 8) full false (not (stateNames s states f at && pointerNames s f at))
+  unfolding entryNumber
+  entry-fine s states full e = good at e

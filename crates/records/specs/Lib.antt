@@ -1,3 +1,5 @@
 pub mod Bytes
 pub mod Records
 pub mod ProgramPart
+pub mod EvidencePart
+pub mod Tally

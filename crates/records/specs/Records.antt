@@ -115,4 +115,84 @@ targetNumber s states f at n = firstNumber (not (isKind f at 4)) (cut f at 4) (l
 
 -- the state of process p in the record at `at`, and 0 for processes past the fourth
 abbrev pub stateAt : List ℕ → ℕ → ℕ → ℕ
-stateAt f at p = cond (ltb p 4) (byte f (at + 1 + p)) 0
+stateAt f at p = cond (ltb p 4) (byte f (at + (1 + p))) 0
+
+-- ---- 0F: claim 0 safe, 1 reachable
+
+unfoldable pub claimNumber : List ℕ → ℕ → ℕ
+claimNumber f at = firstNumber (not (isKind f at 15)) (cut f at 1) false false (not (leb (byte f (at + 1)) 1))
+
+-- ---- 20, 21, 22: transition number; serialise process, variable; update process; at most 1,024 in all
+
+abbrev pub isStep : List ℕ → ℕ → Bool
+isStep f at = isKind f at 32 || (isKind f at 33 || isKind f at 34)
+
+unfoldable pub stepBody : List ℕ → ℕ → ℕ
+stepBody f at = cond (isKind f at 33) 2 1
+
+abbrev pub exists : Shape → ℕ → ℕ → Bool
+exists s p v = ltb p (s .processes) && ltb v (s .variables)
+
+unfoldable pub stepNames : Shape → ℕ → List ℕ → ℕ → Bool
+stepNames s transitions f at =
+    cond (isKind f at 32) (ltb (byte f (at + 1)) transitions)
+    (cond (isKind f at 33) (exists s (byte f (at + 1)) (byte f (at + 2))) (ltb (byte f (at + 1)) (s .processes)))
+
+unfoldable pub stepNumber : Shape → ℕ → List ℕ → ℕ → ℕ → ℕ
+stepNumber s transitions f at n = firstNumber (not (isStep f at)) (cut f at (stepBody f at)) (leb 1024 n) false (not (stepNames s transitions f at))
+
+unfoldable pub stepAt : List ℕ → ℕ → Step
+stepAt f at =
+    cond (isKind f at 32) (Take (byte f (at + 1))) (cond (isKind f at 33) (Serialise (byte f (at + 1)) (byte f (at + 2))) (Update (byte f (at + 1))))
+
+-- ---- 10: four states, four pointers
+
+-- a pointer of an existing process is never a matter of 4
+unfoldable pub pointerName : Shape → ℕ → ℕ → Bool
+pointerName s p z = ltb p (s .processes) || eqb z 0
+
+unfoldable pub pointerNames : Shape → List ℕ → ℕ → Bool
+pointerNames s f at =
+    pointerName s 0 (byte f (at + 5)) && (pointerName s 1 (byte f (at + 6)) && (pointerName s 2 (byte f (at + 7)) && pointerName s 3 (byte f (at + 8))))
+
+unfoldable pub entryNumber : Shape → List ℕ → List ℕ → ℕ → Bool → ℕ
+entryNumber s states f at full = firstNumber (not (isKind f at 16)) (cut f at 8) full false (not (stateNames s states f at && pointerNames s f at))
+
+-- the pointer of process p, and 0 for processes past the fourth
+abbrev pub pointerAt : List ℕ → ℕ → ℕ → ℕ
+pointerAt f at p = cond (ltb p 4) (byte f (at + (5 + p))) 0
+
+-- ---- 11: process, variable, four values
+
+-- a value of an existing variable or FF, and 0 for a variable that the shape does not have
+unfoldable pub valueName : Shape → ℕ → ℕ → Bool
+valueName s v x = cond (ltb v (s .variables)) (eqb x 255 || ltb x (valueCount s v)) (eqb x 0)
+
+unfoldable pub valueNames : Shape → List ℕ → ℕ → Bool
+valueNames s f at =
+    valueName s 0 (byte f (at + 3)) && (valueName s 1 (byte f (at + 4)) && (valueName s 2 (byte f (at + 5)) && valueName s 3 (byte f (at + 6))))
+
+unfoldable pub messageNames : Shape → List ℕ → ℕ → Bool
+messageNames s f at = exists s (byte f (at + 1)) (byte f (at + 2)) && valueNames s f at
+
+abbrev pub messageAt : List ℕ → ℕ → Message
+messageAt f at =
+    record {
+      process = byte f (at + 1);
+      variable = byte f (at + 2);
+      snapshot = byte f (at + 3) ∷ byte f (at + 4) ∷ byte f (at + 5) ∷ byte f (at + 6) ∷ [];
+    }
+
+-- ---- 12: process, variable, value
+
+unfoldable pub waitingNames : Shape → List ℕ → ℕ → Bool
+waitingNames s f at = exists s (byte f (at + 1)) (byte f (at + 2)) && valueName s (byte f (at + 2)) (byte f (at + 3))
+
+-- ---- 11 and 12 in an entry: at most 16 messages in it, and 8 values in one queue; so many stand before
+
+unfoldable pub messageNumber : Shape → List ℕ → ℕ → ℕ → ℕ
+messageNumber s f at messages = firstNumber false (cut f at 6) (leb 16 messages) false (not (messageNames s f at))
+
+-- a queue of a process or a variable that does not exist is never full
+unfoldable pub waitingNumber : Shape → List ℕ → ℕ → ℕ → ℕ
+waitingNumber s f at waiting = firstNumber false (cut f at 3) (exists s (byte f (at + 1)) (byte f (at + 2)) && leb 8 waiting) false (not (waitingNames s f at))
