@@ -16,7 +16,7 @@ use Rattle.records.specs.Records.{checked, inRange, shapeAt, shapeNumber
 use Rattle.records.specs.ProgramPart.{unlessEnd, transitionsFrom, targetsFrom}
 use Rattle.records.proofs.RecordLaws.{Good, good, cut-fits, unless-fine, row-most}
 
-and-true : (a b : Bool) → (a && b) ≡ true → (a ≡ true) × (b ≡ true)
+pub and-true : (a b : Bool) → (a && b) ≡ true → (a ≡ true) × (b ≡ true)
 and-true true true e = (refl, refl)
 and-true true false e = let z : _≡_ {A = ℕ} 0 1 = cc in absurd (omega arith)
 and-true false b e = let z : _≡_ {A = ℕ} 0 1 = cc in absurd (omega arith)

@@ -47,15 +47,20 @@ abbrev pub beginning : List ℕ → ℕ → Configuration
 beginning f at = record { state = stateAt f at; queue = λ p v. []; memory = record { channel = []; pointer = pointerAt f at } }
 
 -- with one record more: a message, or a waiting value
-unfoldable pub extended : List ℕ → ℕ → Configuration → Configuration
-extended f at e =
-    cond (isKind f at 17)
-    (record { state = e .state; queue = e .queue; memory = record { channel = messageAt f at ∷ e .memory .channel; pointer = e .memory .pointer } })
-    (record {
+abbrev pub withMessage : List ℕ → ℕ → Configuration → Configuration
+withMessage f at e =
+    record { state = e .state; queue = e .queue; memory = record { channel = messageAt f at ∷ e .memory .channel; pointer = e .memory .pointer } }
+
+abbrev pub withWaiting : List ℕ → ℕ → Configuration → Configuration
+withWaiting f at e =
+    record {
       state = e .state;
       queue = putQueue (e .queue) (byte f (at + 1)) (byte f (at + 2)) (e .queue (byte f (at + 1)) (byte f (at + 2)) ++ (byte f (at + 3) ∷ []));
       memory = e .memory;
-    })
+    }
+
+unfoldable pub extended : List ℕ → ℕ → Configuration → Configuration
+extended f at e = cond (isKind f at 17) (withMessage f at e) (withWaiting f at e)
 
 unfoldable pub bodySize : List ℕ → ℕ → ℕ
 bodySize f at = cond (isKind f at 17) 7 4

@@ -35,7 +35,7 @@ tallied f at t =
 
 -- one record more can be counted
 pub record Room (f : List ℕ) (at : ℕ) (t : Tally) : Type 0 where
-  pub messages : t .messages ≤ 16
+  pub messages : isKind f at 17 ≡ true → t .messages ≤ 16
   pub place : isKind f at 17 ≡ false → queueAt f at < 16
   pub waiting : isKind f at 17 ≡ false → getD (t .waiting) (queueAt f at) 0 ≤ 8
 

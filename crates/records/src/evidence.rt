@@ -36,13 +36,25 @@ pub fn either(a: bool, b: bool) -> bool
 pub fn check_claim(file: &[u8], at: usize) -> Checked
     ensures { λ r. ⌜ r ≡ checked (claimNumber (now (file .entry)) at) at ⌝ }
 {
-    answer(first_number(!is_kind(file, at, 15), cut(file, at, 1), false, false, !(field(file, at, 1) <= 1)), at)
+    answer(
+        first_number(
+            !is_kind(file, at, 15),
+            cut(file, at, 1),
+            false,
+            false,
+            !(field(file, at, 1) <= 1),
+        ),
+        at,
+    )
 }
 
 pub fn is_step(file: &[u8], at: usize) -> bool
     ensures { λ r. ⌜ r ≡ isStep (now (file .entry)) at ⌝ }
 {
-    either(is_kind(file, at, 32), either(is_kind(file, at, 33), is_kind(file, at, 34)))
+    either(
+        is_kind(file, at, 32),
+        either(is_kind(file, at, 33), is_kind(file, at, 34)),
+    )
 }
 
 pub fn step_body(file: &[u8], at: usize) -> usize
@@ -54,7 +66,10 @@ pub fn step_body(file: &[u8], at: usize) -> usize
 pub fn pair_exists(shape: Shape, process: u8, variable: u8) -> bool
     ensures { λ r. ⌜ r ≡ exists shape process variable ⌝ }
 {
-    both(wide(process) < shape.processes, wide(variable) < shape.variables)
+    both(
+        wide(process) < shape.processes,
+        wide(variable) < shape.variables,
+    )
 }
 
 pub fn step_names(file: &[u8], at: usize, shape: Shape, transitions: usize) -> bool
@@ -75,7 +90,16 @@ pub fn check_step(file: &[u8], at: usize, shape: Shape, transitions: usize, n: u
     ensures { λ r. ⌜ r ≡ checked (stepNumber shape transitions (now (file .entry)) at n) at ⌝ }
 {
     let names = step_names(file, at, shape, transitions);
-    answer(first_number(!is_step(file, at), cut(file, at, step_body(file, at)), 1024 <= n, false, !names), at)
+    answer(
+        first_number(
+            !is_step(file, at),
+            cut(file, at, step_body(file, at)),
+            1024 <= n,
+            false,
+            !names,
+        ),
+        at,
+    )
 }
 
 // The step of the record at a place.
@@ -84,9 +108,7 @@ pub fn step_at(file: &[u8], at: usize) -> Step
 {
     let first = wide(field(file, at, 1));
     if is_kind(file, at, 32) {
-        return Step::Take {
-            transition: first,
-        };
+        return Step::Take { transition: first };
     }
     if is_kind(file, at, 33) {
         return Step::Serialise {
@@ -94,9 +116,7 @@ pub fn step_at(file: &[u8], at: usize) -> Step
             variable: wide(field(file, at, 2)),
         };
     }
-    Step::Update {
-        process: first,
-    }
+    Step::Update { process: first }
 }
 
 // The steps, to the file's end.
@@ -138,8 +158,20 @@ pub fn pointer_names(file: &[u8], at: usize, shape: Shape) -> bool
 pub fn check_entry(file: &[u8], at: usize, shape: Shape, states: [u8; 4], full: bool) -> Checked
     ensures { λ r. ⌜ r ≡ checked (entryNumber shape states (now (file .entry)) at full) at ⌝ }
 {
-    let names = both(state_names(file, at, shape, states), pointer_names(file, at, shape));
-    answer(first_number(!is_kind(file, at, 16), cut(file, at, 8), full, false, !names), at)
+    let names = both(
+        state_names(file, at, shape, states),
+        pointer_names(file, at, shape),
+    );
+    answer(
+        first_number(
+            !is_kind(file, at, 16),
+            cut(file, at, 8),
+            full,
+            false,
+            !names,
+        ),
+        at,
+    )
 }
 
 pub fn value_name(shape: Shape, variable: usize, value: u8) -> bool
@@ -164,14 +196,20 @@ pub fn value_names(file: &[u8], at: usize, shape: Shape) -> bool
 pub fn message_names(file: &[u8], at: usize, shape: Shape) -> bool
     ensures { λ r. ⌜ r ≡ messageNames shape (now (file .entry)) at ⌝ }
 {
-    both(pair_exists(shape, field(file, at, 1), field(file, at, 2)), value_names(file, at, shape))
+    both(
+        pair_exists(shape, field(file, at, 1), field(file, at, 2)),
+        value_names(file, at, shape),
+    )
 }
 
 pub fn waiting_names(file: &[u8], at: usize, shape: Shape) -> bool
     ensures { λ r. ⌜ r ≡ waitingNames shape (now (file .entry)) at ⌝ }
 {
     let variable = field(file, at, 2);
-    both(pair_exists(shape, field(file, at, 1), variable), value_name(shape, wide(variable), field(file, at, 3)))
+    both(
+        pair_exists(shape, field(file, at, 1), variable),
+        value_name(shape, wide(variable), field(file, at, 3)),
+    )
 }
 
 pub fn body_size(file: &[u8], at: usize) -> usize
@@ -211,14 +249,29 @@ pub fn queue_at(file: &[u8], at: usize) -> usize
 pub fn message_number(file: &[u8], at: usize, shape: Shape, messages: usize) -> u8
     ensures { λ r. ⌜ r ≡ messageNumber shape (now (file .entry)) at messages ⌝ }
 {
-    first_number(false, cut(file, at, 6), 16 <= messages, false, !message_names(file, at, shape))
+    first_number(
+        false,
+        cut(file, at, 6),
+        16 <= messages,
+        false,
+        !message_names(file, at, shape),
+    )
 }
 
 pub fn waiting_number(file: &[u8], at: usize, shape: Shape, waiting: u8) -> u8
     ensures { λ r. ⌜ r ≡ waitingNumber shape (now (file .entry)) at waiting ⌝ }
 {
-    let full = both(pair_exists(shape, field(file, at, 1), field(file, at, 2)), 8 <= waiting);
-    first_number(false, cut(file, at, 3), full, false, !waiting_names(file, at, shape))
+    let full = both(
+        pair_exists(shape, field(file, at, 1), field(file, at, 2)),
+        8 <= waiting,
+    );
+    first_number(
+        false,
+        cut(file, at, 3),
+        full,
+        false,
+        !waiting_names(file, at, shape),
+    )
 }
 
 pub fn body_number(file: &[u8], at: usize, shape: Shape, tally: Tally) -> u8
@@ -296,5 +349,39 @@ pub fn some_first(file: &[u8], at: usize, shape: Shape) -> bool
 pub fn is_complete(file: &[u8], at: usize, shape: Shape, messages: usize) -> bool
     ensures { λ r. ⌜ r ≡ complete shape messages (pointerAt (now (file .entry)) at) ⌝ }
 {
-    both(1 <= messages, both(pointers_fit(file, at, shape, messages), some_first(file, at, shape)))
+    both(
+        1 <= messages,
+        both(
+            pointers_fit(file, at, shape, messages),
+            some_first(file, at, shape),
+        ),
+    )
+}
+
+// The records of the entry whose 10 stands at a place and is fine.
+fn entry_from(file: &[u8], start: usize, shape: Shape) -> EntryEnd
+    requires { ⌜ (start + 9 ≤ length (now file)) × (shape .processes ≤ 4) × (shape .variables ≤ 4) ⌝ }
+    ensures { λ r. ⌜ r ≡ endOf (entryRead shape (now (file .entry)) start) ⌝ }
+{
+    let none = [0u8; 16];
+    let mut tally = Tally {
+        messages: 0,
+        waiting: none,
+    };
+    let mut k = start + 9;
+    while !at_boundary(file, k) {
+        let answer = answer(body_number(file, k, shape, tally), k);
+        let Checked::Fine = answer else {
+            return EntryEnd::Bad(refusal_of(answer));
+        };
+        tally = tallied(file, k, tally);
+        k += body_size(file, k);
+    }
+    if is_complete(file, start, shape, tally.messages) {
+        return EntryEnd::Next(k);
+    }
+    EntryEnd::Bad(Refusal {
+        number: 7,
+        place: start,
+    })
 }

@@ -1,3 +1,4 @@
+use mathlib.Core.Bool.{true, false}
 use lib.ListN.{getD}
 use Prim.Native.Nat.{_<_, _≤_}
 use Rattle.records.specs.Records.{isKind}
@@ -15,7 +16,7 @@ tallied-spec = tie.close (tie.spec
     -- is-kind-requires 249:8
     (λ c κs. search needs)
     -- add-next 250:25
-    (λ c. search needs)
+    (λ c. omega (arith, c .before .before .before .pre .messages (sym (c .before .is-kind .ensures) ∙ c .if1 .taken)))
     -- returns 251:9
     (λ c. rw (sym (c .before .is-kind .ensures) ∙ c .if1 .taken))
     -- queue-at-requires 253:9
