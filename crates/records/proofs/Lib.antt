@@ -2,3 +2,4 @@ pub mod ByteLaws
 pub mod RecordLaws
 pub mod ProgramLaws
 pub mod EntryLaws
+pub mod ListLaws

@@ -7,6 +7,7 @@ use lib.ListN.{length, getD, set}
 use lib.Dec.{leb}
 use Rattle.pws.specs.Machine.{Configuration}
 use Rattle.records.specs.declared.program.Shape.{Shape}
+use Rattle.records.specs.declared.program.Refusal.{Refusal}
 use Rattle.records.specs.declared.program.Checked.{Checked}
 use Rattle.records.specs.declared.program.Checked.the-variants.{Fine, Refused}
 use Rattle.records.specs.declared.program.Counted.{Counted}
@@ -50,9 +51,13 @@ abbrev pub endOf : EntryRead → EntryEnd
 endOf (whole e next) = Next next
 endOf (bad r) = Bad r
 
+abbrev pub endRefusal : EntryEnd → Refusal
+endRefusal (Next n) = record { number = 0; place = 0 }
+endRefusal (Bad r) = r
+
+abbrev pub counted : Checked → ℕ → Counted
+counted Fine n = Records n
+counted (Refused r) n = Stopped r
+
 abbrev pub countOf : EntriesRead → Counted
-countOf r = counted (r .answer)
-  where
-    counted : Checked → Counted
-    counted Fine = Records (length (r .offsets))
-    counted (Refused x) = Stopped x
+countOf r = counted (r .answer) (length (r .offsets))

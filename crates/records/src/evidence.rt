@@ -6,7 +6,7 @@ ghost use Prim.Native.Nat.{ℕ, _+_, _*_, _≤_, _<_};
 ghost use lib.ListN.{length, getD};
 ghost use Rattle.records.specs.Records.{checked, claimNumber, messageNumber, waitingNumber, isStep, stepBody, exists, stepNames, stepNumber, stepAt, pointerAt, pointerName, pointerNames, entryNumber, valueName, valueNames, messageNames, waitingNames};
 ghost use Rattle.records.specs.EvidencePart.{stepsFrom, bodySize, pointerFits, pointsFirst, pointersFit, someFirst, complete, atBoundary, entryRead, entriesFrom, wroteFrom};
-ghost use Rattle.records.specs.Tally.{queueAt, numberBy, Room, tallied, endOf, countOf};
+ghost use Rattle.records.specs.Tally.{queueAt, numberBy, Room, tallied, endOf, endRefusal, countOf};
 use crate::bytes::both;
 use crate::bytes::byte_at;
 use crate::bytes::cut;
@@ -384,4 +384,47 @@ fn entry_from(file: &[u8], start: usize, shape: Shape) -> EntryEnd
         number: 7,
         place: start,
     })
+}
+
+fn end_refusal(end: EntryEnd) -> Refusal
+    ensures { λ r. ⌜ r ≡ endRefusal end ⌝ }
+{
+    match end {
+        EntryEnd::Next(_) => Refusal {
+            number: 0,
+            place: 0,
+        },
+        EntryEnd::Bad(refusal) => refusal,
+    }
+}
+
+// The entries, to the file's end. The place of each one's 10 is written into the list, four bytes each, least significant first.
+fn entries_from(
+    file: &[u8],
+    at: usize,
+    shape: Shape,
+    states: [u8; 4],
+    allowed: usize,
+    list: &mut [u8],
+) -> Counted
+    requires { ⌜ (shape .processes ≤ 4) × (shape .variables ≤ 4) × (allowed ≤ 524288) ⌝ }
+    ensures { λ r. ⌜ r ≡ countOf (entriesFrom allowed shape states (now (file .entry)) at [] []) ⌝ }
+    ensures { λ r. ⌜ now (list .exit) ≡ wroteFrom 0 (entriesFrom allowed shape states (now (file .entry)) at [] [] .offsets) (now (list .entry)) ⌝ }
+{
+    let mut k = at;
+    let mut n = 0;
+    while k < file.len() {
+        let head = check_entry(file, k, shape, states, allowed <= n);
+        let Checked::Fine = head else {
+            return Counted::Stopped(refusal_of(head));
+        };
+        let end = entry_from(file, k, shape);
+        let EntryEnd::Next(next) = end else {
+            return Counted::Stopped(end_refusal(end));
+        };
+        store_number(list, 4 * n, k);
+        n += 1;
+        k = next;
+    }
+    Counted::Records(n)
 }
