@@ -3,3 +3,4 @@ pub mod RecordLaws
 pub mod ProgramLaws
 pub mod EntryLaws
 pub mod ListLaws
+pub mod ReadingLaws

@@ -26,13 +26,14 @@ unfolding inRange
 range-most x most e = leb-true x most (and-true (not (eqb x 0)) (leb x most) e .1)
 
 -- a 01 that is fine
-pub shape-fine : (f : List ℕ) (at : ℕ) → unlessEnd f at (checked (shapeNumber f at) at) ≡ Fine → (at + 3 < length f) × (shapeAt f at .processes ≤ 4)
+pub shape-fine : (f : List ℕ) (at : ℕ) → unlessEnd f at (checked (shapeNumber f at) at) ≡ Fine
+    → (at + 3 < length f) × (shapeAt f at .processes ≤ 4) × (shapeAt f at .variables ≤ 4)
 unfolding shapeNumber
 shape-fine f at e =
-    let g = good at (unless-fine f at _ e .1) in (
-      cut-fits f at 3 (g .whole),
-      range-most (byte f (at + 1)) 4 (and-true (inRange (byte f (at + 1)) 4) (inRange (byte f (at + 2)) 4 && inRange (byte f (at + 3)) 4) (not-false _ (g .range)) .0),
-    )
+    let g = good at (unless-fine f at _ e .1) in
+    let a = and-true (inRange (byte f (at + 1)) 4) (inRange (byte f (at + 2)) 4 && inRange (byte f (at + 3)) 4) (not-false _ (g .range)) in
+    let b = and-true (inRange (byte f (at + 2)) 4) (inRange (byte f (at + 3)) 4) (a .1) in
+    (cut-fits f at 3 (g .whole), range-most (byte f (at + 1)) 4 (a .0), range-most (byte f (at + 2)) 4 (b .0))
 
 module _ (s : Shape) (states : List ℕ) (f : List ℕ) (at : ℕ) where
   pub transitions-most : (n : ℕ) → transitionsFrom s states f at ≡ Records n → n ≤ 256

@@ -3,3 +3,4 @@ pub mod Records
 pub mod ProgramPart
 pub mod EvidencePart
 pub mod Tally
+pub mod Reading
