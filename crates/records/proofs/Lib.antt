@@ -4,3 +4,4 @@ pub mod ProgramLaws
 pub mod EntryLaws
 pub mod ListLaws
 pub mod ReadingLaws
+pub mod CubeLaws

@@ -4,3 +4,4 @@ pub mod ProgramPart
 pub mod EvidencePart
 pub mod Tally
 pub mod Reading
+pub mod Cube
