@@ -17,11 +17,15 @@ sh p v = record { processes = p; variables = v; values = λ v. 2 }
 
 c11 : length (shapeCubes (sh 1 1) (λ p. 0)) ≡ 4
 c11 = refl
+
 c12 : length (shapeCubes (sh 1 2) (λ p. 0)) ≡ 40
 c12 = refl
+
 c21 : length (shapeCubes (sh 2 1) (λ p. 0)) ≡ 232
 c21 = refl
+
 c13 : length (shapeCubes (sh 1 3) (λ p. 0)) ≡ 384
 c13 = refl
+
 c22 : length (memoryShapes (sh 2 2)) ≡ 3268
 c22 = refl

@@ -1,2 +1,5 @@
 pub mod Lists
+pub mod Fillings
+pub mod Matching
+pub mod Gaps
 pub mod Cases
