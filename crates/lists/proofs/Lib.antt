@@ -2,4 +2,5 @@ pub mod Lists
 pub mod Fillings
 pub mod Matching
 pub mod Gaps
+pub mod Undoing
 pub mod Cases
