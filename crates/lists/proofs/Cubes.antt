@@ -145,21 +145,22 @@ set-length (m ∷ ms) i v x = elim (ℕ-discrete i (suc (length ms))) [
   | no d ↦ rw (ne-eqb i (suc (length ms)) d) (ap suc (set-length ms i v x))
 ]
 
-module _ (S : Shape) (four : S .variables ≤ 4) where
-  set-messages : (ms : List Message) (i v x : ℕ) → v < S .variables → ValueOrFF S v x → ((j : ℕ) → 1 ≤ j → j ≤ length ms → MessageIn (ValueOrFF S) S (message ms j))
-      → (j : ℕ) → 1 ≤ j → j ≤ length ms → MessageIn (ValueOrFF S) S (message (setValue ms i v x) j)
-  set-messages [] i v x ve w o j a b = absurd (omega arith)
-  set-messages (m ∷ ms) i v x ve w o j a b =
-      let old : (j : ℕ) → 1 ≤ j → j ≤ length ms → MessageIn (ValueOrFF S) S (message ms j) = λ j a c. rw (← (message-old m ms j c)) (o j a (omega arith)) in
-      let top : MessageIn (ValueOrFF S) S m = rw (message-new m ms) at (o (suc (length ms)) (omega arith) (omega arith)) in
-      elim (ℕ-discrete i (suc (length ms))) [
-        | yes d ↦ rw (eq-eqb i (suc (length ms)) d)
-            (message-each (MessageIn (ValueOrFF S) S) (record { process = m .process; variable = m .variable; snapshot = set (m .snapshot) v x }) ms j b
-            (relabel (message-set (m .process) v x four top (top .process) ve w) (m .process) (m .variable) (top .process) (top .variable)) (old j a))
-        | no d ↦ rw (ne-eqb i (suc (length ms)) d)
-            (message-each (MessageIn (ValueOrFF S) S) m (setValue ms i v x) j (omega (arith, set-length ms i v x)) top (λ l. set-messages ms i v x ve w old j a (omega (arith, set-length ms i v x))))
-      ]
+pub set-same : (ms : List Message) (i v x : ℕ) → 1 ≤ i → i ≤ length ms
+    → message (setValue ms i v x) i ≡ record { process = message ms i .process; variable = message ms i .variable; snapshot = set (message ms i .snapshot) v x }
+set-same [] i v x a b = absurd (omega arith)
+set-same (m ∷ ms) i v x a b = elim (ℕ-discrete i (suc (length ms))) [
+  | yes d ↦ rw (eq-eqb i (suc (length ms)) d, eq-eqb i (suc (length ms)) d)
+  | no d ↦ rw (ne-eqb i (suc (length ms)) d, set-length ms i v x, ne-eqb i (suc (length ms)) d) (set-same ms i v x a (omega arith))
+]
 
+pub set-other : (ms : List Message) (i v x j : ℕ) → j ≢ i → message (setValue ms i v x) j ≡ message ms j
+set-other [] i v x j n = refl
+set-other (m ∷ ms) i v x j n = elim (ℕ-discrete i (suc (length ms))) [
+  | yes d ↦ rw (eq-eqb i (suc (length ms)) d, ne-eqb j (suc (length ms)) (λ e. n (e ∙ sym d)))
+  | no d ↦ rw (ne-eqb i (suc (length ms)) d, set-length ms i v x, set-other ms i v x j n)
+]
+
+module _ (S : Shape) (four : S .variables ≤ 4) where
   pub memory-set : (m : Memory) → MemoryIn (ValueOrFF S) S m → (i v x : ℕ) → v < S .variables → ValueOrFF S v x
       → MemoryIn (ValueOrFF S) S (record { channel = setValue (m .channel) i v x; pointer = m .pointer })
   memory-set m o i v x ve w =
@@ -168,7 +169,10 @@ module _ (S : Shape) (four : S .variables ≤ 4) where
         some = omega (arith, o .some);
         low = o .low;
         high = λ q a. omega (arith, o .high q a);
-        messages = λ j a b. set-messages (m .channel) i v x ve w (o .messages) j a (omega arith);
+        messages = λ j a b. elim (ℕ-discrete j i) [
+          | yes d ↦ let r = o .messages j a (omega arith) in rw (← d, set-same (m .channel) j v x a (omega arith)) (relabel (message-set (message (m .channel) j .process) v x four r (r .process) ve w) (message (m .channel) j .process) (message (m .channel) j .variable) (r .process) (r .variable))
+          | no d ↦ rw (set-other (m .channel) i v x j d) (o .messages j a (omega arith))
+        ];
         absent = o .absent;
       }
 

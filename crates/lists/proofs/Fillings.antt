@@ -17,7 +17,7 @@ use Rattle.pws.specs.Machine.{Memory, Configuration, message, newest, labelled,
 use Rattle.pws.specs.Configurations.{All, MessageIn, MemoryIn, QueuesIn, Fits, ValueOf}
 use Rattle.pws.specs.Entries.{FF, ValueOrFF, Fill, FillValues, values-nil, values-cons, FillMessage, FillChannel, channel-nil, channel-cons, filled, Filling}
 use Rattle.pws.specs.Insertion.{insert}
-use Rattle.pws.proofs.Facts.{or-left, or-right, message-new, Proper}
+use Rattle.pws.proofs.Facts.{or-left, or-right, message-old, message-new, Proper}
 use Rattle.lists.specs.Values.{fills, alike, meet, pairwise, meetAll}
 use Rattle.lists.specs.Cubes.{alikeNewest, meetNewest}
 
@@ -130,6 +130,15 @@ channel-at (channel-cons {ms = ms} f r) i = elim (ℕ-discrete i (suc (length ms
   | yes d ↦ rw (channel-length r, eq-eqb i (suc (length ms)) d) f
   | no d ↦ rw (channel-length r, ne-eqb i (suc (length ms)) d) (channel-at r i)
 ]
+
+pub channel-each : (es ms : List Message) → length es ≡ length ms → ((i : ℕ) → 1 ≤ i → i ≤ length es → FillMessage (message es i) (message ms i)) → FillChannel es ms
+channel-each [] [] e f = channel-nil
+channel-each [] (m ∷ ms) e f = absurd (omega arith)
+channel-each (x ∷ es) [] e f = absurd (omega arith)
+channel-each (x ∷ es) (m ∷ ms) e f =
+    let d : length es ≡ length ms = omega arith in
+    channel-cons (rw (d, message-new m ms) at (rw (message-new x es) at (f (suc (length es)) (omega arith) (omega arith))))
+    (channel-each es ms d (λ i a b. rw (message-old m ms i (omega arith)) at (rw (message-old x es i b) at (f i a (omega arith)))))
 
 pub fill-labelled : {e m : Message} → FillMessage e m → (p v : ℕ) → labelled e p v ≡ labelled m p v
 fill-labelled f p v = rw (f .process, f .variable)

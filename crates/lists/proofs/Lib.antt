@@ -4,4 +4,6 @@ pub mod Matching
 pub mod Gaps
 pub mod Undoing
 pub mod Cubes
+pub mod MemoryBefore
+pub mod Queues
 pub mod Cases
