@@ -6,4 +6,6 @@ pub mod Undoing
 pub mod Cubes
 pub mod MemoryBefore
 pub mod Queues
+pub mod Over
+pub mod NoneMissing
 pub mod Cases

@@ -9,8 +9,9 @@ use native.Mathlib.Omega.{arith}
 use native.Mathlib.Decide.{ℕ-discrete}
 use lib.ListN.{length, getD}
 use lib.Dec.{T}
-use mir.Facts.{and-no}
+use mir.Facts.{yes-and, and-no}
 use Rattle.pws.specs.Machine.{allBelow}
+use Rattle.pws.proofs.Cases.{all-yes}
 use Rattle.lists.specs.Lists.{forBelow, forEach, every, any, next, lowest}
 
 -- ---- membership
@@ -123,7 +124,10 @@ module _ {ℓ} {A : Type ℓ} (f : A → Bool) where
 
 pub yes-all : (n : ℕ) (f : ℕ → Bool) → ((i : ℕ) → i < n → T (f i)) → T (allBelow n f)
 yes-all zero f a = tt
-yes-all (suc n) f a = mir.Facts.yes-and (allBelow n f) (f n) (yes-all n f (λ i l. a i (omega arith))) (a n (omega arith))
+yes-all (suc n) f a = yes-and (allBelow n f) (f n) (yes-all n f (λ i l. a i (omega arith))) (a n (omega arith))
+
+pub all-same : (n : ℕ) (f g : ℕ → Bool) → ((i : ℕ) → i < n → f i ≡ g i) → T (allBelow n f) → T (allBelow n g)
+all-same n f g s t = yes-all n g (λ i l. subst T (s i l) (all-yes n f t i l))
 
 pub all-no : (n : ℕ) (f : ℕ → Bool) → T (not (allBelow n f)) → (i : ℕ) × (i < n) × T (not (f i))
 all-no zero f t = absurd t
