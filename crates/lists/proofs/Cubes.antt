@@ -204,6 +204,12 @@ swapped-yes S m p v x t =
       alone = λ q e d. ⊎-elim (λ y. absurd (d (eqb-yes y))) eqb-no (or-yes (eqb q p) (not (atNewest m q)) (all-yes (S .processes) others (c .1) q e));
     }
 
+pub label-exists : (S : Shape) (r u : ℕ) (b : Bool) → T ((ltb r (S .processes) && ltb u (S .variables)) && b) → (r < S .processes) × (u < S .variables) × T b
+label-exists S r u b t =
+    let x = and-yes (ltb r (S .processes) && ltb u (S .variables)) b t in
+    let y = and-yes (ltb r (S .processes)) (ltb u (S .variables)) (x .0) in
+    (ltb-yes (y .0), ltb-yes (y .1), x .1)
+
 -- ---- the memories of cubes
 
 module _ (S : Shape) (R : ShapeInRange S) where
@@ -248,12 +254,6 @@ module _ (S : Shape) (R : ShapeInRange S) where
   arw-in (en ∷ es) z p v old new pe ve x o s (onTop u) t = replaced-in en es z p u v old pe (ltb-yes t) ve (inr x) o
   arw-in (en ∷ es) z p v old new pe ve x o s (pointed r u) t = absurd t
 
-  pub label-exists : (r u : ℕ) (b : Bool) → T ((ltb r (S .processes) && ltb u (S .variables)) && b) → (r < S .processes) × (u < S .variables) × T b
-  label-exists r u b t =
-      let x = and-yes (ltb r (S .processes) && ltb u (S .variables)) b t in
-      let y = and-yes (ltb r (S .processes)) (ltb u (S .variables)) (x .0) in
-      (ltb-yes (y .0), ltb-yes (y .1), x .1)
-
   update-in : (m : Memory) (p : ℕ) → p < S .processes → MemoryIn (ValueOrFF S) S m → (k : Kind) → T (updateKind S m p k) → MemoryIn (ValueOrFF S) S (updateMemory S m p k)
   update-in m p pe o undone t = memory-point o p (m .pointer p - 1) pe (omega (arith, ltb→lt 1 (m .pointer p) t)) (omega (arith, o .high p pe))
   update-in m p pe o waited t = absurd t
@@ -261,7 +261,7 @@ module _ (S : Shape) (R : ShapeInRange S) where
   update-in m p pe o (onTop u) t = absurd t
   update-in m p pe o (pointed r u) t =
       let k = m .pointer p in
-      let e = label-exists r u (leb k (lastWrite m r u)) t in
+      let e = label-exists S r u (leb k (lastWrite m r u)) t in
       memory-point (memory-insert o k (o .low p pe) (omega (arith, o .high p pe)) (anyMessage S r u) (message-any S (R .variables) r u (e .0) (e .1))) p k pe (o .low p pe)
       (omega (arith, o .high p pe, ins (m .channel) k (anyMessage S r u) (o .low p pe) (omega (arith, o .high p pe)) .len))
 
@@ -340,7 +340,7 @@ entry-cube P R e o (Take n) k t =
     }
 entry-cube P R e o (Serialise p v) k t =
     let S = P .shape in
-    let x = label-exists S (R .shape) p v (serialised S (e .memory) p v && serialiseKind (e .memory) p v k) t in
+    let x = label-exists S p v (serialised S (e .memory) p v && serialiseKind (e .memory) p v k) t in
     let y = and-yes (serialised S (e .memory) p v) (serialiseKind (e .memory) p v k) (x .2) in
     record {
       states = o .states;

@@ -8,4 +8,5 @@ pub mod MemoryBefore
 pub mod Queues
 pub mod Over
 pub mod NoneMissing
+pub mod NoneExtra
 pub mod Cases
