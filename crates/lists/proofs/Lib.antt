@@ -9,4 +9,5 @@ pub mod Queues
 pub mod Over
 pub mod NoneMissing
 pub mod NoneExtra
+pub mod Closed
 pub mod Cases

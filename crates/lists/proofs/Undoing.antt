@@ -92,8 +92,8 @@ module _ (S : Shape) (f n : Memory) (gf : Proper S f) (gn : Proper S n) (p : ℕ
       elim (ℕ-discrete (lastWrite n p u) t) [
         | yes e ↦ inl e
         | no e ↦ inr (
-          sym (last-eq (last-kept {k = suc t} r (omega arith) (omega (arith, r .low))))
-          ∙ ap (λ (z : ℕ). max z (lastLabelled (n .channel) p u)) (sym (put-same (n .pointer) p (suc t))) ∙ M .lastWrites p u pe ue)
+            sym (last-eq (last-kept {k = suc t} r (omega arith) (omega (arith, r .low))))
+            ∙ ap (λ (z : ℕ). max z (lastLabelled (n .channel) p u)) (sym (put-same (n .pointer) p (suc t))) ∙ M .lastWrites p u pe ue)
       ]
 
   -- every LastWrite is hit, if what f hits is, and p's message
