@@ -10,4 +10,6 @@ pub mod Over
 pub mod NoneMissing
 pub mod NoneExtra
 pub mod Closed
+pub mod Shapes
+pub mod Targets
 pub mod Cases
