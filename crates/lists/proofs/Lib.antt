@@ -12,4 +12,5 @@ pub mod NoneExtra
 pub mod Closed
 pub mod Shapes
 pub mod Targets
+pub mod Starts
 pub mod Cases
