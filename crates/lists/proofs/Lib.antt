@@ -13,4 +13,5 @@ pub mod Closed
 pub mod Shapes
 pub mod Targets
 pub mod Starts
+pub mod Splitting
 pub mod Cases

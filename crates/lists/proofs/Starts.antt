@@ -111,23 +111,16 @@ module _ (P : Program) (R : ProgramInRange P) (e : Configuration) (oe : EntryOf 
                   (record {
                     process = refl;
                     variable = refl;
-                    snapshot = fill-each (m .snapshot) (0 ∷ 0 ∷ 0 ∷ 0 ∷ []) (o .room) (λ v b. rw (zeros v) (elim (decLt v (S .variables)) [
-                      | yes w ↦ l .values v w
-                      | no w ↦ inr (o .absent v (omega arith))
-                    ]));
+                    snapshot = fill-each (m .snapshot) (0 ∷ 0 ∷ 0 ∷ 0 ∷ []) (o .room) (λ v b. elim (decLt v (S .variables)) [
+                      | yes w ↦ subst (Fill (getD (m .snapshot) v 0)) (sym (s .starting v w)) (l .values v w)
+                      | no w ↦ inr (o .absent v (omega arith) ∙ sym (s .configuration .fits .memory .messages 1 (omega arith) (omega arith) .absent v (omega arith)))
+                    ]);
                   }));
               below = λ p v a b. queue-refl [];
               h = λ i. i;
               maps = maps-right S k (c .memory .pointer) (λ p a. omega (arith, oe .fits .memory .low p a, oe .fits .memory .high p a, l .one, s .pointers p a)) (maps-refl S k);
             });
       }
-    where
-      zeros : (v : ℕ) → _≡_ {A = ℕ} (getD (0 ∷ 0 ∷ 0 ∷ 0 ∷ []) v 0) 0
-      zeros zero = refl
-      zeros (suc zero) = refl
-      zeros (suc (suc zero)) = refl
-      zeros (suc (suc (suc zero))) = refl
-      zeros (suc (suc (suc (suc v)))) = refl
 
   pub start-above : T (looksStarted P e) ↔ StartAbove P e
   start-above = (λ t. looks-above (looks P e .0 t), λ a. looks P e .1 (above-looks a))
