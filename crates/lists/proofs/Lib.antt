@@ -14,4 +14,5 @@ pub mod Shapes
 pub mod Targets
 pub mod Starts
 pub mod Splitting
+pub mod Verdict
 pub mod Cases
