@@ -3,7 +3,7 @@ use Prim.Native.Nat.{ℕ, zero, suc, _<_, _≤_}
 use mathlib.Core.Path.{_≡_, refl, sym, ap, subst, _∙_}
 use mathlib.Core.Logic.{_⊎_, inl, inr, ⊎-elim}
 use mathlib.Core.Bool.{Bool, _&&_, _||_, cond}
-use mathlib.Core.List.{List, [], _∷_, map, List·Memᴰ, List·Memᴰ·head, List·Memᴰ·tail}
+use mathlib.Core.List.{List, [], _∷_, map, head-eq-of-cons-eq, tail-eq-of-cons-eq, List·Memᴰ, List·Memᴰ·head, List·Memᴰ·tail}
 use native.Mathlib.Omega.{arith}
 use native.Mathlib.Decide.{ℕ-discrete}
 use lib.ListN.{length, getD}
@@ -19,8 +19,8 @@ use Rattle.pws.specs.Entries.{FF, ValueOrFF, EntryOf, entry}
 use Rattle.pws.proofs.Facts.{message-each}
 use Rattle.lists.specs.Lists.{every}
 use Rattle.lists.specs.Verdict.{ListVerdict, ListJudged, target}
-use Rattle.lists.specs.Decision.{verdictOf}
 use Rattle.lists.specs.Cases.{programWith, goes, one, free, entryWith, Row, programOf, targetsOf, entriesOf, Holds, Each, no-row, row, cases}
+use Rattle.lists.proofs.Computed.{computed, verdicts-computed}
 use Rattle.lists.proofs.Lists.{every-yes}
 use Rattle.lists.proofs.Verdict.{verdict-judged}
 
@@ -128,7 +128,7 @@ program-of ts f =
 abbrev inRange : Row → Bool
 inRange r = ltb (r .state) 2 && every fine (r .entries)
 
-holds : (r : Row) → ProgramInRange (programOf r) → T (inRange r) → verdictOf (programOf r) (targetsOf r) (entriesOf r) ≡ r .verdict → Holds r
+holds : (r : Row) → ProgramInRange (programOf r) → T (inRange r) → computed r ≡ r .verdict → Holds r
 unfolding Holds
 holds r R t e =
     let w = and-yes (ltb (r .state) 2) (every fine (r .entries)) t in
@@ -142,6 +142,15 @@ holds r R t e =
     (elim [ zero ↦ λ a. states-of ts q l | suc k ↦ λ a. absurd (omega arith) ])
     (by-number (λ c. (p : ℕ) × (p < 1) × (c .memory .pointer p ≡ 1)) f (r .entries) (λ d i. (0, omega arith, refl))))
 
+-- what is computed of each row holds of it
+data InRange : List Row → Type 0 where
+  no-more : InRange []
+  one-more : {r : Row} {rs : List Row} → ProgramInRange (programOf r) → T (inRange r) → InRange rs → InRange (r ∷ rs)
+
+hold : {rs : List Row} → InRange rs → map computed rs ≡ map (λ (r : Row). r .verdict) rs → Each Holds rs
+hold no-more e = no-row
+hold (one-more {r = r} R t i) e = row (holds r R t (head-eq-of-cons-eq e)) (hold i (tail-eq-of-cons-eq e))
+
 none-taken : ProgramInRange (programWith [])
 none-taken = program-of [] (λ n l. absurd (omega arith))
 
@@ -153,9 +162,5 @@ one-taken = program-of (goes ∷ []) (elim [
 
 pub cases-hold : Each Holds cases
 cases-hold =
-    row (holds _ none-taken tt refl)
-    (row (holds _ none-taken tt refl)
-    (row (holds _ none-taken tt refl)
-    (row (holds _ none-taken tt refl)
-    (row (holds _ one-taken tt refl)
-    (row (holds _ none-taken tt refl) no-row)))))
+    hold (one-more none-taken tt (one-more none-taken tt (one-more none-taken tt (one-more none-taken tt (one-more one-taken tt (one-more none-taken tt no-more))))))
+    verdicts-computed

@@ -13,6 +13,7 @@ use Rattle.pws.specs.declared.Step.the-variants.{Take, Serialise, Update}
 use Rattle.pws.specs.Program.{Shape, Program}
 use Rattle.pws.specs.Machine.{Configuration}
 use Rattle.pws.specs.Entries.{FF}
+use Rattle.lists.specs.Verdict.{ListVerdict}
 use Rattle.lists.specs.Values.{fills, alike}
 use Rattle.lists.specs.Matching.{queueMatches, matches}
 use Rattle.lists.specs.Predecessors.{predecessors}
@@ -20,7 +21,10 @@ use Rattle.lists.specs.Shapes.{shapeCubes}
 use Rattle.lists.specs.Decision.{verdictOf}
 use Rattle.lists.specs.Cases.{programWith, entryWith, Row, programOf, targetsOf, entriesOf, cases}
 
-pub verdicts-computed : map (λ (r : Row). verdictOf (programOf r) (targetsOf r) (entriesOf r)) cases ≡ map (λ (r : Row). r .verdict) cases
+abbrev pub computed : Row → ListVerdict
+computed r = verdictOf (programOf r) (targetsOf r) (entriesOf r)
+
+pub verdicts-computed : map computed cases ≡ map (λ (r : Row). r .verdict) cases
 verdicts-computed = refl
 
 -- ---- matching
