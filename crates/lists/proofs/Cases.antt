@@ -1,16 +1,14 @@
 -- Each row of the table of worked cases holds.
 use Prim.Native.Nat.{ℕ, zero, suc, _<_, _≤_}
-use mathlib.Core.Path.{_≡_, refl, sym, ap, subst, _∙_}
-use mathlib.Core.Logic.{_⊎_, inl, inr, ⊎-elim}
+use mathlib.Core.Path.{_≡_, refl, ap, subst}
+use mathlib.Core.Logic.{inl, inr, ⊎-elim}
 use mathlib.Core.Bool.{Bool, _&&_, _||_, cond}
 use mathlib.Core.List.{List, [], _∷_, map, head-eq-of-cons-eq, tail-eq-of-cons-eq, List·Memᴰ, List·Memᴰ·head, List·Memᴰ·tail}
 use native.Mathlib.Omega.{arith}
-use native.Mathlib.Decide.{ℕ-discrete}
-use lib.ListN.{length, getD}
+use lib.ListN.{length}
 use lib.Dec.{T, eqb, ltb, ltb→lt, eqb→eq}
 use borrow.Author.Tests.{ne-eqb}
 use mir.Facts.{and-yes, or-yes}
-use Rattle.pws.specs.declared.Message.{Message}
 use Rattle.pws.specs.declared.Transition.{Transition}
 use Rattle.pws.specs.Program.{Program, ProgramInRange, TransitionOf, transition}
 use Rattle.pws.specs.Machine.{Configuration, message}
@@ -18,10 +16,12 @@ use Rattle.pws.specs.Configurations.{All, MessageIn, StatesOf}
 use Rattle.pws.specs.Entries.{FF, ValueOrFF, EntryOf, entry}
 use Rattle.pws.proofs.Facts.{message-each}
 use Rattle.lists.specs.Lists.{every}
-use Rattle.lists.specs.Verdict.{ListVerdict, ListJudged, target}
+use Rattle.lists.specs.Cubes.{anyMessage}
+use Rattle.lists.specs.Verdict.{ListJudged}
 use Rattle.lists.specs.Cases.{programWith, goes, one, free, entryWith, Row, programOf, targetsOf, entriesOf, Holds, Each, no-row, row, cases}
 use Rattle.lists.proofs.Computed.{computed, verdicts-computed}
 use Rattle.lists.proofs.Lists.{every-yes}
+use Rattle.lists.proofs.Cubes.{message-any}
 use Rattle.lists.proofs.Verdict.{verdict-judged}
 
 -- ---- what the rows are made of is in range
@@ -30,11 +30,7 @@ one-absent : (x p : ℕ) → 1 ≤ p → one x p ≡ 0
 one-absent x p l = rw (ne-eqb p 0 (λ e. omega arith))
 
 states-of : (ts : List Transition) (q : ℕ) → q < 2 → StatesOf (programWith ts) (one q)
-states-of ts q l =
-    record {
-      exist = λ p e. let z : p ≡ 0 = omega arith in rw z l;
-      absent = λ p e. one-absent q p e;
-    }
+states-of ts q l = record { exist = λ p e. let z : p ≡ 0 = omega arith in rw z l; absent = λ p e. one-absent q p e }
 
 -- a value, or FF
 abbrev isValue : ℕ → Bool
@@ -58,16 +54,8 @@ module _ (ts : List Transition) where
 
   free-messages : (n i : ℕ) → 1 ≤ i → i ≤ length (free n) → MessageIn (ValueOrFF (P .shape)) (P .shape) (message (free n) i)
   free-messages zero i a b = absurd (omega arith)
-  free-messages (suc n) i a b = message-each (MessageIn (ValueOrFF (P .shape)) (P .shape)) (record { process = 0; variable = 0; snapshot = FF ∷ 0 ∷ 0 ∷ 0 ∷ [] }) (free n) i b
-      (record { process = omega arith; variable = omega arith; room = refl; values = λ v e. let z : v ≡ 0 = omega arith in rw z (inl refl); absent = zeros })
-      (free-messages n i a)
-    where
-      zeros : (v : ℕ) → 1 ≤ v → getD (FF ∷ 0 ∷ 0 ∷ 0 ∷ []) v 0 ≡ 0
-      zeros zero l = absurd (omega arith)
-      zeros (suc zero) l = refl
-      zeros (suc (suc zero)) l = refl
-      zeros (suc (suc (suc zero))) l = refl
-      zeros (suc (suc (suc (suc v)))) l = refl
+  free-messages (suc n) i a b = message-each (MessageIn (ValueOrFF (P .shape)) (P .shape)) (anyMessage (P .shape) 0 0) (free n) i b
+      (message-any (P .shape) (omega arith) 0 0 (omega arith) (omega arith)) (free-messages n i a)
 
   entry-of : (q : ℕ) (d : ℕ × List ℕ) → q < 2 → T (fine d) → EntryOf P (entryWith q (d .0) (d .1))
   entry-of q d l t =
@@ -102,7 +90,8 @@ module _ (ts : List Transition) where
       twice Bool.false = refl
 
 -- what holds of each of a list's makings holds of it by number
-by-number : {A : Type 0} (F : Configuration → Type 0) (f : A → Configuration) (ds : List A) → ((d : A) → List·Memᴰ d ds → F (f d)) → (k : ℕ) → k < length (map f ds) → F (entry (map f ds) k)
+by-number : {A : Type 0} (F : Configuration → Type 0) (f : A → Configuration) (ds : List A) → ((d : A) → List·Memᴰ d ds → F (f d)) → (k : ℕ) → k < length (map f ds)
+    → F (entry (map f ds) k)
 by-number F f [] a k l = absurd (omega arith)
 by-number F f (d ∷ ds) a zero l = a d (List·Memᴰ·head refl)
 by-number F f (d ∷ ds) a (suc k) l = by-number F f ds (λ e i. a e (List·Memᴰ·tail i)) k (omega arith)

@@ -1,13 +1,13 @@
 -- Number 11 as a finite question: every configuration one step before those above an entry is above the list exactly when every filling
 -- of every predecessor cube is.
-use Prim.Native.Nat.{ℕ, zero, suc, _<_, _≤_}
+use Prim.Native.Nat.{ℕ, zero, suc}
 use mathlib.Core.Path.{_≡_, refl, sym, ap, subst, _∙_}
 use mathlib.Core.Logic.{_⊎_, inl, inr, ⊎-elim, _↔_}
 use mathlib.Core.Bool.{Bool, true, false, _&&_}
 use mathlib.Core.List.{List, [], _∷_, _++_, List·Memᴰ, List·Memᴰ·head, List·Memᴰ·tail, List·Memᴰ·not-nil, List·Memᴰ·cases-cons, Memᴰ·append-left, Memᴰ·append-right}
 use native.Mathlib.Omega.{arith}
 use lib.ListN.{length}
-use lib.Dec.{T, eqb, ltb, leb, ltb→lt, leb→le, eqb→eq}
+use lib.Dec.{T, ltb, leb, ltb→lt, eqb→eq}
 use mir.Facts.{and-yes}
 use Rattle.pws.specs.declared.Operation.{Operation}
 use Rattle.pws.specs.declared.Operation.the-variants.{Nop, Read, Write, Mfence, Sfence, Arw}
@@ -15,16 +15,16 @@ use Rattle.pws.specs.declared.Step.{Step}
 use Rattle.pws.specs.declared.Step.the-variants.{Take, Serialise, Update}
 use Rattle.pws.specs.Program.{Shape, Program, ProgramInRange, transition}
 use Rattle.pws.specs.Machine.{Configuration, lastWrite, isEmpty, sees, mayOperate, newestWaiting}
-use Rattle.pws.specs.Entries.{FF, EntryOf, filled}
+use Rattle.pws.specs.Entries.{EntryOf, filled}
 use Rattle.pws.proofs.Preorder.{list-up}
 use Rattle.lists.specs.Lists.{forBelow}
 use Rattle.lists.specs.Values.{alike}
-use Rattle.lists.specs.Cubes.{older, alikeNewest}
+use Rattle.lists.specs.Cubes.{older}
 use Rattle.lists.specs.Verdict.{Closed}
 use Rattle.lists.specs.Covering.{Held}
-use Rattle.lists.specs.Predecessors.{Kind, undone, waited, inside, onTop, pointed, before, withoutNewest, endsAlike, isUndone, writeKind, swapped, arwKind, serialised, serialiseKind, updateKind, hasOperation, has, cube, operationKinds, kinds, cubes, predecessors, steps}
+use Rattle.lists.specs.Predecessors.{Kind, undone, waited, inside, onTop, pointed, endsAlike, isUndone, writeKind, swapped, arwKind, serialised, serialiseKind, updateKind, hasOperation, has, cube, operationKinds, kinds, cubes, predecessors, steps}
 use Rattle.lists.proofs.Lists.{in-below}
-use Rattle.lists.proofs.Cubes.{label-exists, take-has}
+use Rattle.lists.proofs.Cubes.{inside-yes, label-exists, take-has}
 use Rattle.lists.proofs.NoneMissing.{none-missing}
 use Rattle.lists.proofs.NoneExtra.{none-extra, filling-configuration}
 
@@ -79,15 +79,10 @@ module _ (P : Program) (e : Configuration) where
       go : (k : Kind) → T (serialiseKind (e .memory) p v k) → List·Memᴰ k (kinds P e (Serialise p v))
       go undone t = List·Memᴰ·head refl
       go waited t = absurd t
-      go (inside k) t =
-          let m = e .memory in
-          let a = and-yes (alikeNewest (older (m .channel)) (before m v FF)) (ltb (lastWrite (withoutNewest m) p v) k && leb k (length (older (m .channel)))) t in
-          let b = and-yes (ltb (lastWrite (withoutNewest m) p v) k) (leb k (length (older (m .channel)))) (a .1) in
-          List·Memᴰ·tail (Memᴰ·append-left (onTop v ∷ []) (at k (omega (arith, ltb→lt (lastWrite (withoutNewest m) p v) k (b .0))) (leb→le k (length (older (m .channel))) (b .1))))
-        where
-          at : (k : ℕ) → 0 < k → k ≤ (length (older (e .memory .channel))) → List·Memᴰ (inside k) (forBelow (length (older (e .memory .channel))) (λ i. inside (suc i) ∷ []))
-          at zero l b = absurd (omega arith)
-          at (suc k) l b = in-below (length (older (e .memory .channel))) (λ i. inside (suc i) ∷ []) k b (List·Memᴰ·head refl)
+      go (inside zero) t = absurd (omega (arith, inside-yes (e .memory) p v zero t .1))
+      go (inside (suc k)) t =
+          List·Memᴰ·tail (Memᴰ·append-left (onTop v ∷ []) (in-below (length (older (e .memory .channel))) (λ i. inside (suc i) ∷ []) k (inside-yes (e .memory) p v (suc k) t .2)
+          (List·Memᴰ·head refl)))
       go (onTop u) t = List·Memᴰ·tail (Memᴰ·append-right (forBelow (length (older (e .memory .channel))) (λ i. inside (suc i) ∷ [])) (List·Memᴰ·head (ap onTop (eqb→eq u v t))))
       go (pointed r u) t = absurd t
   kind-in (Update p) k t = go k (and-yes (ltb p (S .processes)) (updateKind S (e .memory) p k) t .1)

@@ -1,18 +1,17 @@
 -- What the definitions compute, on small cases: the verdicts of the table, and what is tempting and wrong (document 01).
 use Prim.Native.Nat.{ℕ}
 use mathlib.Core.Path.{_≡_, refl}
-use mathlib.Core.Bool.{Bool, true, false, cond}
+use mathlib.Core.Bool.{true, false, cond}
 use mathlib.Core.List.{List, [], _∷_, map}
 use lib.ListN.{length}
 use lib.Dec.{eqb}
 use Rattle.pws.specs.declared.Message.{Message}
 use Rattle.pws.specs.declared.Operation.the-variants.{Write}
-use Rattle.pws.specs.declared.Transition.{Transition}
-use Rattle.pws.specs.declared.Step.{Step}
 use Rattle.pws.specs.declared.Step.the-variants.{Take, Serialise, Update}
-use Rattle.pws.specs.Program.{Shape, Program}
+use Rattle.pws.specs.Program.{Program}
 use Rattle.pws.specs.Machine.{Configuration}
 use Rattle.pws.specs.Entries.{FF}
+use Rattle.lists.specs.Cubes.{memoryOf}
 use Rattle.lists.specs.Verdict.{ListVerdict}
 use Rattle.lists.specs.Values.{fills, alike}
 use Rattle.lists.specs.Matching.{queueMatches, matches}
@@ -68,7 +67,7 @@ abbrev by : ℕ → Message
 by p = record { process = p; variable = 0; snapshot = FF ∷ 0 ∷ 0 ∷ 0 ∷ [] }
 
 abbrev third : Configuration
-third = record { state = λ p. 0; queue = λ p v. []; memory = record { channel = by 0 ∷ by 1 ∷ by 1 ∷ []; pointer = λ p. cond (eqb p 0) 1 (cond (eqb p 1) 1 0) } }
+third = record { state = λ p. 0; queue = λ p v. []; memory = memoryOf (by 0 ∷ by 1 ∷ by 1 ∷ []) (λ p. cond (eqb p 0) 1 (cond (eqb p 1) 1 0)) }
 
 -- before process 0's message is serialised: the two before it alone, with its LastWrite inside, and with its LastWrite on top
 pub inserted-message : messages (predecessors two third (Serialise 0 0)) ≡ 2 ∷ 3 ∷ 3 ∷ []

@@ -2,7 +2,7 @@
 use Prim.Native.Nat.{ℕ, zero, suc, _<_, _≤_}
 use mathlib.Core.Path.{_≡_, refl, sym, ap, subst, _∙_}
 use mathlib.Core.Logic.{_⊎_, inl, inr, ⊎-elim, _≢_}
-use mathlib.Core.Bool.{Bool, true, false, cond, _&&_, _||_}
+use mathlib.Core.Bool.{cond, _||_}
 use mathlib.Core.List.{List, [], _∷_, map}
 use native.Mathlib.Omega.{arith}
 use native.Mathlib.Decide.{decLe, ℕ-discrete}
@@ -14,12 +14,12 @@ use mir.Facts.{and-yes, yes-and, or-yes, yes-eqb}
 use Rattle.pws.specs.declared.Message.{Message}
 use Rattle.pws.specs.Program.{Shape, ShapeInRange}
 use Rattle.pws.specs.Machine.{Memory, Configuration, message, newest, labelled, lastLabelled}
-use Rattle.pws.specs.Configurations.{All, MessageIn, MemoryIn, QueuesIn, Fits, ValueOf}
-use Rattle.pws.specs.Entries.{FF, ValueOrFF, Fill, FillValues, values-nil, values-cons, FillMessage, FillChannel, channel-nil, channel-cons, filled, Filling}
+use Rattle.pws.specs.Configurations.{All, MessageIn, MemoryIn, Fits, ValueOf}
+use Rattle.pws.specs.Entries.{FF, ValueOrFF, Fill, FillValues, values-nil, values-cons, FillMessage, FillChannel, channel-nil, channel-cons, Filling}
 use Rattle.pws.specs.Insertion.{insert}
 use Rattle.pws.proofs.Facts.{or-left, or-right, message-old, message-new, Proper}
 use Rattle.lists.specs.Values.{fills, alike, meet, pairwise, meetAll}
-use Rattle.lists.specs.Cubes.{alikeNewest, meetNewest}
+use Rattle.lists.specs.Cubes.{topmost, older, memoryOf, alikeNewest, meetNewest}
 
 -- ---- one value
 
@@ -140,6 +140,15 @@ channel-each (x ∷ es) (m ∷ ms) e f =
     channel-cons (rw (d, message-new m ms) at (rw (message-new x es) at (f (suc (length es)) (omega arith) (omega arith))))
     (channel-each es ms d (λ i a b. rw (message-old m ms i (omega arith)) at (rw (message-old x es i b) at (f i a (omega arith)))))
 
+-- the newest message and those before
+pub older-length : (es : List Message) → 1 ≤ length es → suc (length (older es)) ≡ length es
+older-length [] l = absurd (omega arith)
+older-length (e ∷ es) l = refl
+
+pub channel-newest : (es : List Message) {m : Message} {ms : List Message} → 1 ≤ length es → FillMessage (topmost es) m → FillChannel (older es) ms → FillChannel es (m ∷ ms)
+channel-newest [] l f r = absurd (omega arith)
+channel-newest (e ∷ es) l f r = channel-cons f r
+
 pub fill-labelled : {e m : Message} → FillMessage e m → (p v : ℕ) → labelled e p v ≡ labelled m p v
 fill-labelled f p v = rw (f .process, f .variable)
 
@@ -202,7 +211,7 @@ meet-newest (e ∷ es) xs t (channel-cons {m = m} {ms = ms} f s) =
 
 -- ---- memories
 
-pub proper-fill : {S : Shape} {es ms : List Message} {z : ℕ → ℕ} → FillChannel es ms → Proper S (record { channel = es; pointer = z }) → Proper S (record { channel = ms; pointer = z })
+pub proper-fill : {S : Shape} {es ms : List Message} {z : ℕ → ℕ} → FillChannel es ms → Proper S (memoryOf es z) → Proper S (memoryOf ms z)
 proper-fill r g =
     record {
       low = g .low;
@@ -213,7 +222,7 @@ proper-fill r g =
 
 -- a filling fits, if its messages do
 pub memory-fill : {Val Val′ : ℕ → ℕ → Type 0} {S : Shape} {m : Memory} {ms : List Message} → MemoryIn Val S m → FillChannel (m .channel) ms
-    → ((i : ℕ) → 1 ≤ i → i ≤ length ms → MessageIn Val′ S (message ms i)) → MemoryIn Val′ S (record { channel = ms; pointer = m .pointer })
+    → ((i : ℕ) → 1 ≤ i → i ≤ length ms → MessageIn Val′ S (message ms i)) → MemoryIn Val′ S (memoryOf ms (m .pointer))
 memory-fill o r f =
     record {
       some = omega (arith, o .some, channel-length r);

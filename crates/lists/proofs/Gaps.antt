@@ -1,9 +1,8 @@
 -- A message that a map misses, put into the gap that it leaves; and a message put in that is nobody's LastWrite.
 use Prim.Native.Nat.{ℕ, zero, suc, _-_, _<_, _≤_}
-use mathlib.Core.Path.{_≡_, refl, sym, ap, subst, _∙_}
-use mathlib.Core.Logic.{_⊎_, inl, inr, ⊎-elim, _≢_}
-use mathlib.Core.Bool.{cond, _&&_}
-use mathlib.Core.List.{List, [], _∷_}
+use mathlib.Core.Path.{_≡_, sym, ap, subst, _∙_}
+use mathlib.Core.Logic.{_⊎_, inl, inr, ⊎-elim}
+use mathlib.Core.Bool.{cond}
 use native.Mathlib.Omega.{arith}
 use native.Mathlib.Decide.{decLt, ℕ-discrete}
 use lib.ListN.{length}
@@ -17,7 +16,8 @@ use Rattle.pws.specs.Order.{Live, Maps}
 use Rattle.pws.specs.Insertion.{insert, up, insertInto}
 use Rattle.pws.proofs.Facts.{IsLast, Proper, is-last}
 use Rattle.pws.proofs.Tagged.{dec-live}
-use Rattle.pws.proofs.Insertion.{Semi, Hit, Ins, ins, up-low, up-high, up-cases, up-mono, From, below, middle, above, from, live-up, proper-insert, maps-insert}
+use Rattle.pws.proofs.Insertion.{Semi, Hit, Ins, ins, up-high, up-cases, up-mono, From, below, middle, above, from, live-up, proper-insert, maps-insert}
+use Rattle.lists.specs.Cubes.{memoryOf}
 
 pub labelled-is : (m : Message) (p v : ℕ) → T (labelled m p v) → (m .process ≡ p) × (m .variable ≡ v)
 labelled-is m p v t = let r = and-yes (eqb (m .process) p) (eqb (m .variable) v) t in (eqb→eq (m .process) p (r .0), eqb→eq (m .variable) v (r .1))
@@ -76,7 +76,7 @@ Moved m n h t k w q = ((w q ≡ up k (m .pointer q)) × (n .pointer q ≡ h (m .
 module _ (S : Shape) (m n : Memory) (gm : Proper S m) (h : ℕ → ℕ) (C : Carries S m n h) (t k : ℕ) (G : Gap S m h t k) (lt : Live S n t)
     (w : ℕ → ℕ) (moved : (q : ℕ) → q < S .processes → Moved m n h t k w q) where
   abbrev pub gapped : Memory
-  gapped = record { channel = insert (m .channel) k (message (n .channel) t); pointer = w }
+  gapped = memoryOf (insert (m .channel) k (message (n .channel) t)) w
 
   J : Ins (m .channel) (insert (m .channel) k (message (n .channel) t)) k (message (n .channel) t)
   J = ins (m .channel) k (message (n .channel) t) (G .lo) (G .hi)
@@ -152,7 +152,8 @@ module _ (S : Shape) (m n : Memory) (gm : Proper S m) (h : ℕ → ℕ) (C : Car
             record {
               who = l .who;
               exists = l .exists;
-              from = ⊎-elim (λ s. omega (arith, up-mono k (m .pointer (l .who)) (r .at) (l .from))) (λ s. omega (arith, up-high k (r .at) (omega (arith, l .from)))) (moved (l .who) (l .exists));
+              from = ⊎-elim (λ s. omega (arith, up-mono k (m .pointer (l .who)) (r .at) (l .from))) (λ s. omega (arith, up-high k (r .at) (omega (arith, l .from))))
+                  (moved (l .who) (l .exists));
               upto = u .upto;
             };
         hits = h-up (r .at) ∙ r .hits;
@@ -166,7 +167,8 @@ module _ (S : Shape) (m n : Memory) (gm : Proper S m) (h : ℕ → ℕ) (C : Car
 pub maps-unseen : (S : Shape) (m : Memory) → Proper S m → (k : ℕ) → 1 ≤ k → (μ : Message) → μ .process < S .processes → μ .variable < S .variables
     → k ≤ lastWrite m (μ .process) (μ .variable) → Maps S m (insertInto m k μ) (up k)
 maps-unseen S m gm k lo μ pe ve seen = maps-insert S m gm k lo hi μ gd (λ q u qe ue e.
-    let s : IsLast (insert (m .channel) k μ) (up k (m .pointer q)) q u k = subst (IsLast (insert (m .channel) k μ) (up k (m .pointer q)) q u) e (is-last S (insertInto m k μ) gd q u qe) in
+    let s : IsLast (insert (m .channel) k μ) (up k (m .pointer q)) q u k = subst (IsLast (insert (m .channel) k μ) (up k (m .pointer q)) q u) e
+    (is-last S (insertInto m k μ) gd q u qe) in
     ⊎-elim
     (λ a. ⊎-elim (λ r. omega arith) (λ r. omega arith) (up-cases k (m .pointer q)))
     (λ t.

@@ -2,12 +2,12 @@ pub mod Computed
 pub mod Lists
 pub mod Fillings
 pub mod Matching
+pub mod Covering
 pub mod Gaps
 pub mod Undoing
 pub mod Cubes
 pub mod MemoryBefore
 pub mod Queues
-pub mod Over
 pub mod NoneMissing
 pub mod NoneExtra
 pub mod Closed

@@ -1,16 +1,17 @@
 -- Laws of the lists that are made and searched in order.
-use Prim.Native.Nat.{ℕ, zero, suc, _<_, _≤_}
-use mathlib.Core.Path.{_≡_, refl, sym, ap, subst, _∙_}
-use mathlib.Core.Logic.{_⊎_, inl, inr, ⊎-elim}
-use mathlib.Core.Bool.{Bool, true, false, not}
+use Prim.Native.Nat.{ℕ, zero, suc, _<_}
+use mathlib.Core.Path.{_≡_, refl, sym, ap, subst}
+use mathlib.Core.Logic.{⊎-elim}
+use mathlib.Core.Bool.{Bool, true, false, _&&_, _||_, not}
 use mathlib.Core.Option.{Option, none, some}
-use mathlib.Core.List.{List, [], _∷_, _++_, List·Memᴰ, List·Memᴰ·head, List·Memᴰ·tail, List·Memᴰ·not-nil, List·Memᴰ·cases-cons, List·Memᴰ·append-cases, Memᴰ·append-left, Memᴰ·append-right}
+use mathlib.Core.List.{List, [], _∷_, List·Memᴰ, List·Memᴰ·head, List·Memᴰ·tail, List·Memᴰ·not-nil, List·Memᴰ·cases-cons, List·Memᴰ·append-cases, Memᴰ·append-left, Memᴰ·append-right}
 use native.Mathlib.Omega.{arith}
 use native.Mathlib.Decide.{ℕ-discrete}
 use lib.ListN.{length, getD}
 use lib.Dec.{T}
-use mir.Facts.{yes-and, and-no}
+use mir.Facts.{and-yes, yes-and, and-no, or-yes}
 use Rattle.pws.specs.Machine.{allBelow}
+use Rattle.pws.proofs.Facts.{or-left, or-right}
 use Rattle.pws.proofs.Cases.{all-yes}
 use Rattle.lists.specs.Lists.{forBelow, forEach, every, any, next, lowest}
 
@@ -51,55 +52,41 @@ pub T-false : (b : Bool) → T (not b) → b ≡ false
 T-false true t = absurd t
 T-false false t = refl
 
+-- tests that end early are the plain ones
+early-and : (a b : Bool) → elim a [ true ↦ b | false ↦ false ] ≡ (a && b)
+early-and true b = refl
+early-and false b = refl
+
+pub early-or : (a b : Bool) → elim a [ true ↦ true | false ↦ b ] ≡ (a || b)
+early-or true b = refl
+early-or false b = refl
+
 module _ {ℓ} {A : Type ℓ} (f : A → Bool) where
   pub every-yes : (xs : List A) → T (every f xs) → (x : A) → List·Memᴰ x xs → T (f x)
   every-yes [] t x m = absurd (List·Memᴰ·not-nil m)
-  every-yes (y ∷ ys) t x m = go (every-yes ys) (f y) refl t (List·Memᴰ·cases-cons m)
-    where
-      go : (T (every f ys) → (x : A) → List·Memᴰ x ys → T (f x)) → (b : Bool) → f y ≡ b → T (elim b [ true ↦ every f ys | false ↦ false ]) → (x ≡ y) ⊎ List·Memᴰ x ys → T (f x)
-      go ih true e t (inl d) = subst T (sym (ap f d ∙ e)) tt
-      go ih true e t (inr j) = ih t x j
-      go ih false e t d = absurd t
+  every-yes (y ∷ ys) t x m =
+      let r = and-yes (f y) (every f ys) (subst T (early-and (f y) (every f ys)) t) in
+      ⊎-elim (λ d. subst (λ z. T (f z)) (sym d) (r .0)) (every-yes ys (r .1) x) (List·Memᴰ·cases-cons m)
 
   pub every-no : (xs : List A) → T (not (every f xs)) → (x : A) × List·Memᴰ x xs × T (not (f x))
   every-no [] t = absurd t
-  every-no (y ∷ ys) t = go (every-no ys) (f y) refl t
-    where
-      go : (T (not (every f ys)) → (x : A) × List·Memᴰ x ys × T (not (f x))) → (b : Bool) → f y ≡ b → T (not (elim b [ true ↦ every f ys | false ↦ false ])) → (x : A) × List·Memᴰ x (y ∷ ys) × T (not (f x))
-      go ih true e t = let r = ih t in (r .0, List·Memᴰ·tail (r .1), r .2)
-      go ih false e t = (y, List·Memᴰ·head refl, subst T (sym (ap not e)) tt)
+  every-no (y ∷ ys) t = ⊎-elim
+      (λ u. (y, List·Memᴰ·head refl, u))
+      (λ u. let r = every-no ys u in (r .0, List·Memᴰ·tail (r .1), r .2))
+      (and-no (f y) (every f ys) (subst (λ b. T (not b)) (early-and (f y) (every f ys)) t))
 
   -- by number, as the entries of a list are counted
   pub any-number : (d : A) (xs : List A) → T (any f xs) → (k : ℕ) × (k < length xs) × T (f (getD xs k d))
   any-number d [] t = absurd t
-  any-number d (y ∷ ys) t = go (any-number d ys) (f y) refl t
-    where
-      go : (T (any f ys) → (k : ℕ) × (k < length ys) × T (f (getD ys k d))) → (b : Bool) → f y ≡ b → T (elim b [ true ↦ true | false ↦ any f ys ])
-          → (k : ℕ) × (k < length (y ∷ ys)) × T (f (getD (y ∷ ys) k d))
-      go ih true e t = (0, omega arith, subst T (sym e) tt)
-      go ih false e t = let r = ih t in (suc (r .0), omega (arith, r .1), r .2)
+  any-number d (y ∷ ys) t = ⊎-elim
+      (λ u. (0, omega arith, u))
+      (λ u. let r = any-number d ys u in (suc (r .0), omega (arith, r .1), r .2))
+      (or-yes (f y) (any f ys) (subst T (early-or (f y) (any f ys)) t))
 
   pub number-any : (d : A) (xs : List A) (k : ℕ) → k < length xs → T (f (getD xs k d)) → T (any f xs)
   number-any d [] k l t = absurd (omega arith)
-  number-any d (y ∷ ys) zero l t = go (f y) t
-    where
-      go : (b : Bool) → T b → T (elim b [ true ↦ true | false ↦ any f ys ])
-      go true t = tt
-      go false t = absurd t
-  number-any d (y ∷ ys) (suc k) l t = go (f y) (number-any d ys k (omega arith) t)
-    where
-      go : (b : Bool) → T (any f ys) → T (elim b [ true ↦ true | false ↦ any f ys ])
-      go true t = tt
-      go false t = t
-
-  pub in-any : (xs : List A) (x : A) → List·Memᴰ x xs → T (f x) → T (any f xs)
-  in-any [] x m t = absurd (List·Memᴰ·not-nil m)
-  in-any (y ∷ ys) x m t = go (in-any ys x) (f y) refl (List·Memᴰ·cases-cons m)
-    where
-      go : (List·Memᴰ x ys → T (f x) → T (any f ys)) → (b : Bool) → f y ≡ b → (x ≡ y) ⊎ List·Memᴰ x ys → T (elim b [ true ↦ true | false ↦ any f ys ])
-      go ih true e d = tt
-      go ih false e (inl d) = absurd (subst T (ap f d ∙ e) t)
-      go ih false e (inr j) = ih j t
+  number-any d (y ∷ ys) zero l t = subst T (sym (early-or (f y) (any f ys))) (or-left (f y) (any f ys) t)
+  number-any d (y ∷ ys) (suc k) l t = subst T (sym (early-or (f y) (any f ys))) (or-right (f y) (any f ys) (number-any d ys k (omega arith) t))
 
   -- ---- the lowest number that fails
 

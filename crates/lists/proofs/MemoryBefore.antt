@@ -1,9 +1,9 @@
 -- T7 in memory: what maps to the memory after a step maps, by a filling of a predecessor cube, to the memory before.
-use Prim.Native.Nat.{ℕ, zero, suc, _-_, _<_, _≤_, max}
-use mathlib.Core.Path.{_≡_, refl, sym, ap, ap₂, subst, _∙_}
-use mathlib.Core.Logic.{_⊎_, inl, inr, ⊎-elim, _≢_}
-use mathlib.Core.Bool.{Bool, true, false, cond, _&&_, _||_, not}
-use mathlib.Core.List.{List, [], _∷_, _++_}
+use Prim.Native.Nat.{ℕ, suc, _-_, _<_, _≤_}
+use mathlib.Core.Path.{_≡_, refl, sym, ap, subst, _∙_}
+use mathlib.Core.Logic.{inl, inr, ⊎-elim, _≢_}
+use mathlib.Core.Bool.{Bool, _&&_, _||_, not}
+use mathlib.Core.List.{List, _∷_}
 use native.Mathlib.Omega.{arith}
 use native.Mathlib.Decide.{decLe, ℕ-discrete}
 use lib.ListN.{length, getD, set}
@@ -20,23 +20,16 @@ use Rattle.pws.specs.Insertion.{insert, up, insertInto}
 use Rattle.pws.specs.Entries.{FF, Fill, FillValues, FillMessage, FillChannel, channel-nil, channel-cons}
 use Rattle.pws.proofs.Facts.{or-left, or-right, put-same, put-other, message-old, message-new, labelled-self, IsLast, last-eq, Proper, proper, is-last, live-last, live-pointer}
 use Rattle.pws.proofs.Moves.{maps-top, maps-newest}
-use Rattle.pws.proofs.Insertion.{Semi, Hit, semi-of, semi-back, ins, up-low, up-cases, insert-top, proper-insert, maps-left}
+use Rattle.pws.proofs.Insertion.{Hit, semi-of, semi-back, ins, up-low, insert-top, proper-insert, maps-left}
 use Rattle.lists.specs.Values.{alike}
-use Rattle.lists.specs.Cubes.{anyMessage, topmost, older, alikeNewest}
+use Rattle.lists.specs.Cubes.{memoryOf, messageOf, anyMessage, topmost, alikeNewest}
 use Rattle.lists.specs.Predecessors.{Kind, undone, inside, onTop, pointed, withoutNewest, serialiseMemory, arwMemory, updateMemory, serialised, serialiseKind, swapped, arwKind, updateKind}
 use Rattle.lists.proofs.Lists.{yes-all}
 use Rattle.lists.proofs.Fillings.{fill-alike, fill-at, fill-each, fill-back, channel-length, channel-last, fill-labelled, channel-insert, newest-meet}
+use Rattle.lists.proofs.Covering.{FilledMemory}
 use Rattle.lists.proofs.Gaps.{Gap, labelled-is, via}
 use Rattle.lists.proofs.Undoing.{proper-point, proper-cons, UpdateBack, lowered, fresh, update-back, top-is, pointers-low, proper-low, append-hit, append-place, gap-past, gap-labelled, gap-proper, append-gap}
 use Rattle.lists.proofs.Cubes.{any-exists, any-absent}
-
--- ---- a filling of a memory that maps to another
-
-pub record FilledMemory (S : Shape) (e n : Memory) : Type 0 where
-  pub channel : List Message
-  pub fill : FillChannel (e .channel) channel
-  pub h : ℕ → ℕ
-  pub maps : Maps S (record { channel = channel; pointer = e .pointer }) n h
 
 -- any message fills one that is free
 pub fill-any : {Val : ℕ → ℕ → Type 0} {S : Shape} {m : Message} → S .variables ≤ 4 → MessageIn Val S m → (p v : ℕ) → m .process ≡ p → m .variable ≡ v → FillMessage (anyMessage S p v) m
@@ -50,7 +43,7 @@ fill-any {S = S} {m = m} four o p v a b =
       ]);
     }
 
-newest-insert : (ms : List Message) (k : ℕ) (μ : Message) → 1 ≤ k → k ≤ length ms → newest (insert ms k μ) ≡ newest ms
+pub newest-insert : (ms : List Message) (k : ℕ) (μ : Message) → 1 ≤ k → k ≤ length ms → newest (insert ms k μ) ≡ newest ms
 newest-insert ms k μ a b = let J = ins ms k μ a (omega arith) in ap (message (insert ms k μ)) (J .len) ∙ J .hi (length ms) b (omega arith)
 
 module _ (S : Shape) (R : ShapeInRange S) (n : Memory) (on : MemoryIn (ValueOf S) S n) (p : ℕ) (pe : p < S .processes) where
@@ -67,9 +60,9 @@ module _ (S : Shape) (R : ShapeInRange S) (n : Memory) (on : MemoryIn (ValueOf S
     pub has : T (updateKind S e p kind)
     pub memory : FilledMemory S (updateMemory S e p kind) n
 
-  pub update-missing : (e : Memory) {fs : List Message} → FillChannel (e .channel) fs → Proper S (record { channel = fs; pointer = e .pointer }) → n .pointer p < length (n .channel)
-      → (h : ℕ → ℕ) → Maps S (record { channel = fs; pointer = e .pointer }) (point n p (suc (n .pointer p))) h → UpdateMissing e
-  update-missing e {fs} ce gf room h M = go (update-back S (record { channel = fs; pointer = e .pointer }) n gf gn p pe room h M)
+  pub update-missing : (e : Memory) {fs : List Message} → FillChannel (e .channel) fs → Proper S (memoryOf fs (e .pointer)) → n .pointer p < length (n .channel)
+      → (h : ℕ → ℕ) → Maps S (memoryOf fs (e .pointer)) (point n p (suc (n .pointer p))) h → UpdateMissing e
+  update-missing e {fs} ce gf room h M = go (update-back S (memoryOf fs (e .pointer)) n gf gn p pe room h M)
     where
       μ : Message
       μ = message (n .channel) (n .pointer p)
@@ -77,7 +70,7 @@ module _ (S : Shape) (R : ShapeInRange S) (n : Memory) (on : MemoryIn (ValueOf S
       oμ : MessageIn (ValueOf S) S (message (n .channel) (n .pointer p))
       oμ = on .messages (n .pointer p) (on .low p pe) (omega arith)
 
-      go : UpdateBack S (record { channel = fs; pointer = e .pointer }) n p → UpdateMissing e
+      go : UpdateBack S (memoryOf fs (e .pointer)) n p → UpdateMissing e
       go (lowered a h′ N) = record { kind = undone; has = lt→ltb 1 (e .pointer p) a; memory = record { channel = fs; fill = ce; h = h′; maps = N } }
       go (fresh a h′ N) =
           let r = message (n .channel) (n .pointer p) .process in
@@ -100,7 +93,8 @@ module _ (S : Shape) (R : ShapeInRange S) (n : Memory) (on : MemoryIn (ValueOf S
     pub value-yes : Fill (getD (en .snapshot) v 0) y
     value-yes =
         let room = on .messages (length (n .channel)) (on .some) (omega arith) .room in
-        subst (Fill (getD (en .snapshot) v 0)) (ap (λ (m : Message). getD (m .snapshot) v 0) is ∙ getD-set-same (ν .snapshot) v y 0 (omega (arith, R .variables))) (fill-at (te .snapshot) v)
+        subst (Fill (getD (en .snapshot) v 0)) (ap (λ (m : Message). getD (m .snapshot) v 0) is ∙ getD-set-same (ν .snapshot) v y 0 (omega (arith, R .variables)))
+        (fill-at (te .snapshot) v)
 
     -- the newest snapshot before
     was : (x : ℕ) → Fill x (getD (ν .snapshot) v 0) → FillValues (set (en .snapshot) v x) (ν .snapshot)
@@ -116,14 +110,14 @@ module _ (S : Shape) (R : ShapeInRange S) (n : Memory) (on : MemoryIn (ValueOf S
     pub memory : FilledMemory S (serialiseMemory S e p v kind) n
 
   module _ (en fn : Message) (es fs : List Message) (te : FillMessage en fn) (ce : FillChannel es fs) (z : ℕ → ℕ) (v x : ℕ) (ve : v < S .variables)
-      (gf : Proper S (record { channel = fn ∷ fs; pointer = z })) (h : ℕ → ℕ) (M : Maps S (record { channel = fn ∷ fs; pointer = z }) (append n p v x) h) where
+      (gf : Proper S (memoryOf (fn ∷ fs) z)) (h : ℕ → ℕ) (M : Maps S (memoryOf (fn ∷ fs) z) (append n p v x) h) where
     abbrev e : Memory
-    e = record { channel = en ∷ es; pointer = z }
+    e = memoryOf (en ∷ es) z
 
     low : (q : ℕ) → q < S .processes → z q ≤ length fs
     low = pointers-low S fn fs z n p v x pe ve gf gn h M
 
-    g₀ : Proper S (record { channel = fs; pointer = z })
+    g₀ : Proper S (memoryOf fs z)
     g₀ = proper-low S fn fs z n p v x pe ve gf gn h M
 
     some : 1 ≤ length fs
@@ -145,17 +139,17 @@ module _ (S : Shape) (R : ShapeInRange S) (n : Memory) (on : MemoryIn (ValueOf S
     was-free : FillValues (set (en .snapshot) v FF) (ν .snapshot)
     was-free = was en fn te v x ve (top-is S fn fs z n p v x pe ve gf gn h M) FF (inl refl)
 
-    hit : Hit S (record { channel = fs; pointer = z }) h (lastWrite n p v) → SerialiseMissing e v x
+    hit : Hit S (memoryOf fs z) h (lastWrite n p v) → SerialiseMissing e v x
     hit r =
         let N = append-hit S fn fs z n p v x pe ve gf gn h M r in
-        let a = newest-meet (set (en .snapshot) v FF) ce some (rw (maps-newest S (record { channel = fs; pointer = z }) n g₀ gn h N p pe) was-free) in
+        let a = newest-meet (set (en .snapshot) v FF) ce some (rw (maps-newest S (memoryOf fs z) n g₀ gn h N p pe) was-free) in
         serialised-is undone (a .0) (record { channel = fs; fill = a .1; h = h; maps = N })
 
-    gap : (k : ℕ) → Gap S (record { channel = fs; pointer = z }) h (lastWrite n p v) k → SerialiseMissing e v x
+    gap : (k : ℕ) → Gap S (memoryOf fs z) h (lastWrite n p v) k → SerialiseMissing e v x
     gap k G =
         let i = lastWrite n p v in
         let μ = message (n .channel) i in
-        let f₀ : Memory = record { channel = fs; pointer = z } in
+        let f₀ : Memory = memoryOf fs z in
         let lab = labelled-is μ p v (gap-labelled S fn fs z n p v x pe ve gf gn h M k G) in
         let good = gap-proper S fn fs z n p v x pe ve gf gn h M k G in
         let N = append-gap S fn fs z n p v x pe ve gf gn h M k G in
@@ -178,7 +172,7 @@ module _ (S : Shape) (R : ShapeInRange S) (n : Memory) (on : MemoryIn (ValueOf S
           | no b ↦
               let d : k ≡ suc (length fs) = omega (arith, G .hi) in
               let w : μ ≡ ν = sym (ap newest (insert-top fs k μ d) ∙ message-new μ fs) ∙ new in
-              let top : FillMessage (record { process = p; variable = v; snapshot = set (en .snapshot) v FF }) μ = record { process = sym (lab .0); variable = sym (lab .1); snapshot = rw w was-free } in
+              let top : FillMessage (messageOf p v (set (en .snapshot) v FF)) μ = record { process = sym (lab .0); variable = sym (lab .1); snapshot = rw w was-free } in
               serialised-is (onTop v) (yes-eqb {a = v} refl)
               (record {
                 channel = insert fs k μ;
@@ -191,8 +185,8 @@ module _ (S : Shape) (R : ShapeInRange S) (n : Memory) (on : MemoryIn (ValueOf S
     serialise-cons : SerialiseMissing e v x
     serialise-cons = ⊎-elim hit (λ r. gap (r .0) (r .1)) (append-place S fn fs z n p v x pe ve gf gn h M)
 
-  pub serialise-missing : {es fs : List Message} → FillChannel es fs → (z : ℕ → ℕ) (v x : ℕ) → v < S .variables → Proper S (record { channel = fs; pointer = z })
-      → (h : ℕ → ℕ) → Maps S (record { channel = fs; pointer = z }) (append n p v x) h → SerialiseMissing (record { channel = es; pointer = z }) v x
+  pub serialise-missing : {es fs : List Message} → FillChannel es fs → (z : ℕ → ℕ) (v x : ℕ) → v < S .variables → Proper S (memoryOf fs z)
+      → (h : ℕ → ℕ) → Maps S (memoryOf fs z) (append n p v x) h → SerialiseMissing (memoryOf es z) v x
   serialise-missing channel-nil z v x ve gf h M = absurd (omega (arith, gf .low p pe, gf .high p pe))
   serialise-missing (channel-cons {e = en} {m = fn} {es = es} {ms = fs} te ce) z v x ve gf h M = serialise-cons en fn es fs te ce z v x ve gf h M
 
@@ -205,13 +199,13 @@ module _ (S : Shape) (R : ShapeInRange S) (n : Memory) (on : MemoryIn (ValueOf S
     pub memory : FilledMemory S (arwMemory e p v old kind) n
 
   module _ (en fn : Message) (es fs : List Message) (te : FillMessage en fn) (ce : FillChannel es fs) (z : ℕ → ℕ) (v old new : ℕ) (ve : v < S .variables)
-      (gf : Proper S (record { channel = fn ∷ fs; pointer = z })) (here : n .pointer p ≡ length (n .channel)) (held : getD (newest (n .channel) .snapshot) v 0 ≡ old)
-      (h : ℕ → ℕ) (M : Maps S (record { channel = fn ∷ fs; pointer = z }) (point (append n p v new) p (suc (length (n .channel)))) h) where
+      (gf : Proper S (memoryOf (fn ∷ fs) z)) (here : n .pointer p ≡ length (n .channel)) (held : getD (newest (n .channel) .snapshot) v 0 ≡ old)
+      (h : ℕ → ℕ) (M : Maps S (memoryOf (fn ∷ fs) z) (point (append n p v new) p (suc (length (n .channel)))) h) where
     abbrev e₂ : Memory
-    e₂ = record { channel = en ∷ es; pointer = z }
+    e₂ = memoryOf (en ∷ es) z
 
     abbrev f : Memory
-    f = record { channel = fn ∷ fs; pointer = z }
+    f = memoryOf (fn ∷ fs) z
 
     abbrev n₁ : Memory
     n₁ = append n p v new
@@ -261,10 +255,10 @@ module _ (S : Shape) (R : ShapeInRange S) (n : Memory) (on : MemoryIn (ValueOf S
     was-old = was en fn te v new ve is old (inr (sym held))
 
     -- p's LastWrites in n are its pointer, which is hit
-    pointer-hit : {ms : List Message} {w : ℕ → ℕ} (g : ℕ → ℕ) → Proper S (record { channel = ms; pointer = w }) → n .pointer p ≡ g (w p) → Hit S (record { channel = ms; pointer = w }) g (lastWrite n p v)
+    pointer-hit : {ms : List Message} {w : ℕ → ℕ} (g : ℕ → ℕ) → Proper S (memoryOf ms w) → n .pointer p ≡ g (w p) → Hit S (memoryOf ms w) g (lastWrite n p v)
     pointer-hit {ms} {w} g o c =
         let s : IsLast (n .channel) (n .pointer p) p v (n .pointer p) = record { low = omega arith; high = gn .high p pe; hit = inl refl; free = λ j a b t. omega arith } in
-        record { at = w p; lives = live-pointer S (record { channel = ms; pointer = w }) o p pe; hits = sym c ∙ sym (last-eq s) }
+        record { at = w p; lives = live-pointer S (memoryOf ms w) o p pe; hits = sym c ∙ sym (last-eq s) }
 
     arw-lowered : (g : ℕ → ℕ) → 2 ≤ z p → Maps S (point f p (z p - 1)) n₁ g → ArwMissing e₂ v old new
     arw-lowered g two K =
@@ -272,27 +266,23 @@ module _ (S : Shape) (R : ShapeInRange S) (n : Memory) (on : MemoryIn (ValueOf S
         let gw = proper-point gf p (z p - 1) (omega arith) (omega (arith, gf .high p pe)) in
         let g₀ = proper-low S fn fs w n p v new pe ve gw gn g K in
         let N = append-hit S fn fs w n p v new pe ve gw gn g K (pointer-hit g g₀ (K .pointers p pe)) in
-        let a = newest-meet (set (en .snapshot) v old) ce (omega (arith, at-top)) (rw (maps-newest S (record { channel = fs; pointer = w }) n g₀ gn g N p pe) was-old) in
+        let a = newest-meet (set (en .snapshot) v old) ce (omega (arith, at-top)) (rw (maps-newest S (memoryOf fs w) n g₀ gn g N p pe) was-old) in
         swapped-is undone (a .0)
-        (record {
-          channel = fs;
-          fill = a .1;
-          h = g;
-          maps = subst (λ (i : ℕ). Maps S (record { channel = fs; pointer = put z p i }) n g) (omega (arith, at-top, channel-length ce)) N;
-        })
+        (record { channel = fs; fill = a .1; h = g; maps = subst (λ (i : ℕ). Maps S (memoryOf fs (put z p i)) n g) (omega (arith, at-top, channel-length ce)) N })
 
     arw-fresh : (g : ℕ → ℕ) (μ : Message) → μ ≡ newest (n .channel) → z p ≤ lastWrite f (μ .process) (μ .variable)
         → Maps S (point (insertInto f (z p) μ) p (z p)) n₁ g → ArwMissing e₂ v old new
     arw-fresh g μ d covered K =
         let oν = on .messages (length (n .channel)) (on .some) (omega arith) in
         let w = put (λ q. up (z p) (z q)) p (z p) in
-        let at : insert (fn ∷ fs) (z p) μ ≡ fn ∷ μ ∷ fs = rw (le-leb (z p) (suc (length fs)) (omega (arith, at-top))) (ap (λ (ms : List Message). fn ∷ ms) (insert-top fs (z p) μ at-top)) in
+        let at : insert (fn ∷ fs) (z p) μ ≡ fn ∷ μ ∷ fs = rw (le-leb (z p) (suc (length fs)) (omega (arith, at-top)))
+        (ap (λ (ms : List Message). fn ∷ ms) (insert-top fs (z p) μ at-top)) in
         let re : μ .process < S .processes = rw d (oν .process) in
         let ue : μ .variable < S .variables = rw d (oν .variable) in
         let gi = proper-point (proper-insert S f gf (z p) (gf .low p pe) (omega (arith, at-top)) μ re ue) p (z p) (gf .low p pe)
         (omega (arith, gf .high p pe, ins (fn ∷ fs) (z p) μ (gf .low p pe) (omega (arith, at-top)) .len)) in
-        let gw : Proper S (record { channel = fn ∷ μ ∷ fs; pointer = w }) = subst (λ (ms : List Message). Proper S (record { channel = ms; pointer = w })) at gi in
-        let K′ : Maps S (record { channel = fn ∷ μ ∷ fs; pointer = w }) n₁ g = subst (λ (ms : List Message). Maps S (record { channel = ms; pointer = w }) n₁ g) at K in
+        let gw : Proper S (memoryOf (fn ∷ μ ∷ fs) w) = subst (λ (ms : List Message). Proper S (memoryOf ms w)) at gi in
+        let K′ : Maps S (memoryOf (fn ∷ μ ∷ fs) w) n₁ g = subst (λ (ms : List Message). Maps S (memoryOf ms w) n₁ g) at K in
         let g₀ = proper-low S fn (μ ∷ fs) w n p v new pe ve gw gn g K′ in
         let N = append-hit S fn (μ ∷ fs) w n p v new pe ve gw gn g K′ (pointer-hit g g₀ (K′ .pointers p pe)) in
         let same : (q : ℕ) → q < S .processes → w q ≡ z q = λ q a. elim (ℕ-discrete q p) [
@@ -313,7 +303,7 @@ module _ (S : Shape) (R : ShapeInRange S) (n : Memory) (on : MemoryIn (ValueOf S
           channel = μ ∷ fs;
           fill = channel-cons (record { process = sym mine; variable = refl; snapshot = rw d was-old }) ce;
           h = g;
-          maps = maps-left S (record { channel = μ ∷ fs; pointer = w }) z same N;
+          maps = maps-left S (memoryOf (μ ∷ fs) w) z same N;
         })
 
     arw-cons : ArwMissing e₂ v old new
@@ -324,8 +314,8 @@ module _ (S : Shape) (R : ShapeInRange S) (n : Memory) (on : MemoryIn (ValueOf S
         go (fresh a g K) = arw-fresh g (message (n₁ .channel) (n .pointer p))
             (message-old (copyWith (n .channel) p v new) (n .channel) (n .pointer p) (gn .high p pe) ∙ ap (message (n .channel)) here) a K
 
-  pub arw-missing : {es fs : List Message} → FillChannel es fs → (z : ℕ → ℕ) (v old new : ℕ) → v < S .variables → Proper S (record { channel = fs; pointer = z })
+  pub arw-missing : {es fs : List Message} → FillChannel es fs → (z : ℕ → ℕ) (v old new : ℕ) → v < S .variables → Proper S (memoryOf fs z)
       → n .pointer p ≡ length (n .channel) → getD (newest (n .channel) .snapshot) v 0 ≡ old
-      → (h : ℕ → ℕ) → Maps S (record { channel = fs; pointer = z }) (point (append n p v new) p (suc (length (n .channel)))) h → ArwMissing (record { channel = es; pointer = z }) v old new
+      → (h : ℕ → ℕ) → Maps S (memoryOf fs z) (point (append n p v new) p (suc (length (n .channel)))) h → ArwMissing (memoryOf es z) v old new
   arw-missing channel-nil z v old new ve gf here held h M = absurd (omega (arith, gf .low p pe, gf .high p pe))
   arw-missing (channel-cons {e = en} {m = fn} {es = es} {ms = fs} te ce) z v old new ve gf here held h M = arw-cons en fn es fs te ce z v old new ve gf here held h M

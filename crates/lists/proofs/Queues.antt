@@ -1,22 +1,20 @@
 -- Queues before a write and before a read.
-use Prim.Native.Nat.{ℕ, suc, _<_}
+use Prim.Native.Nat.{ℕ}
 use mathlib.Core.Path.{_≡_, refl, sym, ap, subst, _∙_}
 use mathlib.Core.Logic.{_⊎_, inl, inr, ⊎-elim, _≢_}
-use mathlib.Core.Bool.{Bool, true, false, _&&_, not}
-use mathlib.Core.Option.{Option, none, some}
+use mathlib.Core.Bool.{false, not}
+use mathlib.Core.Option.{some}
 use mathlib.Core.List.{List, [], _∷_, _++_}
 use native.Mathlib.Omega.{arith}
-use native.Mathlib.Decide.{ℕ-discrete}
 use lib.Dec.{T}
 use Rattle.pws.specs.Machine.{newestWaiting, newestOr, isEmpty, withoutOldest, putQueue}
 use Rattle.pws.specs.Entries.{FF, Fill, FillValues, values-nil, values-cons}
 use Rattle.pws.proofs.Facts.{putQueue-same, putQueue-other, putQueue-each}
 use Rattle.pws.proofs.Queues.{Queued, nothing, keep, skip, queued-empty}
 use lib.ListN.{getD}
-use Rattle.lists.specs.Values.{alike}
 use Rattle.lists.specs.Cubes.{withoutLast, withLast}
 use Rattle.lists.specs.Predecessors.{endsAlike}
-use Rattle.lists.proofs.Fillings.{fill-alike, alike-value, fill-value, fill-trans}
+use Rattle.lists.proofs.Fillings.{fill-alike, alike-value, fill-value}
 
 -- ---- one queue of many
 
@@ -26,10 +24,13 @@ put-both G Q Q′ p v xs ys here q u other = putQueue-each Q p v xs (λ q u zs. 
     (λ o. rw (putQueue-same Q′ p v ys) here) (λ n o. rw (putQueue-other Q′ p v ys q u n) (o n)) other
 
 -- what stood there before
-pub unput : (G : List ℕ → List ℕ → Type 0) (Q Q′ : ℕ → ℕ → List ℕ) (p v : ℕ) (xs ys : List ℕ) → G (Q p v) ys → (q u : ℕ) → G (putQueue Q p v xs q u) (Q′ q u) → G (Q q u) (putQueue Q′ p v ys q u)
-unput G Q Q′ p v xs ys here q u o = putQueue-each Q′ p v ys (λ q u zs. G (putQueue Q p v xs q u) (Q′ q u) → G (Q q u) zs) q u (λ w. here) (λ n w. rw (putQueue-other Q p v xs q u n) at w) o
+pub unput : (G : List ℕ → List ℕ → Type 0) (Q Q′ : ℕ → ℕ → List ℕ) (p v : ℕ) (xs ys : List ℕ) → G (Q p v) ys → (q u : ℕ) → G (putQueue Q p v xs q u) (Q′ q u)
+    → G (Q q u) (putQueue Q′ p v ys q u)
+unput G Q Q′ p v xs ys here q u o = putQueue-each Q′ p v ys (λ q u zs. G (putQueue Q p v xs q u) (Q′ q u) → G (Q q u) zs) q u (λ w. here)
+    (λ n w. rw (putQueue-other Q p v xs q u n) at w) o
 
-pub unput-left : (G : List ℕ → List ℕ → Type 0) (Q Q′ : ℕ → ℕ → List ℕ) (p v : ℕ) (xs : List ℕ) → G (Q p v) (Q′ p v) → (q u : ℕ) → G (putQueue Q p v xs q u) (Q′ q u) → G (Q q u) (Q′ q u)
+pub unput-left : (G : List ℕ → List ℕ → Type 0) (Q Q′ : ℕ → ℕ → List ℕ) (p v : ℕ) (xs : List ℕ) → G (Q p v) (Q′ p v) → (q u : ℕ) → G (putQueue Q p v xs q u) (Q′ q u)
+    → G (Q q u) (Q′ q u)
 unput-left G Q Q′ p v xs here q u o = putQueue-each Q p v xs (λ q u zs. G zs (Q′ q u) → G (Q q u) (Q′ q u)) q u (λ w. here) (λ n w. w) o
 
 -- ---- fillings
@@ -88,7 +89,8 @@ unwritten-one : {xs : List ℕ} (w : ℕ) → Queued xs (w ∷ []) → Unwritten
 unwritten-one w (keep {xs = []} d nothing) = inl nothing
 unwritten-one w (skip r) = absurd (no-nil r)
 
-unwritten-cons : (y : ℕ) (ys : List ℕ) (w : ℕ) {xs zs : List ℕ} → ((us : List ℕ) → Queued us (ys ++ (w ∷ [])) → Unwritten us ys) → zs ≡ ys ++ (w ∷ []) → Queued xs (y ∷ zs) → Unwritten xs (y ∷ ys)
+unwritten-cons : (y : ℕ) (ys : List ℕ) (w : ℕ) {xs zs : List ℕ} → ((us : List ℕ) → Queued us (ys ++ (w ∷ [])) → Unwritten us ys) → zs ≡ ys ++ (w ∷ []) → Queued xs (y ∷ zs)
+    → Unwritten xs (y ∷ ys)
 unwritten-cons y ys w ih e (keep {x = x} {xs = xs} d r) =
     let q : Queued xs (ys ++ (w ∷ [])) = rw e at r in
     unwritten-keep x xs y ys (subst T (sym (ap not (queued-empty q))) (snoc-some ys w)) d (ih xs q)

@@ -1,93 +1,106 @@
 -- The irreducible shapes: each is an entry, and every irreducible configuration fills one.
 use Prim.Native.Nat.{ℕ, zero, suc, _+_, _-_, _*_, _<_, _≤_}
-use mathlib.Core.Path.{_≡_, refl, sym, ap, ap₂, subst, subst₂, _∙_}
+use mathlib.Core.Path.{fun-ext, _≡_, refl, sym, ap, subst, subst₂, _∙_}
 use mathlib.Core.Logic.{_⊎_, inl, inr, ⊎-elim, _≢_}
 use mathlib.Core.Bool.{Bool, true, false, cond, _&&_, _||_, not}
-use mathlib.Core.List.{List, [], _∷_, _++_, map, List·Memᴰ, List·Memᴰ·head, List·Memᴰ·tail, List·Memᴰ·not-nil, List·Memᴰ·cases-cons, List·Memᴰ·append-cases, List·Memᴰ·eq-of-singleton, Memᴰ·append-left, Memᴰ·append-right, Memᴰ·map, Memᴰ·of-map}
+use mathlib.Core.List.{List, [], _∷_, map, List·Memᴰ, List·Memᴰ·head, List·Memᴰ·tail, List·Memᴰ·not-nil, List·Memᴰ·cases-cons, List·Memᴰ·eq-of-singleton, Memᴰ·map, Memᴰ·of-map}
 use native.Mathlib.Omega.{arith}
-use native.Mathlib.Decide.{decLe, decLt, ℕ-discrete}
-use lib.ListN.{length, getD, replicate, length-append, length-map, length-replicate, getD-replicate, List·getD-eq-default}
-use lib.Dec.{T, eqb, ltb, not-T}
-use borrow.Author.Tests.{eq-eqb, ne-eqb, eqb-true, eqb-false, lt-ltb, le-ltb}
-use mir.Facts.{and-yes, yes-and, yes-eqb, eqb-no}
+use native.Mathlib.Decide.{decLt, ℕ-discrete}
+use lib.ListN.{length, length-append, length-map}
+use lib.Dec.{T, eqb, ltb, not-T, eqb→eq}
+use borrow.Author.Tests.{eq-eqb, lt-ltb, le-ltb}
+use mir.Facts.{or-yes, yes-and, yes-eqb, eqb-no, no-eqb}
 use Rattle.pws.specs.declared.Message.{Message}
 use Rattle.pws.specs.Program.{Shape, ShapeInRange}
-use Rattle.pws.specs.Machine.{Memory, Configuration, putQueue, message, labelled, lastWrite, isEmpty}
-use Rattle.pws.specs.Configurations.{All, MessageIn, MemoryIn, QueuesIn, ValueOf}
-use Rattle.pws.specs.Entries.{FF, ValueOrFF, FillMessage, FillChannel, channel-nil, channel-cons}
-use Rattle.pws.specs.Tagged.{hasRole}
-use Rattle.pws.proofs.Facts.{or-left, or-right, putQueue-same, putQueue-other, putQueue-each, message-old, message-new, message-each, IsLast, Proper, proper, is-last}
+use Rattle.pws.specs.Machine.{allBelow, put, Memory, putQueue, message, labelled, lastWrite, isEmpty}
+use Rattle.pws.specs.Configurations.{MessageIn, MemoryIn, QueuesIn}
+use Rattle.pws.specs.Entries.{FF, ValueOrFF, FillChannel, channel-nil, channel-cons}
+use Rattle.pws.proofs.Facts.{put-other, put-each, or-left, or-right, putQueue-same, putQueue-other, message-old, message-new, message-each, IsLast, Proper, is-last}
 use Rattle.pws.proofs.Steps.{queues-put}
 use Rattle.pws.proofs.Tagged.{role-is}
+use Rattle.pws.proofs.Cases.{all-yes}
 use Rattle.pws.proofs.Dropping.{Irreducible}
-use Rattle.lists.specs.Lists.{forBelow, forEach, every, any}
+use Rattle.lists.specs.Lists.{forBelow, forEach, any}
 use Rattle.lists.specs.Cubes.{anyMessage}
-use Rattle.lists.specs.Shapes.{Outline, choices, moved, allowed, outlines, longest, outlineMemory, memoryShapes, rowShapes, queueShapes}
-use Rattle.lists.proofs.Lists.{in-below, below-in, in-each, each-in, T-true}
+use Rattle.lists.specs.Shapes.{Outline, choices, allowed, outlines, longest, outlineMemory, memoryShapes, rowShapes, queueShapes}
+use Rattle.lists.proofs.Lists.{early-or, in-below, below-in, in-each, each-in, T-true, T-false, yes-all}
 use Rattle.lists.proofs.Gaps.{labelled-is}
 use Rattle.lists.proofs.Cubes.{message-any}
 use Rattle.lists.proofs.MemoryBefore.{fill-any}
 
--- ---- tables of places: f i, f (i + 1), .., c of them
-
-abbrev tab : ℕ → ℕ → (ℕ → ℕ) → List ℕ
-tab i zero f = []
-tab i (suc c) f = f i ∷ tab (suc i) c f
-
-tab-at : (i c : ℕ) (f : ℕ → ℕ) (j d : ℕ) → j < c → getD (tab i c f) j d ≡ f (i + j)
-tab-at i zero f j d l = absurd (omega arith)
-tab-at i (suc c) f zero d l = ap f (omega arith)
-tab-at i (suc c) f (suc j) d l = tab-at (suc i) c f j d (omega arith) ∙ ap f (omega arith)
-
-tab-length : (i c : ℕ) (f : ℕ → ℕ) → length (tab i c f) ≡ c
-tab-length i zero f = refl
-tab-length i (suc c) f = ap suc (tab-length (suc i) c f)
-
-tab-zeros : (i c : ℕ) (f : ℕ → ℕ) → ((j : ℕ) → i ≤ j → j < i + c → f j ≡ 0) → replicate c 0 ≡ tab i c f
-tab-zeros i zero f s = refl
-tab-zeros i (suc c) f s = ap₂ {C = List ℕ} (λ x xs. x ∷ xs) (sym (s i (omega arith) (omega arith))) (tab-zeros (suc i) c f (λ j a b. s j (omega arith) (omega arith)))
+-- ---- places
 
 -- what may become of a place
 data Moves (d : ℕ) : ℕ → ℕ → Type 0 where
   stays : {x : ℕ} → Moves d x x
   goes : Moves d 0 d
 
-choose-one : {x y : ℕ} (d : ℕ) (ys : List ℕ) (xs : List ℕ) → Moves d x y → List·Memᴰ ys (choices xs d) → List·Memᴰ (y ∷ ys) (choices (x ∷ xs) d)
-choose-one d ys xs (stays {x = x}) i = elim (ℕ-discrete x 0) [
-  | yes e ↦ rw (eq-eqb x 0 e, choices) (rw e (Memᴰ·append-left (map (λ ys. d ∷ ys) (choices xs d)) (Memᴰ·map (λ ys. 0 ∷ ys) i)))
-  | no e ↦ rw (ne-eqb x 0 e, choices) (Memᴰ·map (λ ys. x ∷ ys) i)
-]
-choose-one d ys xs goes i = Memᴰ·append-right (map (λ ys. 0 ∷ ys) (choices xs d)) (Memᴰ·map (λ ys. d ∷ ys) i)
+abbrev choiceAt : (ℕ → ℕ) → ℕ → ℕ → (ℕ → ℕ) → List (ℕ → ℕ)
+choiceAt place d q new = elim (eqb (place q) 0) [ true ↦ new ∷ put new q d ∷ [] | false ↦ new ∷ [] ]
 
-choose : (i c : ℕ) (f g : ℕ → ℕ) (d : ℕ) → ((j : ℕ) → i ≤ j → j < i + c → Moves d (f j) (g j)) → List·Memᴰ (tab i c g) (choices (tab i c f) d)
-choose i zero f g d s = List·Memᴰ·head refl
-choose i (suc c) f g d s = choose-one d (tab (suc i) c g) (tab (suc i) c f) (s i (omega arith) (omega arith)) (choose (suc i) c f g d (λ j a b. s j (omega arith) (omega arith)))
+-- one of the choices has these places
+record Choice (n : ℕ) (f g : ℕ → ℕ) (d : ℕ) : Type 0 where
+  new : ℕ → ℕ
+  in-choices : List·Memᴰ new (choices n f d)
+  below : (q : ℕ) → q < n → new q ≡ g q
+  rest : (q : ℕ) → n ≤ q → new q ≡ f q
 
-abbrev placed : List ℕ → Bool
-placed xs = every (λ x. not (eqb x 0)) xs
+choose-one : {x y : ℕ} (n : ℕ) (f g : ℕ → ℕ) (d : ℕ) → Moves d x y → x ≡ f n → y ≡ g n → Choice n f g d → Choice (suc n) f g d
+choose-one n f g d (stays {x = x}) a b c =
+    record {
+      new = c .new;
+      in-choices = in-each (choices n f d) (choiceAt f d n) (c .in-choices) (first (eqb (f n) 0));
+      below = λ q l. elim (ℕ-discrete q n) [ yes e ↦ rw e (c .rest n (omega arith) ∙ sym a ∙ b) | no e ↦ c .below q (omega arith) ];
+      rest = λ q l. c .rest q (omega arith);
+    }
+  where
+    first : (b : Bool) → List·Memᴰ (c .new) (elim b [ true ↦ c .new ∷ put (c .new) n d ∷ [] | false ↦ c .new ∷ [] ])
+    first true = List·Memᴰ·head refl
+    first false = List·Memᴰ·head refl
+choose-one n f g d goes a b c =
+    record {
+      new = put (c .new) n d;
+      in-choices = in-each (choices n f d) (choiceAt f d n) (c .in-choices) (rw (eq-eqb (f n) 0 (sym a), choiceAt) (List·Memᴰ·tail (List·Memᴰ·head refl)));
+      below = λ q l. put-each (λ q x. x ≡ g q) (c .new) n d q b (λ e. c .below q (omega arith));
+      rest = λ q l. put-other (c .new) n d q (λ e. omega arith) ∙ c .rest q (omega arith);
+    }
 
-tab-placed : (i c : ℕ) (f : ℕ → ℕ) → ((j : ℕ) → i ≤ j → j < i + c → f j ≢ 0) → placed (tab i c f) ≡ true
-tab-placed i zero f s = refl
-tab-placed i (suc c) f s = rw (ne-eqb (f i) 0 (s i (omega arith) (omega arith)), every) (tab-placed (suc i) c f (λ j a b. s j (omega arith) (omega arith)))
+choose : (n : ℕ) (f g : ℕ → ℕ) (d : ℕ) → ((q : ℕ) → q < n → Moves d (f q) (g q)) → Choice n f g d
+choose zero f g d s = record { new = f; in-choices = List·Memᴰ·head refl; below = λ q l. absurd (omega arith); rest = λ q l. refl }
+choose (suc n) f g d s = choose-one n f g d (s n (omega arith)) refl refl (choose n f g d (λ q l. s q (omega arith)))
 
-tab-open : (i c : ℕ) (f : ℕ → ℕ) (j : ℕ) → i ≤ j → j < i + c → f j ≡ 0 → placed (tab i c f) ≡ false
-tab-open i zero f j a b e = absurd (omega arith)
-tab-open i (suc c) f j a b e = elim (ℕ-discrete (f i) 0) [
-  | yes d ↦ rw (eq-eqb (f i) 0 d, every)
-  | no d ↦ rw (ne-eqb (f i) 0 d, every) (tab-open (suc i) c f j (elim (ℕ-discrete j i) [ yes q ↦ absurd (d (ap f (sym q) ∙ e)) | no q ↦ omega arith ]) (omega arith) e)
-]
+-- and every choice leaves a place, or moves it to d
+chosen : (n : ℕ) (f : ℕ → ℕ) (d : ℕ) (new : ℕ → ℕ) → List·Memᴰ new (choices n f d) → (q : ℕ) → (new q ≡ f q) ⊎ (new q ≡ d)
+chosen zero f d new i q = inl (ap (λ (w : ℕ → ℕ). w q) (List·Memᴰ·eq-of-singleton i))
+chosen (suc n) f d new i q =
+    let r = each-in (choices n f d) (choiceAt f d n) i in
+    let old = chosen n f d (r .0) (r .1) q in
+    go (eqb (f n) 0) (r .0) old (r .2)
+  where
+    go : (b : Bool) (g : ℕ → ℕ) → (g q ≡ f q) ⊎ (g q ≡ d) → List·Memᴰ new (elim b [ true ↦ g ∷ put g n d ∷ [] | false ↦ g ∷ [] ]) → (new q ≡ f q) ⊎ (new q ≡ d)
+    go true g o i = ⊎-elim
+        (λ e. subst (λ (w : ℕ → ℕ). (w q ≡ f q) ⊎ (w q ≡ d)) (sym e) o)
+        (λ j. subst (λ (w : ℕ → ℕ). (w q ≡ f q) ⊎ (w q ≡ d)) (sym (List·Memᴰ·eq-of-singleton j)) (put-each (λ q x. (x ≡ f q) ⊎ (x ≡ d)) g n d q (inr refl) (λ e. o)))
+        (List·Memᴰ·cases-cons i)
+    go false g o i = subst (λ (w : ℕ → ℕ). (w q ≡ f q) ⊎ (w q ≡ d)) (sym (List·Memᴰ·eq-of-singleton i)) o
 
-tab-moved : (i c : ℕ) (f g : ℕ → ℕ) (j : ℕ) → i ≤ j → j < i + c → f j ≢ g j → T (moved (tab i c f) (tab i c g))
-tab-moved i zero f g j a b n = absurd (omega arith)
-tab-moved i (suc c) f g j a b n = elim (ℕ-discrete j i) [
-  | yes d ↦ or-left (not (eqb (f i) (g i))) (moved (tab (suc i) c f) (tab (suc i) c g)) (rw (ne-eqb (f i) (g i) (λ q. n (ap f d ∙ q ∙ sym (ap g d)))) tt)
-  | no d ↦ or-right (not (eqb (f i) (g i))) (moved (tab (suc i) c f) (tab (suc i) c g)) (tab-moved (suc i) c f g j (omega arith) (omega arith) n)
-]
+abbrev placed : Shape → (ℕ → ℕ) → Bool
+placed S place = allBelow (S .processes) (λ q. not (eqb (place q) 0))
 
 -- ---- the shape of an irreducible memory is among them
 
-abbrev pub freed : Shape → List Message → List Message
+same-label : (x y : Message) (p v : ℕ) → T (labelled x p v) → T (labelled y (x .process) (x .variable)) → T (labelled y p v)
+same-label x y p v t u = let d = labelled-is x p v t in subst₂ (λ (a c : ℕ). T (labelled y a c)) (d .0) (d .1) u
+
+abbrev freed : Shape → List Message → List Message
 freed S ms = map (λ (x : Message). anyMessage S (x .process) (x .variable)) ms
+
+freed-fill : {Val : ℕ → ℕ → Type 0} (S : Shape) → S .variables ≤ 4 → (xs : List Message) → ((i : ℕ) → 1 ≤ i → i ≤ length xs → MessageIn Val S (message xs i))
+    → FillChannel (freed S xs) xs
+freed-fill S four [] o = channel-nil
+freed-fill S four (x ∷ xs) o =
+    channel-cons (fill-any four (rw (message-new x xs) at (o (suc (length xs)) (omega arith) (omega arith))) (x .process) (x .variable) refl refl)
+    (freed-fill S four xs (λ i a b. rw (message-old x xs i b) at (o i a (omega arith))))
 
 module _ (S : Shape) (m : Memory) (g : Proper S m) (ir : Irreducible S m) where
   abbrev n : ℕ
@@ -97,109 +110,134 @@ module _ (S : Shape) (m : Memory) (g : Proper S m) (ir : Irreducible S m) where
   abbrev spot : ℕ → ℕ → ℕ
   spot k q = cond (ltb k (m .pointer q)) (suc n - m .pointer q) 0
 
-  abbrev pub spots : ℕ → List ℕ
-  spots k = tab 0 (S .processes) (spot k)
-
   spot-placed : (k q : ℕ) → k < m .pointer q → spot k q ≡ suc n - m .pointer q
   spot-placed k q l = rw (lt-ltb k (m .pointer q) l)
 
   spot-open : (k q : ℕ) → m .pointer q ≤ k → spot k q ≡ 0
   spot-open k q l = rw (le-ltb k (m .pointer q) l)
 
-  spot-moves : (k q : ℕ) → suc k ≤ n → Moves (suc (n - suc k)) (spot (suc k) q) (spot k q)
-  spot-moves k q l = elim (decLt (suc k) (m .pointer q)) [
-    | yes a ↦ subst₂ (Moves (suc (n - suc k))) (sym (spot-placed (suc k) q a)) (sym (spot-placed k q (omega arith))) stays
+  spot-moves : (k q d : ℕ) → d + suc k ≡ n → Moves (suc d) (spot (suc k) q) (spot k q)
+  spot-moves k q d l = elim (decLt (suc k) (m .pointer q)) [
+    | yes a ↦ subst₂ (Moves (suc d)) (sym (spot-placed (suc k) q a)) (sym (spot-placed k q (omega arith))) stays
     | no a ↦ elim (ℕ-discrete (m .pointer q) (suc k)) [
-      | yes d ↦ subst₂ (Moves (suc (n - suc k))) (sym (spot-open (suc k) q (omega arith))) (omega (arith, spot-placed k q (omega arith))) goes
-      | no d ↦ subst₂ (Moves (suc (n - suc k))) (sym (spot-open (suc k) q (omega arith))) (sym (spot-open k q (omega arith))) stays
+      | yes e ↦ subst₂ (Moves (suc d)) (sym (spot-open (suc k) q (omega arith))) (omega (arith, spot-placed k q (omega arith))) goes
+      | no e ↦ subst₂ (Moves (suc d)) (sym (spot-open (suc k) q (omega arith))) (sym (spot-open k q (omega arith))) stays
     ]
   ]
 
-  -- some process is not placed while a message is to come
-  waits : (k : ℕ) → 1 ≤ k → k ≤ n → placed (spots k) ≡ false
-  waits k a b =
-      let r = role-is S m k (ir k a b) in
-      tab-open 0 (S .processes) (spot k) (r .0) (omega arith) (omega (arith, r .1))
-      (spot-open k (r .0) (⊎-elim (λ e. omega arith) (λ s. omega (arith, s .2, is-last S m g (r .0) (s .0) (r .1) .low)) (r .2)))
+  -- the places of the processes are these
+  abbrev Spots : ℕ → (ℕ → ℕ) → Type 0
+  Spots k place = (q : ℕ) → q < S .processes → place q ≡ spot k q
 
-  done : placed (spots 0) ≡ true
-  done = tab-placed 0 (S .processes) (spot 0) (λ j a b e. omega (arith, e, spot-placed 0 j (g .low j (omega arith)), g .high j (omega arith)))
+  -- some process is not placed while a message is to come, and all are at the end
+  waits : (k : ℕ) (place : ℕ → ℕ) → Spots k place → 1 ≤ k → k ≤ n → placed S place ≡ false
+  waits k place s a b =
+      let r = role-is S m k (ir k a b) in
+      let low : m .pointer (r .0) ≤ k = ⊎-elim (λ e. omega arith) (λ w. omega (arith, w .2, is-last S m g (r .0) (w .0) (r .1) .low)) (r .2) in
+      T-false (placed S place) (not-T (placed S place) (λ t. eqb-no (all-yes (S .processes) (λ q. not (eqb (place q) 0)) t (r .0) (r .1)) (s (r .0) (r .1) ∙ spot-open k (r .0) low)))
+
+  done : (place : ℕ → ℕ) → Spots 0 place → placed S place ≡ true
+  done place s = T-true (placed S place) (yes-all (S .processes) (λ q. not (eqb (place q) 0))
+      (λ q l. no-eqb {a = place q} {b = 0} (λ e. omega (arith, e, s q l, spot-placed 0 q (g .low q l), g .high q l))))
 
   -- a label that is seen stands past k
   abbrev Seen : List Message → ℕ → Type 0
   Seen seen k = (p v : ℕ) → T (any (λ x. labelled x p v) seen) → (j : ℕ) × (k < j) × (j ≤ n) × T (labelled (message (m .channel) j) p v)
 
   seen-more : (x : Message) (seen : List Message) (k : ℕ) → suc k ≤ n → x ≡ message (m .channel) (suc k) → Seen seen (suc k) → Seen (anyMessage S (x .process) (x .variable) ∷ seen) k
-  seen-more x seen k l e sn p v t = go (labelled x p v) refl t
-    where
-      go : (b : Bool) → labelled x p v ≡ b → T (elim b [ true ↦ true | false ↦ any (λ y. labelled y p v) seen ]) → (j : ℕ) × (k < j) × (j ≤ n) × T (labelled (message (m .channel) j) p v)
-      go true q t = (suc k, omega arith, l, subst T (sym q ∙ ap (λ (y : Message). labelled y p v) e) tt)
-      go false q t = let w = sn p v t in (w .0, omega (arith, w .1), w .2, w .3)
+  seen-more x seen k l e sn p v t =
+      let N = any (λ y. labelled y p v) seen in
+      ⊎-elim (λ u. (suc k, omega arith, l, subst (λ (y : Message). T (labelled y p v)) e u)) (λ u. let w = sn p v u in (w .0, omega (arith, w .1), w .2, w .3))
+      (or-yes (labelled x p v) N (subst T (early-or (labelled x p v) N) t))
 
-  allow : (k : ℕ) (seen : List Message) → suc k ≤ n → Seen seen (suc k)
-      → T (allowed seen (spots (suc k)) (spots k) (message (m .channel) (suc k) .process) (message (m .channel) (suc k) .variable))
-  allow k seen b sn =
-      let x = message (m .channel) (suc k) in
-      let A = moved (spots (suc k)) (spots k) in
-      let N = any (λ y. labelled y (x .process) (x .variable)) seen in
-      let C = eqb (getD (spots (suc k)) (x .process) 1) 0 in
-      let r = role-is S m (suc k) (ir (suc k) (omega arith) b) in
-      let p = r .0 in
-      let here : m .pointer p ≡ suc k → T (A || (not N && C)) = λ e. or-left A (not N && C) (tab-moved 0 (S .processes) (spot (suc k)) (spot k) p (omega arith) (omega (arith, r .1))
-      (λ q. omega (arith, q, spot-open (suc k) p (omega arith), spot-placed k p (omega arith)))) in
-      ⊎-elim here
-      (λ s.
-      let l : IsLast (m .channel) (m .pointer p) p (s .0) (suc k) = subst (IsLast (m .channel) (m .pointer p) p (s .0)) (s .2) (is-last S m g p (s .0) (r .1)) in
-      ⊎-elim (λ e. here (sym e))
-      (λ t.
-      let d = labelled-is x p (s .0) t in
-      or-right A (not N && C) (yes-and (not N) C
-      (not-T N (λ y. let w = sn (x .process) (x .variable) y in l .free (w .0) (w .1) (w .2) (subst₂ (λ (a c : ℕ). T (labelled (message (m .channel) (w .0)) a c)) (d .0) (d .1) (w .3))))
-      (yes-eqb (ap (λ (i : ℕ). getD (spots (suc k)) i 1) (d .0) ∙ tab-at 0 (S .processes) (spot (suc k)) p 1 (r .1) ∙ ap (spot (suc k)) (omega arith) ∙ spot-open (suc k) p (l .low)))))
-      (l .hit))
-      (r .2)
+  module _ (k : ℕ) (seen : List Message) (place new : ℕ → ℕ) (b : suc k ≤ n) (sn : Seen seen (suc k)) (s : Spots (suc k) place) (s′ : Spots k new) where
+    abbrev x : Message
+    x = message (m .channel) (suc k)
 
-  abbrev Tail : List Message → Type 0
-  Tail xs = (i : ℕ) → 1 ≤ i → i ≤ length xs → message xs i ≡ message (m .channel) i
+    abbrev unmoved : Bool
+    unmoved = allBelow (S .processes) (λ q. eqb (new q) (place q))
 
-  outlined : (xs : List Message) (fuel : ℕ) (seen : List Message) → length xs < fuel → length xs ≤ n → Tail xs → Seen seen (length xs)
-      → List·Memᴰ (record { channel = freed S xs; places = spots 0 }) (outlines S fuel (n - length xs) seen (spots (length xs)))
-  outlined xs zero seen lf le tl sn = absurd (omega arith)
-  outlined [] (suc fuel) seen lf le tl sn = rw (done, outlines) (List·Memᴰ·head refl)
-  outlined (x ∷ xs) (suc fuel) seen lf le tl sn =
+    abbrev isSeen : Bool
+    isSeen = any (λ y. labelled y (x .process) (x .variable)) seen
+
+    abbrev Allowed : Type 0
+    Allowed = T (not unmoved || (not isSeen && eqb (place (x .process)) 0))
+
+    by-pointer : (p : ℕ) → p < S .processes → m .pointer p ≡ suc k → Allowed
+    by-pointer p pe e = or-left (not unmoved) (not isSeen && eqb (place (x .process)) 0) (not-T unmoved (λ t.
+        let q = eqb→eq (new p) (place p) (all-yes (S .processes) (λ q. eqb (new q) (place q)) t p pe) in
+        omega (arith, s p pe, s′ p pe, spot-open (suc k) p (omega arith), spot-placed k p (omega arith))))
+
+    by-last : (p v : ℕ) → p < S .processes → IsLast (m .channel) (m .pointer p) p v (suc k) → Allowed
+    by-last p v pe l = ⊎-elim (λ e. by-pointer p pe (sym e))
+        (λ t. or-right (not unmoved) (not isSeen && eqb (place (x .process)) 0) (yes-and (not isSeen) (eqb (place (x .process)) 0)
+        (not-T isSeen (λ y. let u = sn (x .process) (x .variable) y in l .free (u .0) (u .1) (u .2) (same-label x (message (m .channel) (u .0)) p v t (u .3))))
+        (yes-eqb (ap place (labelled-is x p v t .0) ∙ s p pe ∙ spot-open (suc k) p (l .low)))))
+        (l .hit)
+
+    allow : T (allowed S seen place new (x .process) (x .variable))
+    allow =
+        let r = role-is S m (suc k) (ir (suc k) (omega arith) b) in
+        ⊎-elim (by-pointer (r .0) (r .1)) (λ w. by-last (r .0) (w .0) (r .1) (subst (IsLast (m .channel) (m .pointer (r .0)) (r .0) (w .0)) (w .2) (is-last S m g (r .0) (w .0) (r .1)))) (r .2)
+
+  -- an outline with the labels of xs, and m's places
+  record Outlined (xs : List Message) (os : List Outline) : Type 0 where
+    place : ℕ → ℕ
+    in-outlines : List·Memᴰ (record { channel = freed S xs; place = place }) os
+    spots : Spots 0 place
+
+  outlined : (xs : List Message) (fuel d : ℕ) (seen : List Message) (place : ℕ → ℕ) → length xs < fuel → d + length xs ≡ n
+      → ((i : ℕ) → 1 ≤ i → i ≤ length xs → message xs i ≡ message (m .channel) i)
+      → Seen seen (length xs) → Spots (length xs) place → Outlined xs (outlines S fuel d seen place)
+  outlined xs zero d seen place lf le tl sn s = absurd (omega arith)
+  outlined [] (suc fuel) d seen place lf le tl sn s = record { place = place; in-outlines = rw (done place s, outlines) (List·Memᴰ·head refl); spots = s }
+  outlined (x ∷ xs) (suc fuel) d seen place lf le tl sn s =
       let k = length xs in
       let e : x ≡ message (m .channel) (suc k) = sym (message-new x xs) ∙ tl (suc k) (omega arith) (omega arith) in
       let y = anyMessage S (x .process) (x .variable) in
-      let o : Outline = record { channel = freed S xs; places = spots 0 } in
-      let d : n - k ≡ suc (n - suc k) = omega arith in
-      let ih : List·Memᴰ o (outlines S fuel (suc (n - suc k)) (y ∷ seen) (spots k)) =
-      rw d at (outlined xs fuel (y ∷ seen) (omega arith) (omega arith) (λ i a b. sym (message-old x xs i b) ∙ tl i a (omega arith)) (seen-more x seen k le e sn)) in
-      let al : T (allowed seen (spots (suc k)) (spots k) (x .process) (x .variable)) = subst (λ (w : Message). T (allowed seen (spots (suc k)) (spots k) (w .process) (w .variable))) (sym e) (allow k seen le sn) in
-      rw (waits (suc k) (omega arith) le, outlines)
-      (in-below (S .processes) _ (x .process) (rw e (g .process (suc k) (omega arith) le)) (in-below (S .variables) _ (x .variable) (rw e (g .variable (suc k) (omega arith) le))
-      (in-each (choices (spots (suc k)) (suc (n - suc k))) _ (choose 0 (S .processes) (spot (suc k)) (spot k) (suc (n - suc k)) (λ j a b. spot-moves k j le))
-      (rw (T-true (allowed seen (spots (suc k)) (spots k) (x .process) (x .variable)) al) (Memᴰ·map (λ (s : Outline). record { channel = y ∷ s .channel; places = s .places }) ih)))))
+      let c = choose (S .processes) place (spot k) (suc d) (λ q l. subst (λ (i : ℕ). Moves (suc d) i (spot k q)) (sym (s q l)) (spot-moves k q d le)) in
+      let ih = outlined xs fuel (suc d) (y ∷ seen) (c .new) (omega arith) (omega arith) (λ i a b. sym (message-old x xs i b) ∙ tl i a (omega arith))
+      (seen-more x seen k (omega arith) e sn) (c .below) in
+      let al : T (allowed S seen place (c .new) (x .process) (x .variable)) =
+      subst (λ (w : Message). T (allowed S seen place (c .new) (w .process) (w .variable))) (sym e) (allow k seen place (c .new) (omega arith) sn s (c .below)) in
+      record {
+        place = ih .place;
+        in-outlines = rw (waits (suc k) place s (omega arith) (omega arith), outlines)
+            (in-below (S .processes) _ (x .process) (rw e (g .process (suc k) (omega arith) (omega arith)))
+            (in-below (S .variables) _ (x .variable) (rw e (g .variable (suc k) (omega arith) (omega arith)))
+            (in-each (choices (S .processes) place (suc d)) _ (c .in-choices)
+            (rw (T-true (allowed S seen place (c .new) (x .process) (x .variable)) al)
+            (Memᴰ·map (λ (o : Outline). record { channel = y ∷ o .channel; place = o .place }) (ih .in-outlines))))));
+        spots = ih .spots;
+      }
 
-  -- the outline of m
-  abbrev pub outline : Outline
-  outline = record { channel = freed S (m .channel); places = spots 0 }
+  -- the shape that m fills
+  pub record ShapeOf : Type 0 where
+    pub shape : Memory
+    pub in-shapes : List·Memᴰ shape (memoryShapes S)
+    pub fill : FillChannel (shape .channel) (m .channel)
+    pub pointer : shape .pointer ≡ m .pointer
 
-  pub outline-in : (fuel : ℕ) → n < fuel → List·Memᴰ outline (outlines S fuel 0 [] (replicate (S .processes) 0))
-  outline-in fuel l =
-      subst₂ (λ (d : ℕ) (w : List ℕ). List·Memᴰ outline (outlines S fuel d [] w)) (omega arith) (sym (tab-zeros 0 (S .processes) (spot n) (λ j a b. spot-open n j (g .high j (omega arith)))))
-      (outlined (m .channel) fuel [] l (omega arith) (λ i a b. refl) (λ p v t. absurd t))
-
-  -- its pointers are m's
-  pub outline-pointer : ((q : ℕ) → S .processes ≤ q → m .pointer q ≡ 0) → (q : ℕ) → outlineMemory outline .pointer q ≡ m .pointer q
-  outline-pointer absent q =
-      let c = length-map (m .channel) (λ (x : Message). anyMessage S (x .process) (x .variable)) in
-      let d = suc (length (freed S (m .channel))) in
-      elim (decLt q (S .processes)) [
-        | yes a ↦
-            let zero-plus : 0 + q ≡ q = omega arith in
-            omega (arith, tab-at 0 (S .processes) (spot 0) q d a, ap (spot 0) zero-plus, spot-placed 0 q (g .low q a), g .high q a)
-        | no a ↦ omega (arith, List·getD-eq-default (spots 0) d {n = q} (omega (arith, tab-length 0 (S .processes) (spot 0))), absent q (omega arith))
-      ]
+  pub shape-of : {Val : ℕ → ℕ → Type 0} → MemoryIn Val S m → S .variables ≤ 4 → length (m .channel) ≤ longest S → ShapeOf
+  shape-of om four l =
+      let r = outlined (m .channel) (suc (longest S)) 0 [] (λ q. 0) (omega arith) (omega arith) (λ i a b. refl) (λ p v t. absurd t) (λ q e. sym (spot-open n q (g .high q e))) in
+      let o : Outline = record { channel = freed S (m .channel); place = r .place } in
+      record {
+        shape = outlineMemory S o;
+        in-shapes = Memᴰ·map (outlineMemory S) (r .in-outlines);
+        fill = freed-fill S four (m .channel) (om .messages);
+        pointer = fun-ext (λ q. elim (decLt q (S .processes)) [
+          | yes e ↦ rw (lt-ltb q (S .processes) e) (omega (
+            arith,
+            r .spots q e,
+            spot-placed 0 q (g .low q e),
+            g .high q e,
+            length-map (m .channel)
+                (λ (x : Message). anyMessage S (x .process) (x .variable)),
+          ))
+          | no e ↦ rw (le-ltb q (S .processes) (omega arith)) (sym (om .absent q (omega arith)))
+        ]);
+      }
 
 -- ---- each message uses up a pointer or a LastWrite
 
@@ -242,102 +280,72 @@ irreducible-short S m ir =
 
 -- ---- what is made is in order
 
--- what choices leave of places
-record Chosen (xs : List ℕ) (d : ℕ) (ys : List ℕ) : Type 0 where
-  same : length ys ≡ length xs
-  each : (q : ℕ) → (getD ys q 0 ≡ getD xs q 0) ⊎ (getD ys q 0 ≡ d)
-
-chosen-cons : (x : ℕ) (xs : List ℕ) (d y : ℕ) (ys : List ℕ) → (y ≡ x) ⊎ (y ≡ d) → Chosen xs d ys → Chosen (x ∷ xs) d (y ∷ ys)
-chosen-cons x xs d y ys o c = record { same = ap suc (c .same); each = elim [ zero ↦ o | suc q ↦ c .each q ] }
-
-chosen : (xs : List ℕ) (d : ℕ) (zs : List ℕ) → List·Memᴰ zs (choices xs d) → Chosen xs d zs
-chosen [] d zs i = rw (List·Memᴰ·eq-of-singleton i) (record { same = refl; each = λ q. inl refl })
-chosen (x ∷ xs) d zs i = go (chosen xs d) (eqb x 0) refl i
-  where
-    put : (y : ℕ) → (y ≡ x) ⊎ (y ≡ d) → ((ys : List ℕ) → List·Memᴰ ys (choices xs d) → Chosen xs d ys) → List·Memᴰ zs (map (λ ys. y ∷ ys) (choices xs d)) → Chosen (x ∷ xs) d zs
-    put y o ih j = let r = Memᴰ·of-map (λ ys. y ∷ ys) (choices xs d) j in subst (Chosen (x ∷ xs) d) (r .2) (chosen-cons x xs d y (r .0) o (ih (r .0) (r .1)))
-
-    go : ((ys : List ℕ) → List·Memᴰ ys (choices xs d) → Chosen xs d ys) → (b : Bool) → eqb x 0 ≡ b
-        → List·Memᴰ zs (elim b [ true ↦ map (λ ys. 0 ∷ ys) (choices xs d) ++ map (λ ys. d ∷ ys) (choices xs d) | false ↦ map (λ ys. x ∷ ys) (choices xs d) ]) → Chosen (x ∷ xs) d zs
-    go ih true e i = ⊎-elim (put 0 (inl (sym (eqb-true x 0 e))) ih) (put d (inr refl) ih) (List·Memᴰ·append-cases (map (λ ys. 0 ∷ ys) (choices xs d)) i)
-    go ih false e i = put x (inl refl) ih i
-
-placed-each : (xs : List ℕ) → T (placed xs) → (q : ℕ) → q < length xs → 1 ≤ getD xs q 0
-placed-each [] t q l = absurd (omega arith)
-placed-each (x ∷ xs) t q l = go (placed-each xs) (eqb x 0) refl t q l
-  where
-    go : (T (placed xs) → (q : ℕ) → q < length xs → 1 ≤ getD xs q 0) → (b : Bool) → eqb x 0 ≡ b → T (elim (not b) [ true ↦ placed xs | false ↦ false ]) → (q : ℕ) → q < suc (length xs) → 1 ≤ getD (x ∷ xs) q 0
-    go ih true e t q l = absurd t
-    go ih false e t zero l = omega (arith, eqb-false x 0 e)
-    go ih false e t (suc q) l = ih t q (omega arith)
-
 module _ (S : Shape) (R : ShapeInRange S) where
   record Made (d : ℕ) (o : Outline) : Type 0 where
     messages : (i : ℕ) → 1 ≤ i → i ≤ length (o .channel) → MessageIn (ValueOrFF S) S (message (o .channel) i)
-    size : length (o .places) ≡ S .processes
-    low : (q : ℕ) → q < S .processes → 1 ≤ getD (o .places) q 0
-    high : (q : ℕ) → q < S .processes → getD (o .places) q 0 ≤ d + length (o .channel)
+    low : (q : ℕ) → q < S .processes → 1 ≤ o .place q
+    high : (q : ℕ) → q < S .processes → o .place q ≤ d + length (o .channel)
 
-  made-one : (d p v : ℕ) → p < S .processes → v < S .variables → (o : Outline) → Made (suc d) o → Made d (record { channel = anyMessage S p v ∷ o .channel; places = o .places })
+  abbrev longer : ℕ → ℕ → Outline → Outline
+  longer p v o = record { channel = anyMessage S p v ∷ o .channel; place = o .place }
+
+  made-one : (d p v : ℕ) → p < S .processes → v < S .variables → (o : Outline) → Made (suc d) o → Made d (longer p v o)
   made-one d p v pe ve o r =
       record {
         messages = λ i a b. message-each (MessageIn (ValueOrFF S) S) (anyMessage S p v) (o .channel) i b (message-any S (R .variables) p v pe ve) (r .messages i a);
-        size = r .size;
         low = r .low;
         high = λ q e. omega (arith, r .high q e);
       }
 
-  abbrev longer : ℕ → ℕ → Outline → Outline
-  longer p v o = record { channel = anyMessage S p v ∷ o .channel; places = o .places }
+  -- what is made of these is in order
+  abbrev AllMade : ℕ → ℕ → Type 0
+  AllMade fuel d = (seen : List Message) (place : ℕ → ℕ) (o : Outline) → ((q : ℕ) → q < S .processes → place q ≤ d) → List·Memᴰ o (outlines S fuel d seen place) → Made d o
 
-  made : (fuel d : ℕ) (seen : List Message) (places : List ℕ) (o : Outline) → length places ≡ S .processes → ((q : ℕ) → q < S .processes → getD places q 0 ≤ d)
-      → List·Memᴰ o (outlines S fuel d seen places) → Made d o
-  made zero d seen places o l h i = absurd (List·Memᴰ·not-nil i)
-  made (suc fuel) d seen places o l h i = go (made fuel) (placed places) refl i
+  made : (fuel d : ℕ) → AllMade fuel d
+  made zero d seen place o h i = absurd (List·Memᴰ·not-nil i)
+  made (suc fuel) d seen place o h i = go (made fuel (suc d)) (placed S place) refl i
     where
-      further : ((d : ℕ) (seen : List Message) (places : List ℕ) (o : Outline) → length places ≡ S .processes → ((q : ℕ) → q < S .processes → getD places q 0 ≤ d) → List·Memᴰ o (outlines S fuel d seen places) → Made d o)
-          → (p v : ℕ) → p < S .processes → v < S .variables → (new : List ℕ) → Chosen places (suc d) new → (b : Bool)
+      body : ℕ → ℕ → (ℕ → ℕ) → List Outline
+      body p v new = elim (allowed S seen place new p v) [ true ↦ map (longer p v) (outlines S fuel (suc d) (anyMessage S p v ∷ seen) new) | false ↦ [] ]
+
+      further : AllMade fuel (suc d) → (p v : ℕ) → p < S .processes → v < S .variables → (new : ℕ → ℕ) → List·Memᴰ new (choices (S .processes) place (suc d)) → (b : Bool)
           → List·Memᴰ o (elim b [ true ↦ map (longer p v) (outlines S fuel (suc d) (anyMessage S p v ∷ seen) new) | false ↦ [] ]) → Made d o
       further ih p v pe ve new c true i =
           let r = Memᴰ·of-map (longer p v) (outlines S fuel (suc d) (anyMessage S p v ∷ seen) new) i in
-          subst (Made d) (r .2) (made-one d p v pe ve (r .0) (ih (suc d) (anyMessage S p v ∷ seen) new (r .0) (c .same ∙ l)
-          (λ q e. ⊎-elim (λ x. omega (arith, x, h q e)) (λ x. omega (arith, x)) (c .each q)) (r .1)))
+          subst (Made d) (r .2) (made-one d p v pe ve (r .0) (ih (anyMessage S p v ∷ seen) new (r .0)
+          (λ q e. ⊎-elim (λ x. omega (arith, x, h q e)) (λ x. omega (arith, x)) (chosen (S .processes) place (suc d) new c q)) (r .1)))
       further ih p v pe ve new c false i = absurd (List·Memᴰ·not-nil i)
 
-      body : ℕ → ℕ → List ℕ → List Outline
-      body p v new = elim (allowed seen places new p v) [ true ↦ map (longer p v) (outlines S fuel (suc d) (anyMessage S p v ∷ seen) new) | false ↦ [] ]
-
-      go : ((d : ℕ) (seen : List Message) (places : List ℕ) (o : Outline) → length places ≡ S .processes → ((q : ℕ) → q < S .processes → getD places q 0 ≤ d) → List·Memᴰ o (outlines S fuel d seen places) → Made d o)
-          → (b : Bool) → placed places ≡ b
-          → List·Memᴰ o (elim b [ true ↦ record { channel = []; places = places } ∷ [] | false ↦ forBelow (S .processes) (λ p. forBelow (S .variables) (λ v. forEach (choices places (suc d)) (body p v))) ]) → Made d o
+      go : AllMade fuel (suc d) → (b : Bool) → placed S place ≡ b
+          → List·Memᴰ o (elim b [
+            | true ↦ record { channel = []; place = place } ∷ []
+            | false ↦ forBelow (S .processes)
+                (λ p. forBelow (S .variables) (λ v. forEach (choices (S .processes) place (suc d)) (body p v)))
+          ]) → Made d o
       go ih true e i = rw (List·Memᴰ·eq-of-singleton i)
-          (record { messages = λ i a b. absurd (omega arith); size = l; low = λ q a. placed-each places (subst T (sym e) tt) q (omega arith); high = λ q a. omega (arith, h q a) })
+          (record {
+            messages = λ i a b. absurd (omega arith);
+            low = λ q a. let n = eqb-no {a = place q} {b = 0} (all-yes (S .processes) (λ q. not (eqb (place q) 0)) (subst T (sym e) tt) q a) in omega (arith, n);
+            high = λ q a. omega (arith, h q a);
+          })
       go ih false e i =
-          let a = below-in (S .processes) (λ p. forBelow (S .variables) (λ v. forEach (choices places (suc d)) (body p v))) i in
-          let b = below-in (S .variables) (λ v. forEach (choices places (suc d)) (body (a .0) v)) (a .2) in
-          let c = each-in (choices places (suc d)) (body (a .0) (b .0)) (b .2) in
-          further ih (a .0) (b .0) (a .1) (b .1) (c .0) (chosen places (suc d) (c .0) (c .1)) (allowed seen places (c .0) (a .0) (b .0)) (c .2)
+          let a = below-in (S .processes) (λ p. forBelow (S .variables) (λ v. forEach (choices (S .processes) place (suc d)) (body p v))) i in
+          let b = below-in (S .variables) (λ v. forEach (choices (S .processes) place (suc d)) (body (a .0) v)) (a .2) in
+          let c = each-in (choices (S .processes) place (suc d)) (body (a .0) (b .0)) (b .2) in
+          further ih (a .0) (b .0) (a .1) (b .1) (c .0) (c .1) (allowed S seen place (c .0) (a .0) (b .0)) (c .2)
 
   pub memory-shape : (m : Memory) → List·Memᴰ m (memoryShapes S) → MemoryIn (ValueOrFF S) S m
   memory-shape m i =
-      let r = Memᴰ·of-map outlineMemory (outlines S (suc (longest S)) 0 [] (replicate (S .processes) 0)) i in
-      let o = r .0 in
-      let w = made (suc (longest S)) 0 [] (replicate (S .processes) 0) o (length-replicate (S .processes) 0) (λ q e. omega (arith, getD-replicate {A = ℕ} (S .processes) q 0 0 e)) (r .1) in
-      let n = suc (length (o .channel)) in
-      let at : (q : ℕ) → q < S .processes → getD (o .places) q n ≡ getD (o .places) q 0 = λ q e. default (o .places) q n 0 (omega (arith, w .size)) in
+      let r = Memᴰ·of-map (outlineMemory S) (outlines S (suc (longest S)) 0 [] (λ q. 0)) i in
+      let w = made (suc (longest S)) 0 [] (λ q. 0) (r .0) (λ q e. omega arith) (r .1) in
       subst (MemoryIn (ValueOrFF S) S) (r .2)
       (record {
         some = omega (arith, w .low 0 (R .someProcess), w .high 0 (R .someProcess));
-        low = λ q e. omega (arith, at q e, w .low q e, w .high q e);
-        high = λ q e. omega (arith, at q e, w .low q e, w .high q e);
+        low = λ q e. rw (lt-ltb q (S .processes) e) (omega (arith, w .low q e, w .high q e));
+        high = λ q e. rw (lt-ltb q (S .processes) e) (omega (arith, w .low q e, w .high q e));
         messages = w .messages;
-        absent = λ q l. omega (arith, List·getD-eq-default (o .places) n {n = q} (omega (arith, w .size)));
+        absent = λ q l. rw (le-ltb q (S .processes) l);
       })
-    where
-      default : (xs : List ℕ) (q a b : ℕ) → q < length xs → getD xs q a ≡ getD xs q b
-      default [] q a b l = absurd (omega arith)
-      default (x ∷ xs) zero a b l = refl
-      default (x ∷ xs) (suc q) a b l = default xs q a b (omega arith)
 
 -- ---- queues
 
@@ -416,10 +424,3 @@ module _ (S : Shape) where
   queues-shape (suc n) q l i =
       let r = each-in (queueShapes n (S .variables)) (rowShapes n (S .variables)) i in
       rows-in n (S .variables) (r .0) q l (omega arith) (queues-shape n (r .0) (omega arith) (r .1)) (r .2)
-
--- what fills the channel of a shape
-pub freed-fill : {Val : ℕ → ℕ → Type 0} (S : Shape) → S .variables ≤ 4 → (xs : List Message) → ((i : ℕ) → 1 ≤ i → i ≤ length xs → MessageIn Val S (message xs i)) → FillChannel (freed S xs) xs
-freed-fill S four [] o = channel-nil
-freed-fill S four (x ∷ xs) o =
-    channel-cons (fill-any four (rw (message-new x xs) at (o (suc (length xs)) (omega arith) (omega arith))) (x .process) (x .variable) refl refl)
-    (freed-fill S four xs (λ i a b. rw (message-old x xs i b) at (o i a (omega arith))))

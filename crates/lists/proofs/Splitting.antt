@@ -13,10 +13,10 @@ use lib.Dec.{T, eqb}
 use borrow.Author.Tests.{eqb-true, eqb-false}
 use Rattle.pws.specs.declared.Message.{Message}
 use Rattle.pws.specs.Program.{Shape, ShapeInRange}
-use Rattle.pws.specs.Machine.{Memory, Configuration, putQueue, message, allBelow}
-use Rattle.pws.specs.Configurations.{All, MessageIn, Fits, ValueOf}
+use Rattle.pws.specs.Machine.{Configuration, putQueue, message, allBelow}
+use Rattle.pws.specs.Configurations.{All, Fits, ValueOf}
 use Rattle.pws.specs.Entries.{FF, ValueOrFF, Fill, FillValues, filled, Filling, AboveList, noEntry, entry}
-use Rattle.pws.specs.Tagged.{roles, isLive, taggedFrom, tagged}
+use Rattle.pws.specs.Tagged.{roles, isLive, taggedFrom}
 use Rattle.pws.proofs.Facts.{T-or-not, putQueue-same, putQueue-each, message-old, message-new}
 use Rattle.pws.proofs.Steps.{queues-put}
 use Rattle.pws.proofs.Cases.{all-yes}
@@ -29,9 +29,9 @@ use Rattle.lists.specs.Decision.{heldAt, held}
 use Rattle.lists.proofs.Lists.{in-below, below-in, any-number, number-any, all-no}
 use Rattle.lists.proofs.Fillings.{yes-fills, alike-value, fill-length, fill-put, fill-unput, channel-length, some-filling}
 use Rattle.lists.proofs.Queues.{unput-left}
-use Rattle.lists.proofs.Over.{channel-set, channel-unset}
-use Rattle.lists.proofs.Cubes.{memory-set, set-length, set-same, set-other}
-use Rattle.lists.proofs.Matching.{Pointwise, none-left, one-more, SameTag, OneForOne, match-change, matches-exact, covers, meets}
+use Rattle.lists.proofs.Cubes.{channel-set, channel-unset, memory-set, set-length, set-same, set-other}
+use Rattle.lists.proofs.Matching.{Pointwise, none-left, one-more, SameTag, match-change, matches-exact}
+use Rattle.lists.proofs.Covering.{covers, meets}
 
 -- ---- places
 
@@ -69,7 +69,8 @@ module _ (S : Shape) (c : Configuration) where
         x,
         all-at (ValueOf S v) (qs p v) j (omega (arith, w .2, fill-length r)) (F .fits .queues .values p v (w .0) (w .1)),
         record {
-          queues = λ q u a b. putQueue-each (c .queue) p v (set (c .queue p v) j x) (λ q u zs. FillValues (c .queue q u) (qs q u) → FillValues zs (qs q u)) q u (λ y. fill-put j x r refl) (λ n y. y) (F .queues q u a b);
+          queues = λ q u a b. putQueue-each (c .queue) p v (set (c .queue p v) j x) (λ q u zs. FillValues (c .queue q u) (qs q u) → FillValues zs (qs q u)) q u
+              (λ y. fill-put j x r refl) (λ n y. y) (F .queues q u a b);
           channel = F .channel;
           fits = F .fits;
         },
@@ -140,7 +141,8 @@ module _ (S : Shape) (c : Configuration) where
     | yes d ↦
         let m = message (c .memory .channel) i in
         let l : v < length (m .snapshot) = omega (arith, o .memory .messages i (w .0) (w .1) .room, w .2) in
-        let r = set-free (m .snapshot) v x u n l (ap (λ (y : Message). getD (y .snapshot) u 0) (sym (set-same (c .memory .channel) i v x (w .0) (w .1)) ∙ ap (message (setValue (c .memory .channel) i v x)) (sym d)) ∙ e) in
+        let r = set-free (m .snapshot) v x u n l (ap (λ (y : Message). getD (y .snapshot) u 0)
+        (sym (set-same (c .memory .channel) i v x (w .0) (w .1)) ∙ ap (message (setValue (c .memory .channel) i v x)) (sym d)) ∙ e) in
         (ap (λ (y : ℕ). getD (message (c .memory .channel) y .snapshot) u 0) d ∙ r .0, λ y. r .1 (cc))
     | no d ↦ (ap (λ (y : Message). getD (y .snapshot) u 0) (sym (set-other (c .memory .channel) i v x k d)) ∙ e, λ y. d (cc))
   ]
@@ -273,7 +275,8 @@ module _ (S : Shape) (R : ShapeInRange S) (es : List Configuration) (oes : (k : 
         small (inMessage i v) w = R .values v (w .2)
 
     at-parts : at c a ≡ FF → (b : Bool) → parts ≡ b → Decided S es c b
-    at-parts e true q = is-held (split-held S c es a here e .1 (λ x l. decided-yes (part e x l) (all-yes (S .values (variableOf a)) (λ x. heldAt S es rest (split c a x)) (subst T (sym q) tt) x l)))
+    at-parts e true q = is-held (split-held S c es a here e .1 (λ x l. decided-yes (part e x l)
+        (all-yes (S .values (variableOf a)) (λ x. heldAt S es rest (split c a x)) (subst T (sym q) tt) x l)))
     at-parts e false q =
         let r = all-no (S .values (variableOf a)) (λ x. heldAt S es rest (split c a x)) (subst (λ (b : Bool). T (not b)) (sym q) tt) in
         is-outside (split-outside S c es a here e (r .0) (decided-no (part e (r .0) (r .1)) (r .2)))
@@ -292,7 +295,11 @@ module _ (S : Shape) (R : ShapeInRange S) (es : List Configuration) (oes : (k : 
     at-met false q = is-outside (unmet-outside c o (λ t. subst T q t))
 
     at-cover : (b : Bool) → any (λ e. matches S fills e c) es ≡ b
-        → Decided S es c (elim b [ true ↦ true | false ↦ elim (any (λ e. matches S alike e c) es) [ true ↦ elim (eqb (at c a) FF) [ true ↦ parts | false ↦ heldAt S es rest c ] | false ↦ false ] ])
+        → Decided S es c (elim b [
+          | true ↦ true
+          | false ↦ elim (any (λ e. matches S alike e c) es)
+              [ true ↦ elim (eqb (at c a) FF) [ true ↦ parts | false ↦ heldAt S es rest c ] | false ↦ false ]
+        ])
     at-cover true q = is-held (covered-held c (subst T (sym q) tt))
     at-cover false q = at-met (any (λ e. matches S alike e c) es) refl
 

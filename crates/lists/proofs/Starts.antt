@@ -1,33 +1,33 @@
 -- Number 10: a start is above an entry exactly when the entry looks started (theory, section 4). Some pointer of the entry is 1.
-use Prim.Native.Nat.{ℕ, zero, suc, _<_, _≤_}
+use Prim.Native.Nat.{ℕ, _<_, _≤_}
 use mathlib.Core.Path.{_≡_, refl, sym, ap, subst, _∙_}
-use mathlib.Core.Logic.{_⊎_, inl, inr, ⊎-elim, _↔_}
-use mathlib.Core.Bool.{Bool, true, false, cond, _&&_}
+use mathlib.Core.Logic.{inr, _↔_}
+use mathlib.Core.Bool.{Bool, _&&_}
 use mathlib.Core.List.{List, [], _∷_}
 use native.Mathlib.Omega.{arith}
 use native.Mathlib.Decide.{decLe, decLt}
 use lib.ListN.{length, getD}
 use lib.Dec.{T, eqb}
-use borrow.Author.Tests.{lt-ltb}
 use mir.Facts.{and-yes, yes-and, yes-eqb, eqb-yes}
 use Rattle.pws.specs.declared.Message.{Message}
 use Rattle.pws.specs.Program.{Shape, Program, ProgramInRange}
 use Rattle.pws.specs.Machine.{Memory, Configuration, message, isEmpty, allBelow, noneWaiting}
-use Rattle.pws.specs.Configurations.{Start, startWith, inTarget}
-use Rattle.pws.specs.Order.{Live, Maps}
-use Rattle.pws.specs.Entries.{EntryOf, Fill, FillValues, values-nil, Above}
+use Rattle.pws.specs.Configurations.{startWith, inTarget}
+use Rattle.pws.specs.Order.{Live}
+use Rattle.pws.specs.Entries.{EntryOf, Fill, values-nil}
 use Rattle.pws.proofs.Queues.{queue-to, queued-empty}
 use Rattle.pws.proofs.Preorder.{maps-refl, queue-refl}
 use Rattle.pws.proofs.Insertion.{maps-right}
 use Rattle.pws.proofs.Starts.{start-exists}
 use Rattle.pws.proofs.Cases.{all-yes}
+use Rattle.lists.specs.Cubes.{memoryOf}
 use Rattle.lists.specs.Values.{fills}
 use Rattle.lists.specs.Verdict.{NoStartAbove, StartAbove}
 use Rattle.lists.specs.Decision.{looksStarted}
 use Rattle.lists.proofs.Lists.{yes-all}
 use Rattle.lists.proofs.Fillings.{fills-yes, yes-fills, fill-at, fill-each, channel-length, channel-at, channel-each}
 use Rattle.lists.proofs.Queues.{fill-empty}
-use Rattle.lists.proofs.Over.{above-over}
+use Rattle.lists.proofs.Covering.{above-over}
 
 -- what the test says
 record Looks (P : Program) (e : Configuration) : Type 0 where
@@ -57,7 +57,8 @@ looks P e =
             values = λ v b. fills-yes (value v) 0 (all-yes (S .variables) (λ v. fills (value v) 0) (z .1) v b);
           },
       λ l. yes-and (A && B) (C && D)
-          (yes-and A B (yes-all (S .processes) states (λ p a. yes-eqb (l .states p a))) (yes-all (S .processes) (noneWaiting S e) (λ p a. yes-all (S .variables) (empty p) (λ v b. l .queues p v a b))))
+          (yes-and A B (yes-all (S .processes) states (λ p a. yes-eqb (l .states p a)))
+          (yes-all (S .processes) (noneWaiting S e) (λ p a. yes-all (S .variables) (empty p) (λ v b. l .queues p v a b))))
           (yes-and C D (yes-eqb (l .one)) (yes-all (S .variables) (λ v. fills (value v) 0) (λ v b. yes-fills (value v) 0 (l .values v b)))),
     )
 
@@ -74,7 +75,7 @@ module _ (P : Program) (R : ProgramInRange P) (e : Configuration) (oe : EntryOf 
       let c = a .configuration in
       let s = a .start in
       let A = a .above in
-      let f : Memory = record { channel = A .channel; pointer = e .memory .pointer } in
+      let f : Memory = memoryOf (A .channel) (e .memory .pointer) in
       let some : 1 ≤ length (A .channel) = A .filling .fits .memory .some in
       let live : (i : ℕ) → 1 ≤ i → i ≤ length (A .channel) → Live S f i = λ i l m. record { who = q; exists = qe; from = omega arith; upto = m } in
       let to : (i : ℕ) → Live S f i → A .below .h i ≡ 1 = λ i l. let r = A .below .maps .lands i l in omega (arith, r .from, r .upto, s .pointers (r .who) (r .exists), s .one) in
@@ -98,27 +99,29 @@ module _ (P : Program) (R : ProgramInRange P) (e : Configuration) (oe : EntryOf 
       let c = startWith P (m .process) (m .variable) in
       let s = start-exists P R (m .process) (m .variable) (o .process) (o .variable) in
       let z = e .memory .pointer in
-      let k : Memory = record { channel = c .memory .channel; pointer = z } in
+      let k : Memory = memoryOf (c .memory .channel) z in
       record {
         configuration = c;
         start = s;
         above = above-over S (R .shape) e c (oe .fits) (s .configuration .fits) (λ p a. l .states p a ∙ sym (s .states p a))
             (record {
               queues = λ p v. [];
-              channel = c .memory .channel;
-              fillQueues = λ p v a b. rw (is-nil (e .queue p v) (l .queues p v a b)) values-nil;
-              fillChannel = channel-each (e .memory .channel) (c .memory .channel) (l .one) (λ i a b. let d : i ≡ 1 = omega (arith, l .one) in rw d
-                  (record {
-                    process = refl;
-                    variable = refl;
-                    snapshot = fill-each (m .snapshot) (0 ∷ 0 ∷ 0 ∷ 0 ∷ []) (o .room) (λ v b. elim (decLt v (S .variables)) [
-                      | yes w ↦ subst (Fill (getD (m .snapshot) v 0)) (sym (s .starting v w)) (l .values v w)
-                      | no w ↦ inr (o .absent v (omega arith) ∙ sym (s .configuration .fits .memory .messages 1 (omega arith) (omega arith) .absent v (omega arith)))
-                    ]);
-                  }));
+              fill = λ p v a b. rw (is-nil (e .queue p v) (l .queues p v a b)) values-nil;
               below = λ p v a b. queue-refl [];
-              h = λ i. i;
-              maps = maps-right S k (c .memory .pointer) (λ p a. omega (arith, oe .fits .memory .low p a, oe .fits .memory .high p a, l .one, s .pointers p a)) (maps-refl S k);
+              memory = record {
+                channel = c .memory .channel;
+                fill = channel-each (e .memory .channel) (c .memory .channel) (l .one) (λ i a b. let d : i ≡ 1 = omega (arith, l .one) in rw d
+                    (record {
+                      process = refl;
+                      variable = refl;
+                      snapshot = fill-each (m .snapshot) (0 ∷ 0 ∷ 0 ∷ 0 ∷ []) (o .room) (λ v b. elim (decLt v (S .variables)) [
+                        | yes w ↦ subst (Fill (getD (m .snapshot) v 0)) (sym (s .starting v w)) (l .values v w)
+                        | no w ↦ inr (o .absent v (omega arith) ∙ sym (s .configuration .fits .memory .messages 1 (omega arith) (omega arith) .absent v (omega arith)))
+                      ]);
+                    }));
+                h = λ i. i;
+                maps = maps-right S k (c .memory .pointer) (λ p a. omega (arith, oe .fits .memory .low p a, oe .fits .memory .high p a, l .one, s .pointers p a)) (maps-refl S k);
+              };
             });
       }
 

@@ -1,27 +1,24 @@
 -- T6: the configurations in a target are above the list exactly when the fillings of the irreducible shapes with its local states are.
-use Prim.Native.Nat.{ℕ, suc, _<_, _≤_}
-use mathlib.Core.Path.{_≡_, refl, sym, ap, subst, _∙_, fun-ext}
-use mathlib.Core.Logic.{_⊎_, inl, inr, ⊎-elim, _↔_}
-use mathlib.Core.Bool.{cond}
+use Prim.Native.Nat.{ℕ}
+use mathlib.Core.Path.{_≡_, refl, sym, ap, subst}
+use mathlib.Core.Logic.{inl, _↔_}
 use mathlib.Core.List.{List, [], _∷_, map, List·Memᴰ, Memᴰ·map, Memᴰ·of-map}
 use native.Mathlib.Omega.{arith}
-use native.Mathlib.Decide.{decLt}
-use lib.ListN.{length}
 use Rattle.pws.specs.declared.Message.{Message}
 use Rattle.pws.specs.Program.{Shape, Program, ProgramInRange}
 use Rattle.pws.specs.Machine.{Memory, Configuration}
-use Rattle.pws.specs.Configurations.{Fits, MemoryIn, ValueOf, StatesOf, ConfigurationOf, InTarget}
-use Rattle.pws.specs.Order.{Below, Maps}
-use Rattle.pws.specs.Entries.{FF, EntryOf, FillValues, values-nil, values-cons, filled, Filling}
+use Rattle.pws.specs.Configurations.{MemoryIn, ValueOf, StatesOf, InTarget}
+use Rattle.pws.specs.Order.{Maps}
+use Rattle.pws.specs.Entries.{EntryOf, FillValues, values-nil, values-cons, filled, Filling}
 use Rattle.pws.proofs.Facts.{proper}
 use Rattle.pws.proofs.Preorder.{list-up}
-use Rattle.pws.proofs.Dropping.{lastOnly, Smaller, smaller}
-use Rattle.lists.specs.Lists.{forEach}
+use Rattle.pws.proofs.Dropping.{lastOnly, smaller}
+use Rattle.lists.specs.Cubes.{memoryOf}
 use Rattle.lists.specs.Verdict.{TargetHeld}
 use Rattle.lists.specs.Covering.{Held}
-use Rattle.lists.specs.Shapes.{longest, outlineMemory, outlines, memoryShapes, queueShapes, shapeCubes}
+use Rattle.lists.specs.Shapes.{memoryShapes, queueShapes, shapeCubes}
 use Rattle.lists.proofs.Lists.{in-each, each-in}
-use Rattle.lists.proofs.Shapes.{freed, outline, outline-in, outline-pointer, irreducible-short, memory-shape, shapeOf, queue-shape, queues-shape, freed-fill}
+use Rattle.lists.proofs.Shapes.{shape-of, irreducible-short, memory-shape, shapeOf, queue-shape, queues-shape}
 
 fill-last : (xs : List ℕ) → FillValues (shapeOf xs) (lastOnly xs)
 fill-last [] = values-nil
@@ -62,30 +59,25 @@ module _ (P : Program) (R : ProgramInRange P) (t : ℕ → ℕ) where
         let w = smaller S 0 (R .shape .someProcess) c (o .fits) in
         let m = w .memory in
         let om = w .fits .memory in
-        let g = proper om in
-        let k = outlineMemory (outline S m g (w .irreducible)) in
-        let z : k .pointer ≡ m .pointer = fun-ext (outline-pointer S m g (w .irreducible) (om .absent)) in
+        let k = shape-of S m (proper om) (w .irreducible) om (R .shape .variables) (irreducible-short S m (w .irreducible)) in
+        let z = sym (k .pointer) in
         let q = queue-shape (c .queue) (S .processes) (S .variables) in
         let qs : ℕ → ℕ → List ℕ = λ p v. lastOnly (c .queue p v) in
-        let d = shapeWith k (q .0) in
-        let fits : Fits (ValueOf S) S (filled d qs (m .channel)) =
-        record { memory = subst (λ (y : ℕ → ℕ). MemoryIn (ValueOf S) S (record { channel = m .channel; pointer = y })) (sym z) om; queues = w .fits .queues } in
+        let d = shapeWith (k .shape) (q .0) in
         let F : Filling S d qs (m .channel) =
         record {
           queues = λ p v a b. rw (q .2 .exist p v a b) (fill-last (c .queue p v));
-          channel = freed-fill S (R .shape .variables) (m .channel) (om .messages);
-          fits = fits;
+          channel = k .fill;
+          fits = record { memory = subst (λ (y : ℕ → ℕ). MemoryIn (ValueOf S) S (memoryOf (m .channel) y)) z om; queues = w .fits .queues };
         } in
-        let B : Below S (filled d qs (m .channel)) c =
-        record {
+        list-up (H d (in-each (memoryShapes S) (λ m. map (shapeWith m) (queueShapes (S .processes) (S .variables))) (k .in-shapes) (Memᴰ·map (shapeWith (k .shape)) (q .1))) qs
+        (m .channel) F)
+        (record {
           states = λ p a. sym (e p a);
           queues = w .below .queues;
           h = w .below .h;
-          maps = subst (λ (y : ℕ → ℕ). Maps S (record { channel = m .channel; pointer = y }) (c .memory) (w .below .h)) (sym z) (w .below .maps);
-        } in
-        list-up (H d (in-each (memoryShapes S) (λ m. map (shapeWith m) (queueShapes (S .processes) (S .variables)))
-        (Memᴰ·map outlineMemory (outline-in S m g (w .irreducible) (suc (longest S)) (omega (arith, irreducible-short S m (w .irreducible))))) (Memᴰ·map (shapeWith k) (q .1)))
-        qs (m .channel) F) B
+          maps = subst (λ (y : ℕ → ℕ). Maps S (memoryOf (m .channel) y) (c .memory) (w .below .h)) z (w .below .maps);
+        })
 
     pub target-shapes : StatesOf P t → TargetHeld P es t ↔ ShapesHeld
     target-shapes o = (

@@ -1,9 +1,9 @@
 -- What maps to a memory after an update, or after a message is appended, and what then maps to the memory before (T7, in memory).
-use Prim.Native.Nat.{ℕ, zero, suc, _-_, _<_, _≤_, max}
-use mathlib.Core.Path.{_≡_, refl, sym, ap, subst, _∙_}
+use Prim.Native.Nat.{ℕ, suc, _-_, _<_, _≤_, max}
+use mathlib.Core.Path.{_≡_, refl, sym, ap, _∙_}
 use mathlib.Core.Logic.{_⊎_, inl, inr, ⊎-elim, _≢_}
 use mathlib.Core.Bool.{_&&_, not}
-use mathlib.Core.List.{List, [], _∷_}
+use mathlib.Core.List.{List, _∷_}
 use native.Mathlib.Omega.{arith}
 use native.Mathlib.Decide.{decLe, decLt, ℕ-discrete}
 use lib.ListN.{length}
@@ -13,10 +13,12 @@ use Rattle.pws.specs.declared.Message.{Message}
 use Rattle.pws.specs.Program.{Shape}
 use Rattle.pws.specs.Machine.{Memory, put, message, labelled, lastLabelled, lastWrite, copyWith, append, point}
 use Rattle.pws.specs.Order.{Live, Maps}
-use Rattle.pws.specs.Insertion.{insert, up, insertInto}
+use Rattle.pws.specs.Insertion.{up, insertInto}
 use Rattle.pws.proofs.Facts.{put-same, put-other, put-each, message-old, message-new, message-each, labelled-self, IsLast, last-eq, last-kept, Proper, is-last, live-last, live-pointer}
+use Rattle.pws.proofs.Tagged.{dec-live}
 use Rattle.pws.proofs.Moves.{maps-top}
-use Rattle.pws.proofs.Insertion.{Semi, Hit, semi-of, semi-le, semi-back, maps-hit, ins, up-low, proper-insert}
+use Rattle.pws.proofs.Insertion.{Hit, semi-of, semi-le, semi-back, maps-hit, ins, up-low, proper-insert}
+use Rattle.lists.specs.Cubes.{memoryOf}
 use Rattle.lists.proofs.Lists.{T-false}
 use Rattle.lists.proofs.Gaps.{Carries, Gap, place, via, Moved, semi-gap, hit-gap, hit-new}
 
@@ -32,8 +34,8 @@ proper-point {S} {m} g p k a b =
     }
 
 -- one message more
-pub proper-cons : {S : Shape} {ms : List Message} {z : ℕ → ℕ} (x : Message) → Proper S (record { channel = ms; pointer = z }) → x .process < S .processes → x .variable < S .variables
-    → Proper S (record { channel = x ∷ ms; pointer = z })
+pub proper-cons : {S : Shape} {ms : List Message} {z : ℕ → ℕ} (x : Message) → Proper S (memoryOf ms z) → x .process < S .processes → x .variable < S .variables
+    → Proper S (memoryOf (x ∷ ms) z)
 proper-cons {S} {ms} x g pe ve =
     record {
       low = g .low;
@@ -103,44 +105,36 @@ module _ (S : Shape) (f n : Memory) (gf : Proper S f) (gn : Proper S n) (p : ℕ
     | no d ↦ lift (lastWrite n q u) (record { at = lastWrite f q u; lives = live-last S f gf q u qe; hits = sym (other q u qe ue d) })
   ]
 
-  hit-low : (r : Hit S f h t) → (r .at ≡ k - 1) × (1 ≤ r .at)
-  hit-low r =
-      let i = r .at in
-      let l = r .lives in
-      let lo : 1 ≤ i = omega (arith, gf .low (l .who) (l .exists), l .from) in
-      let a : i < k = elim (decLt i k) [ yes b ↦ b | no b ↦ absurd (omega (arith, r .hits, at-k, semi-le S f (point n p (suc t)) gf gn′ h (semi-of M) k i live-k l (omega arith))) ] in
-      elim (ℕ-discrete i (k - 1)) [
-        | yes e ↦ (e, lo)
-        | no e ↦
-            let m : Live S f (k - 1) = record { who = l .who; exists = l .exists; from = omega (arith, l .from); upto = omega (arith, gf .high p pe) } in
-            absurd (omega (arith, r .hits, at-k, M .rises i (k - 1) l m (omega arith), M .rises (k - 1) k m live-k (omega arith)))
-      ]
-
-  back-lowered : Hit S f h t → UpdateBack S f n p
-  back-lowered r =
-      let e = hit-low r in
-      let at : h (k - 1) ≡ t = ap h (sym (e .0)) ∙ r .hits in
+  -- p's message is the image of the one before
+  back-lowered : Live S f (k - 1) → h (k - 1) ≡ t → UpdateBack S f n p
+  back-lowered l at =
       let m = point f p (k - 1) in
+      let lo : 1 ≤ k - 1 = omega (arith, gf .low (l .who) (l .exists), l .from) in
       let less : (q : ℕ) → put (f .pointer) p (k - 1) q ≤ f .pointer q = λ q. put-each (λ q z. z ≤ f .pointer q) (f .pointer) p (k - 1) q (omega arith) (λ d. omega arith) in
-      let wide : (i : ℕ) → Live S f i → Live S m i = λ i l. record { who = l .who; exists = l .exists; from = omega (arith, less (l .who), l .from); upto = l .upto } in
-      let narrow : (i : ℕ) → Live S m i → Live S f i = λ i l. elim (ℕ-discrete (l .who) p) [
-        | yes d ↦ record { who = r .lives .who; exists = r .lives .exists; from = omega (arith, r .lives .from, ap (put (f .pointer) p (k - 1)) d, put-same (f .pointer) p (k - 1), l .from); upto = l .upto }
-        | no d ↦ record { who = l .who; exists = l .exists; from = omega (arith, put-other (f .pointer) p (k - 1) (l .who) d, l .from); upto = l .upto }
+      let wide : (i : ℕ) → Live S f i → Live S m i = λ i y. record { who = y .who; exists = y .exists; from = omega (arith, less (y .who), y .from); upto = y .upto } in
+      let narrow : (i : ℕ) → Live S m i → Live S f i = λ i y. elim (ℕ-discrete (y .who) p) [
+        | yes d ↦ record { who = l .who; exists = l .exists; from = omega (arith, l .from, ap (put (f .pointer) p (k - 1)) d, put-same (f .pointer) p (k - 1), y .from); upto = y .upto }
+        | no d ↦ record { who = y .who; exists = y .exists; from = omega (arith, put-other (f .pointer) p (k - 1) (y .who) d, y .from); upto = y .upto }
       ] in
-      let live : Live S m (k - 1) = wide (k - 1) (subst (Live S f) (e .0) (r .lives)) in
-      lowered (omega (arith, e .0, e .1)) h
-      (maps-hit S m n (proper-point gf p (k - 1) (omega (arith, e .0, e .1)) (omega (arith, gf .high p pe))) gn h
+      lowered (omega arith) h
+      (maps-hit S m n (proper-point gf p (k - 1) lo (omega (arith, gf .high p pe))) gn h
       (record {
-        lands = λ i l. carries .lands i (narrow i l);
+        lands = λ i y. carries .lands i (narrow i y);
         rises = λ i j a b. M .rises i j (narrow i a) (narrow j b);
-        equal = λ i l. M .equal i (narrow i l);
+        equal = λ i y. M .equal i (narrow i y);
         pointers = λ q qe. put-each (λ q z. n .pointer q ≡ h z) (f .pointer) p (k - 1) q (sym at) (λ d. sym (put-other (n .pointer) p (suc t) q d) ∙ M .pointers q qe);
       })
-      (hits m h (λ s y. record { at = y .at; lives = wide (y .at) (y .lives); hits = y .hits }) (record { at = k - 1; lives = live; hits = at })))
+      (hits m h (λ s y. record { at = y .at; lives = wide (y .at) (y .lives); hits = y .hits }) (record { at = k - 1; lives = wide (k - 1) l; hits = at })))
 
-  back-fresh : (j : ℕ) → Gap S f h t j → UpdateBack S f n p
-  back-fresh j G =
-      let miss : (i : ℕ) → Live S f i → h i ≢ t = λ i l e. elim (decLt i j) [ yes a ↦ omega (arith, G .under i l a) | no a ↦ omega (arith, G .over i l (omega arith)) ] in
+  -- it is no image
+  back-fresh : (Live S f (k - 1) → h (k - 1) ≢ t) → UpdateBack S f n p
+  back-fresh apart =
+      let miss : (i : ℕ) → Live S f i → h i ≢ t = λ i l e. elim (decLe k i) [
+        | yes a ↦ omega (arith, semi-le S f (point n p (suc t)) gf gn′ h (semi-of M) k i live-k l a, at-k)
+        | no a ↦
+            let m : Live S f (k - 1) = record { who = l .who; exists = l .exists; from = omega (arith, l .from); upto = omega (arith, gf .high p pe) } in
+            elim (ℕ-discrete i (k - 1)) [ yes d ↦ apart m (ap h (sym d) ∙ e) | no d ↦ omega (arith, at-k, M .rises i (k - 1) l m (omega arith), M .rises (k - 1) k m live-k (omega arith)) ]
+      ] in
       let gap : Gap S f h t k = record {
         lo = gf .low p pe;
         hi = omega (arith, gf .high p pe);
@@ -162,7 +156,8 @@ module _ (S : Shape) (f n : Memory) (gf : Proper S f) (gn : Proper S n) (p : ℕ
             let i = lastWrite f (μ .process) (μ .variable) in
             let l = live-last S f gf (μ .process) (μ .variable) re in
             let s = is-last S n gn (μ .process) (μ .variable) re in
-            let b : t ≤ lastWrite n (μ .process) (μ .variable) = elim (decLe t (lastWrite n (μ .process) (μ .variable))) [ yes a ↦ a | no a ↦ absurd (s .free t (omega arith) (omega arith) (labelled-self μ)) ] in
+            let b : t ≤ lastWrite n (μ .process) (μ .variable) = elim (decLe t (lastWrite n (μ .process) (μ .variable)))
+            [ yes a ↦ a | no a ↦ absurd (s .free t (omega arith) (omega arith) (labelled-self μ)) ] in
             le k i live-k l (omega (arith, at-k, miss i l, other (μ .process) (μ .variable) re ve d))
       ] in
       fresh covered (via h k t)
@@ -171,7 +166,10 @@ module _ (S : Shape) (f n : Memory) (gf : Proper S f) (gn : Proper S n) (p : ℕ
       (hit-new S f n gf h carries t k gap live-t w moved p pe (omega (arith, put-same (λ q. up k (f .pointer q)) p k)))))
 
   pub update-back : UpdateBack S f n p
-  update-back = ⊎-elim back-lowered (λ r. back-fresh (r .0) (r .1)) (place S f n gf h carries t)
+  update-back = ⊎-elim
+      (λ l. elim (ℕ-discrete (h (k - 1)) t) [ yes e ↦ back-lowered l e | no e ↦ back-fresh (λ m. e) ])
+      (λ x. back-fresh (λ l. absurd (x l)))
+      (dec-live S f (k - 1) (omega (arith, gf .high p pe)))
 
 -- ---- before a message is appended
 
@@ -182,12 +180,12 @@ append-other n p v x q u d =
     rw (T-false (eqb p q && eqb v u) no)
 
 module _ (S : Shape) (fn : Message) (fs : List Message) (z : ℕ → ℕ) (n : Memory) (p v x : ℕ) (pe : p < S .processes) (ve : v < S .variables)
-    (gf : Proper S (record { channel = fn ∷ fs; pointer = z })) (gn : Proper S n) (h : ℕ → ℕ) (M : Maps S (record { channel = fn ∷ fs; pointer = z }) (append n p v x) h) where
+    (gf : Proper S (memoryOf (fn ∷ fs) z)) (gn : Proper S n) (h : ℕ → ℕ) (M : Maps S (memoryOf (fn ∷ fs) z) (append n p v x) h) where
   abbrev f : Memory
-  f = record { channel = fn ∷ fs; pointer = z }
+  f = memoryOf (fn ∷ fs) z
 
   abbrev f₀ : Memory
-  f₀ = record { channel = fs; pointer = z }
+  f₀ = memoryOf fs z
 
   abbrev N : ℕ
   N = length (n .channel)

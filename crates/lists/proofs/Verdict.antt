@@ -1,10 +1,10 @@
 -- The verdict of a list: one is judged, exactly one, and it is what `verdictOf` computes. What a safe list says of every run.
-use Prim.Native.Nat.{ℕ, suc, _<_, _≤_}
+use Prim.Native.Nat.{ℕ, _<_}
 use mathlib.Core.Path.{_≡_, refl, sym, ap, subst, _∙_}
-use mathlib.Core.Logic.{_⊎_, inl, inr, ⊎-elim, _↔_}
-use mathlib.Core.Bool.{Bool, true, false, not}
+use mathlib.Core.Logic.{_↔_}
+use mathlib.Core.Bool.{not}
 use mathlib.Core.Option.{Option, none, some}
-use mathlib.Core.List.{List, [], _∷_, List·Memᴰ}
+use mathlib.Core.List.{List, List·Memᴰ}
 use native.Mathlib.Omega.{arith}
 use native.Mathlib.Decide.{decLt, ℕ-discrete}
 use lib.ListN.{length}
@@ -19,8 +19,8 @@ use Rattle.pws.specs.Sequences.{Visited, start, later}
 use Rattle.pws.proofs.Steps.{step-configuration}
 use Rattle.lists.specs.Lists.{every, lowest}
 use Rattle.lists.specs.Verdict.{TargetHeld, TargetMissed, NoStartAbove, StartAbove, Closed, WayIn, noTarget, target, SafeList, ListVerdict, safe, unheld, started, entered, Unheld, Started, Entered, ListJudged}
-use Rattle.lists.specs.Covering.{Held, Outside}
-use Rattle.lists.specs.Predecessors.{predecessors, steps, has, cube}
+use Rattle.lists.specs.Covering.{Outside}
+use Rattle.lists.specs.Predecessors.{predecessors, steps, cube}
 use Rattle.lists.specs.Shapes.{shapeCubes}
 use Rattle.lists.specs.Decision.{held, targetHeld, looksStarted, closed, verdictOf}
 use Rattle.lists.proofs.Lists.{every-yes, every-no, Lowest, fails, passes, lowest-is}
@@ -198,7 +198,8 @@ stays-outside R s o n start = (o, n)
 stays-outside {P} R s o n (later {b = c} step t r) = stays-outside R s (step-configuration P R c o step t) (λ A. n (s .before c o step t A)) r
 
 -- no configuration that a sequence of steps visits from a start is in a target, or above the list
-pub safe-visited : (P : Program) → ProgramInRange P → (ts : List (ℕ → ℕ)) (es : List Configuration) → SafeList P ts es → {c d : Configuration} → Start P c → (ss : List Step) → Visited P c ss d
+pub safe-visited : (P : Program) → ProgramInRange P → (ts : List (ℕ → ℕ)) (es : List Configuration) → SafeList P ts es → {c d : Configuration} → Start P c → (ss : List Step)
+    → Visited P c ss d
     → ((k : ℕ) → k < length ts → InTarget (P .shape) (target ts k) d → ⊥) × (AboveList (P .shape) es d → ⊥)
 safe-visited P R ts es s {c} {d} i ss v =
     let r = stays-outside R s (i .configuration) (s .starts c i) v in

@@ -7,7 +7,7 @@ use Rattle.pws.specs.Program.{Shape}
 use Rattle.pws.specs.Machine.{Configuration, putQueue, message}
 use Rattle.pws.specs.Entries.{filled, Filling, AboveList}
 use Rattle.lists.specs.Lists.{forBelow}
-use Rattle.lists.specs.Cubes.{setValue}
+use Rattle.lists.specs.Cubes.{memoryOf, setValue}
 
 -- every filling of the cube is above the list
 abbrev pub Held : Shape → List Configuration → Configuration → Type 0
@@ -40,7 +40,7 @@ at c (inMessage i v) = getD (message (c .memory .channel) i .snapshot) v 0
 abbrev pub split : Configuration → Place → ℕ → Configuration
 split c (inQueue p v j) x = record { state = c .state; queue = putQueue (c .queue) p v (set (c .queue p v) j x); memory = c .memory }
 split c (inMessage i v) x =
-    record { state = c .state; queue = c .queue; memory = record { channel = setValue (c .memory .channel) i v x; pointer = c .memory .pointer } }
+    record { state = c .state; queue = c .queue; memory = memoryOf (setValue (c .memory .channel) i v x) (c .memory .pointer) }
 
 abbrev pub places : Shape → Configuration → List Place
 places S c =

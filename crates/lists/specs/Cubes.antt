@@ -6,9 +6,19 @@ use lib.ListN.{length, set}
 use lib.Dec.{eqb, ltb}
 use Rattle.pws.specs.declared.Message.{Message}
 use Rattle.pws.specs.Program.{Shape}
-use Rattle.pws.specs.Machine.{noMessage}
+use Rattle.pws.specs.Machine.{Memory, noMessage}
 use Rattle.pws.specs.Entries.{FF}
 use Rattle.lists.specs.Values.{alike, pairwise, meetAll}
+
+abbrev pub memoryOf : List Message → (ℕ → ℕ) → Memory
+memoryOf ms z = record { channel = ms; pointer = z }
+
+abbrev pub messageOf : ℕ → ℕ → List ℕ → Message
+messageOf p v xs = record { process = p; variable = v; snapshot = xs }
+
+-- m with these values instead
+abbrev pub withValues : Message → List ℕ → Message
+withValues m xs = messageOf (m .process) (m .variable) xs
 
 -- ---- a message all of whose values are free
 
@@ -17,14 +27,14 @@ abbrev pub anyValue : Shape → ℕ → ℕ
 anyValue S v = cond (ltb v (S .variables)) FF 0
 
 abbrev pub anyMessage : Shape → ℕ → ℕ → Message
-anyMessage S p v = record { process = p; variable = v; snapshot = anyValue S 0 ∷ anyValue S 1 ∷ anyValue S 2 ∷ anyValue S 3 ∷ [] }
+anyMessage S p v = messageOf p v (anyValue S 0 ∷ anyValue S 1 ∷ anyValue S 2 ∷ anyValue S 3 ∷ [])
 
 -- ---- values in place of others
 
 -- message i has x in v
 abbrev pub setValue : List Message → ℕ → ℕ → ℕ → List Message
 setValue [] i v x = []
-setValue (m ∷ ms) i v x = cond (eqb i (suc (length ms))) (record { process = m .process; variable = m .variable; snapshot = set (m .snapshot) v x } ∷ ms) (m ∷ setValue ms i v x)
+setValue (m ∷ ms) i v x = cond (eqb i (suc (length ms))) (withValues m (set (m .snapshot) v x) ∷ ms) (m ∷ setValue ms i v x)
 
 abbrev pub withoutLast : List ℕ → List ℕ
 withoutLast [] = []
@@ -54,4 +64,4 @@ alikeNewest (m ∷ ms) xs = pairwise alike (m .snapshot) xs
 
 abbrev pub meetNewest : List Message → List ℕ → List Message
 meetNewest [] xs = []
-meetNewest (m ∷ ms) xs = record { process = m .process; variable = m .variable; snapshot = meetAll (m .snapshot) xs } ∷ ms
+meetNewest (m ∷ ms) xs = withValues m (meetAll (m .snapshot) xs) ∷ ms

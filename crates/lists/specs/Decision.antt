@@ -1,11 +1,10 @@
 -- A list judged by computation (theory, sections 3 to 6). It is slow: that it is right is `verdict-judged`.
 use Prim.Native.Nat.{ℕ}
 use mathlib.Core.Bool.{Bool, true, false, _&&_, not}
-use mathlib.Core.Option.{Option, none, some}
+use mathlib.Core.Option.{none, some}
 use mathlib.Core.List.{List, [], _∷_}
 use lib.ListN.{length, getD}
 use lib.Dec.{eqb}
-use Rattle.pws.specs.declared.Step.{Step}
 use Rattle.pws.specs.Program.{Shape, Program}
 use Rattle.pws.specs.Machine.{Configuration, message, allBelow, noneWaiting}
 use Rattle.pws.specs.Configurations.{inTarget}

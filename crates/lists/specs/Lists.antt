@@ -26,7 +26,7 @@ abbrev pub next : Option ℕ → Option ℕ
 next none = none
 next (some k) = some (suc k)
 
--- the lowest number of one that fails the test
+-- the number of the first that fails the test
 abbrev pub lowest {ℓ} : {A : Type ℓ} → (A → Bool) → List A → Option ℕ
 lowest f [] = none
 lowest f (x ∷ xs) = elim (f x) [ true ↦ next (lowest f xs) | false ↦ some 0 ]

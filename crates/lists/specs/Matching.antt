@@ -2,7 +2,7 @@
 -- the entry covers the cube, with `alike` it may meet it.
 use Prim.Native.Nat.{ℕ, _<_}
 use mathlib.Core.Path.{_≡_}
-use mathlib.Core.Bool.{Bool, true, false, _&&_}
+use mathlib.Core.Bool.{Bool, true, false, _&&_, not}
 use mathlib.Core.Option.{Option, none, some}
 use mathlib.Core.List.{List, [], _∷_}
 use lib.Dec.{T, eqb}
@@ -43,27 +43,16 @@ queueMatches r xs ys = subsequence r xs ys && ends r (newestWaiting xs) (newestW
 
 -- ---- messages with their roles
 
-abbrev pub sameTests : List Bool → List Bool → Bool
-sameTests [] [] = true
-sameTests [] (b ∷ bs) = false
-sameTests (a ∷ xs) [] = false
-sameTests (true ∷ xs) (true ∷ ys) = sameTests xs ys
-sameTests (true ∷ xs) (false ∷ ys) = false
-sameTests (false ∷ xs) (true ∷ ys) = false
-sameTests (false ∷ xs) (false ∷ ys) = sameTests xs ys
-
-abbrev pub sameRoles : List (List Bool) → List (List Bool) → Bool
-sameRoles [] [] = true
-sameRoles [] (b ∷ bs) = false
-sameRoles (a ∷ xs) [] = false
-sameRoles (a ∷ xs) (b ∷ ys) = sameTests a b && sameRoles xs ys
+abbrev pub same : Bool → Bool → Bool
+same true b = b
+same false b = not b
 
 abbrev pub messageMatches : (ℕ → ℕ → Bool) → Message → Message → Bool
 messageMatches r e m = (eqb (e .process) (m .process) && eqb (e .variable) (m .variable)) && pairwise r (e .snapshot) (m .snapshot)
 
 -- each role occurs once, so a message with a role is never skipped
 abbrev pub tagMatches : (ℕ → ℕ → Bool) → Tagged → Tagged → Bool
-tagMatches r x y = sameRoles (x .roles) (y .roles) && messageMatches r (x .message) (y .message)
+tagMatches r x y = pairwise (pairwise same) (x .roles) (y .roles) && messageMatches r (x .message) (y .message)
 
 -- ---- configurations
 

@@ -6,7 +6,6 @@ use mathlib.Core.Option.{Option, none, some}
 use mathlib.Core.List.{List, [], _∷_, _++_}
 use lib.ListN.{length, getD, set}
 use lib.Dec.{eqb, ltb, leb}
-use Rattle.pws.specs.declared.Message.{Message}
 use Rattle.pws.specs.declared.Operation.{Operation}
 use Rattle.pws.specs.declared.Operation.the-variants.{Nop, Read, Write, Mfence, Sfence, Arw}
 use Rattle.pws.specs.declared.Step.{Step}
@@ -17,15 +16,15 @@ use Rattle.pws.specs.Insertion.{insertInto}
 use Rattle.pws.specs.Entries.{FF}
 use Rattle.lists.specs.Lists.{forBelow}
 use Rattle.lists.specs.Values.{alike}
-use Rattle.lists.specs.Cubes.{anyMessage, setValue, withoutLast, withLast, topmost, older, alikeNewest, meetNewest}
+use Rattle.lists.specs.Cubes.{memoryOf, messageOf, anyMessage, setValue, withoutLast, withLast, topmost, older, alikeNewest, meetNewest}
 
 -- What a cube has beside the step undone: nothing, or one value or message of which the entry shows no trace.
 pub data Kind : Type 0 where
   -- nothing
   undone : Kind
-  -- a value that waited last, before a write
+  -- a value that waited before the one written
   waited : Kind
-  -- a message before that of this number, before a serialise
+  -- a message of this number, before a serialise
   inside : ℕ → Kind
   -- the newest message, for this variable, before an arw or a serialise
   onTop : ℕ → Kind
@@ -39,15 +38,15 @@ abbrev pub before : Memory → ℕ → ℕ → List ℕ
 before m v x = set (topmost (m .channel) .snapshot) v x
 
 abbrev pub withoutNewest : Memory → Memory
-withoutNewest m = record { channel = older (m .channel); pointer = m .pointer }
+withoutNewest m = memoryOf (older (m .channel)) (m .pointer)
 
 -- the newest message is taken away, and the one before is met with xs
 abbrev pub joined : Memory → List ℕ → Memory
-joined m xs = record { channel = meetNewest (older (m .channel)) xs; pointer = m .pointer }
+joined m xs = memoryOf (meetNewest (older (m .channel)) xs) (m .pointer)
 
 -- the newest message has the label (p, v) and the values xs instead
 abbrev pub replaced : Memory → ℕ → ℕ → List ℕ → Memory
-replaced m p v xs = record { channel = record { process = p; variable = v; snapshot = xs } ∷ older (m .channel); pointer = m .pointer }
+replaced m p v xs = memoryOf (messageOf p v xs ∷ older (m .channel)) (m .pointer)
 
 abbrev pub serialiseMemory : Shape → Memory → ℕ → ℕ → Kind → Memory
 serialiseMemory S m p v undone = joined m (before m v FF)
@@ -76,7 +75,7 @@ updateMemory S m p (pointed r u) = point (insertInto m (m .pointer p) (anyMessag
 abbrev pub serialised : Shape → Memory → ℕ → ℕ → Bool
 serialised S m p v = (ltb 1 (length (m .channel)) && labelled (topmost (m .channel)) p v) && allBelow (S .processes) (λ q. not (atNewest m q))
 
--- the message inside stands past the LastWrite of p and v, and so is it
+-- a message inside stands past the LastWrite of p and v, and so becomes it: past p's pointer, and past all messages of that label
 abbrev pub serialiseKind : Memory → ℕ → ℕ → Kind → Bool
 serialiseKind m p v undone = alikeNewest (older (m .channel)) (before m v FF)
 serialiseKind m p v waited = false
@@ -97,7 +96,8 @@ arwKind S m v old (inside k) = false
 arwKind S m v old (onTop u) = ltb u (S .variables)
 arwKind S m v old (pointed r u) = false
 
--- the message that p pointed at is nobody's LastWrite afterwards: that of r and u stands at or past p's pointer
+-- The message that p pointed at is nobody's LastWrite afterwards: that of r and u stands at p's pointer or past it (r is p, or r's pointer
+-- does, or a message of that label).
 abbrev pub updateKind : Shape → Memory → ℕ → Kind → Bool
 updateKind S m p undone = ltb 1 (m .pointer p)
 updateKind S m p waited = false

@@ -17,8 +17,8 @@ alike a b = eqb a FF || (eqb b FF || eqb a b)
 abbrev pub meet : ℕ → ℕ → ℕ
 meet a b = cond (eqb a FF) b a
 
--- lists of values, one for one
-abbrev pub pairwise : (ℕ → ℕ → Bool) → List ℕ → List ℕ → Bool
+-- lists, one for one
+abbrev pub pairwise : {A : Type 0} → (A → A → Bool) → List A → List A → Bool
 pairwise r [] [] = true
 pairwise r [] (b ∷ ys) = false
 pairwise r (a ∷ xs) [] = false
