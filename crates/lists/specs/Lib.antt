@@ -1,1 +1,10 @@
 pub mod Verdict
+pub mod Lists
+pub mod Values
+pub mod Cubes
+pub mod Predecessors
+pub mod Shapes
+pub mod Matching
+pub mod Covering
+pub mod Decision
+pub mod Cases
