@@ -14,7 +14,7 @@ use pws::Message;
 // Waiting values, oldest first.
 pub struct Queue {
     pub values: [u8; 9],
-    pub count: usize,
+    pub count: u8,
 }
 
 // A configuration whose values may be 255, for any value: four local states and pointers, the queue of process p and variable v at
@@ -52,8 +52,9 @@ pub fn pushed(queue: Queue, value: u8) -> Queue
     if 9 <= n {
         return queue;
     }
+    let at = wide(n);
     let mut next = queue;
-    next.values[n] = value;
+    next.values[at] = value;
     next.count = n + 1;
     next
 }

@@ -7,11 +7,13 @@ use Rattle.records.proofs.entry.pushed.Tie as tie
 pub pushed-spec : {M : Type 1} → statement M
 unfolding pushed
 pushed-spec = tie.close (tie.spec
-    -- returns 48:9
+    -- returns 53:9
     (λ c. rw (le-leb _ _ (c .if1 .taken)))
-    -- element-write-next 51:5
+    -- wide-requires 55:9
+    (λ c κs. search needs)
+    -- element-write-next 57:5
     (λ c. search needs)
-    -- add-next 52:18
+    -- add-next 58:18
     (λ c. search needs)
-    -- returns-2 43:1
-    (λ c. rw (lt-leb _ _ (c .if1 .left))))
+    -- returns-2 48:1
+    (λ c. rw (lt-leb _ _ (c .before .if1 .left)) (rw (c .wide .ensures))))
