@@ -5,3 +5,4 @@ pub mod EntryLaws
 pub mod ListLaws
 pub mod ReadingLaws
 pub mod CubeLaws
+pub mod CubeParts
