@@ -1,0 +1,5 @@
+pub mod ValueLaws
+pub mod Below
+pub mod RoleLaws
+pub mod ChannelLaws
+pub mod MatchLaws

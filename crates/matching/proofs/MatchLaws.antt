@@ -1,0 +1,69 @@
+-- A match is three tests: states, queues, messages with their roles.
+use Prim.Native.Nat.{ℕ, _+_, _*_, _<_, _≤_, min}
+use mathlib.Core.Path.{_≡_, refl, sym, ap, ap₂, _∙_}
+use mathlib.Core.Bool.{Bool, true, false, _&&_}
+use native.Mathlib.Omega.{arith}
+use lib.ListN.{getD}
+use lib.Dec.{eqb}
+use Rattle.pws.specs.Machine.{allBelow}
+use Rattle.records.specs.declared.program.Shape.{Shape}
+use Rattle.records.specs.declared.entry.Cube.{Cube}
+use Rattle.records.specs.ProgramPart.{shapeOf}
+use Rattle.records.specs.Cube.{noQueue, waitingOf, configurationOf}
+use Rattle.records.proofs.CubeParts.{queue-of}
+use Rattle.lists.specs.Matching.{queueMatches, matches}
+use Rattle.matching.specs.Relation.{relation}
+use Rattle.matching.specs.Match.{Sizes, queueRow, channelMatches}
+use Rattle.matching.proofs.Below.{all-equal}
+
+module _ (exact : Bool) (s : Shape) (a b : Cube) (z : Sizes s a b) where
+  few-is : min (s .processes) 4 ≡ s .processes
+  few-is = let x = z .processes in omega arith
+
+  narrow-is : min (s .variables) 4 ≡ s .variables
+  narrow-is = let x = z .variables in omega arith
+
+  states-is : allBelow (min (s .processes) 4) (λ p. eqb (getD (a .states) p 0) (getD (b .states) p 0))
+      ≡ allBelow (s .processes) (λ p. eqb (configurationOf a .state p) (configurationOf b .state p))
+  states-is = ap (λ (n : ℕ). allBelow n (λ p. eqb (getD (a .states) p 0) (getD (b .states) p 0))) few-is
+
+  row-is : (p : ℕ) → p < s .processes
+      → queueRow (s .variables) exact (a .queues) (b .queues) p
+      ≡ allBelow (s .variables) (λ v. queueMatches (relation exact) (configurationOf a .queue p v) (configurationOf b .queue p v))
+  unfolding queueRow
+  row-is p l =
+      let x = z .processes in
+      let y = z .variables in
+      ap (λ (n : ℕ). allBelow n (λ v. queueMatches (relation exact) (waitingOf (getD (a .queues) (4 * p + v) noQueue)) (waitingOf (getD (b .queues) (4 * p + v) noQueue)))) narrow-is
+      ∙ all-equal (s .variables) (λ v. queueMatches (relation exact) (waitingOf (getD (a .queues) (4 * p + v) noQueue)) (waitingOf (getD (b .queues) (4 * p + v) noQueue)))
+      (λ v. queueMatches (relation exact) (configurationOf a .queue p v) (configurationOf b .queue p v))
+      (λ v k. ap₂ (queueMatches (relation exact)) (sym (queue-of (a .queues) p v (omega arith) (omega arith))) (sym (queue-of (b .queues) p v (omega arith) (omega arith))))
+
+  queues-is : allBelow (min (s .processes) 4) (queueRow (s .variables) exact (a .queues) (b .queues))
+      ≡ allBelow (s .processes) (λ p. allBelow (s .variables) (λ v. queueMatches (relation exact) (configurationOf a .queue p v) (configurationOf b .queue p v)))
+  queues-is =
+      ap (λ (n : ℕ). allBelow n (queueRow (s .variables) exact (a .queues) (b .queues))) few-is
+      ∙ all-equal (s .processes) (queueRow (s .variables) exact (a .queues) (b .queues))
+      (λ p. allBelow (s .variables) (λ v. queueMatches (relation exact) (configurationOf a .queue p v) (configurationOf b .queue p v))) row-is
+
+  pub three-tests : (allBelow (min (s .processes) 4) (λ p. eqb (getD (a .states) p 0) (getD (b .states) p 0))
+      && allBelow (min (s .processes) 4) (queueRow (s .variables) exact (a .queues) (b .queues)))
+      && channelMatches s exact a b
+      ≡ matches (shapeOf s) (relation exact) (configurationOf a) (configurationOf b)
+  unfolding channelMatches
+  three-tests = ap₂ (λ (x y : Bool). (x && y) && channelMatches s exact a b) states-is queues-is
+
+  module _ {x : Bool}
+      (e : x ≡ allBelow (min (s .processes) 4) (λ p. eqb (getD (a .states) p 0) (getD (b .states) p 0)))
+    where
+      pub states-fail : x ≡ false → false ≡ matches (shapeOf s) (relation exact) (configurationOf a) (configurationOf b)
+      states-fail g =
+          ap (λ (k : Bool). (k && allBelow (min (s .processes) 4) (queueRow (s .variables) exact (a .queues) (b .queues))) && channelMatches s exact a b) (sym g ∙ e)
+          ∙ three-tests
+
+      module _ {y : Bool} (f : y ≡ allBelow (min (s .processes) 4) (queueRow (s .variables) exact (a .queues) (b .queues))) where
+        pub queues-fail : x ≡ true → y ≡ false → false ≡ matches (shapeOf s) (relation exact) (configurationOf a) (configurationOf b)
+        queues-fail g h = ap₂ (λ (k l : Bool). (k && l) && channelMatches s exact a b) (sym g ∙ e) (sym h ∙ f) ∙ three-tests
+
+        pub channel-left : {c : Bool} → x ≡ true → y ≡ true → c ≡ channelMatches s exact a b → c ≡ matches (shapeOf s) (relation exact) (configurationOf a) (configurationOf b)
+        channel-left g h w = w ∙ ap₂ (λ (k l : Bool). (k && l) && channelMatches s exact a b) (sym g ∙ e) (sym h ∙ f) ∙ three-tests
