@@ -1,0 +1,38 @@
+-- What a file holds, read again by number: from the file, the places of its program part, and the list of its entries' offsets.
+use Prim.Native.Nat.{ℕ, _+_, _*_, min}
+use mathlib.Core.List.{List, [], _∷_}
+use lib.ListN.{length}
+use Rattle.pws.specs.declared.Transition.{Transition}
+use Rattle.pws.specs.Machine.{Configuration}
+use Rattle.records.specs.declared.program.Program.{Program}
+use Rattle.records.specs.declared.entry.Cube.{Cube}
+use Rattle.records.specs.Bytes.{byte, le32}
+use Rattle.records.specs.Records.{transitionAt}
+use Rattle.records.specs.ProgramPart.{tableFrom}
+use Rattle.records.specs.Cube.{configurationOf, loadEntry}
+
+-- ---- entries, by the list of their offsets
+
+abbrev pub offsetAt : List ℕ → ℕ → ℕ
+offsetAt list i = le32 list (4 * i)
+
+abbrev pub cubeAt : List ℕ → List ℕ → ℕ → Cube
+cubeAt f list i = loadEntry f (offsetAt list i)
+
+-- n of them
+abbrev pub entriesOf : List ℕ → List ℕ → ℕ → List Configuration
+entriesOf f list n = tableFrom (λ i. configurationOf (loadEntry f (le32 list (4 * i)))) 0 n
+
+-- ---- transitions and targets
+
+-- the place of a record in a row; a place past the file's end is as good as its end, since every byte there is 0
+abbrev pub placeIn : List ℕ → ℕ → ℕ
+placeIn f at = min (length f) at
+
+abbrev pub transitionOf : List ℕ → Program → ℕ → Transition
+transitionOf f p i = transitionAt f (p .transitions .at + 8 * i)
+
+-- four states
+abbrev pub targetOf : List ℕ → Program → ℕ → List ℕ
+targetOf f p k =
+    byte f (p .targets .at + 5 * k + 1) ∷ byte f (p .targets .at + 5 * k + 2) ∷ byte f (p .targets .at + 5 * k + 3) ∷ byte f (p .targets .at + 5 * k + 4) ∷ []
