@@ -1,1 +1,5 @@
 pub mod PlaceLaws
+pub mod Tables
+pub mod Names
+pub mod Rows
+pub mod ProgramPart

@@ -1,5 +1,5 @@
 -- What a file holds, read again by number: from the file, the places of its program part, and the list of its entries' offsets.
-use Prim.Native.Nat.{ℕ, _+_, _*_, min}
+use Prim.Native.Nat.{ℕ, zero, suc, _+_, _*_, min}
 use mathlib.Core.List.{List, [], _∷_}
 use lib.ListN.{length}
 use Rattle.pws.specs.declared.Transition.{Transition}
@@ -36,3 +36,10 @@ transitionOf f p i = transitionAt f (p .transitions .at + 8 * i)
 abbrev pub targetOf : List ℕ → Program → ℕ → List ℕ
 targetOf f p k =
     byte f (p .targets .at + 5 * k + 1) ∷ byte f (p .targets .at + 5 * k + 2) ∷ byte f (p .targets .at + 5 * k + 3) ∷ byte f (p .targets .at + 5 * k + 4) ∷ []
+
+-- ---- records of different sizes in a row
+
+-- where record i stands, the first of them standing at `at`
+abbrev pub placeOf : (ℕ → ℕ) → ℕ → ℕ → ℕ
+placeOf size at zero = at
+placeOf size at (suc i) = placeOf size (at + size at) i
