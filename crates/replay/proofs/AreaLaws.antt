@@ -1,0 +1,35 @@
+-- Laws of the lower part's bytes.
+use Prim.Native.Nat.{ℕ, zero, suc, _+_, _*_, _/_, _%_, _<_, _≤_}
+use mathlib.Core.Path.{_≡_, refl, sym, ap, subst, _∙_}
+use mathlib.Core.Logic.{_≢_}
+use mathlib.Core.List.{List, [], _∷_, _++_}
+use native.Mathlib.Omega.{arith}
+use lib.ListN.{length, length-set, length-replicate, getD, getD-replicate, set, take, replicate}
+use lib.Seq.{ext-getD, getD-set-same, getD-set-other}
+use native.Mathlib.Decide.{ℕ-discrete}
+
+-- ---- cleared up to i
+
+pub record Cleared (old new : List ℕ) (i : ℕ) : Type 0 where
+  pub same : length new ≡ length old
+  pub most : i ≤ length old
+  pub zeros : (j : ℕ) → j < i → getD new j 0 ≡ 0
+
+pub cleared-begin : (old : List ℕ) → Cleared old old 0
+cleared-begin old = record { same = refl; most = omega arith; zeros = λ j l. omega arith }
+
+pub cleared-next : {old new : List ℕ} {i : ℕ} → Cleared old new i → i < length old → Cleared old (set new i 0) (i + 1)
+cleared-next {old} {new} {i} c l =
+    record {
+      same = length-set new i 0 ∙ c .same;
+      most = omega arith;
+      zeros = λ j k. elim (ℕ-discrete j i) [
+        | yes e ↦ rw e (getD-set-same new i 0 0 (omega (arith, c .same)))
+        | no e ↦ getD-set-other new i j 0 0 e ∙ c .zeros j (omega arith)
+      ];
+    }
+
+pub cleared-all : {old new : List ℕ} {i : ℕ} → Cleared old new i → length old ≤ i → new ≡ replicate (length old) 0
+cleared-all {old} {new} {i} c l =
+    ext-getD 0 new (replicate (length old) 0) (c .same ∙ sym (length-replicate (length old) 0)) (λ j k.
+    c .zeros j (omega (arith, c .same)) ∙ sym (getD-replicate (length old) j 0 0 (omega (arith, c .same))))
