@@ -3,3 +3,5 @@ pub mod Tables
 pub mod Names
 pub mod Rows
 pub mod ProgramPart
+pub mod Loading
+pub mod Entry

@@ -9,7 +9,10 @@ use Rattle.pws.specs.Program.{Program, ProgramInRange}
 use Rattle.pws.specs.Machine.{Configuration}
 use Rattle.pws.specs.Configurations.{StatesOf}
 use Rattle.pws.specs.Entries.{EntryOf, entry}
+use Rattle.records.specs.declared.entry.Cube.{Cube}
+use Rattle.records.specs.declared.entry.Queue.{Queue}
 use Rattle.records.specs.EvidencePart.{allowed}
+use Rattle.records.specs.Cube.{noQueue}
 
 -- the program and its targets
 pub record ProgramPartRead (P : Program) (ts : List (ℕ → ℕ)) : Type 0 where
@@ -43,3 +46,9 @@ pub record RunRead (P : Program) (ts : List (ℕ → ℕ)) (ss : List Step) : Ty
   pub part : ProgramPartRead P ts
   pub steps : (k : ℕ) → k < length ss → StepOf P (getD ss k (Update 0))
   pub count : length ss ≤ 1024
+
+-- an entry as the code holds it
+pub record CubeRange (c : Cube) : Type 0 where
+  pub some : 1 ≤ c .count
+  pub messages : c .count ≤ 16
+  pub waiting : (k : ℕ) → k < 16 → getD (c .queues) k noQueue .count ≤ 8
