@@ -1,0 +1,62 @@
+-- Messages of a cube: LastWrite, and a message inserted.
+use Prim.Native.Nat.{ℕ, zero, suc, _+_, _-_, _<_, _≤_}
+use mathlib.Core.Path.{_≡_, refl, sym, ap, ap₂, _∙_}
+use mathlib.Core.Bool.{Bool, true, false, cond}
+use mathlib.Core.List.{List, [], _∷_}
+use native.Mathlib.Omega.{arith}
+use native.Mathlib.Numerals.{unary-clauses}
+use native.Mathlib.Decide.{ℕ-discrete}
+use lib.ListN.{length, getD, set, length-set}
+use lib.Seq.{getD-set-same, getD-set-other}
+use lib.Dec.{leb}
+use borrow.Author.Tests.{le-leb, lt-leb}
+use Rattle.pws.specs.declared.Message.{Message}
+use Rattle.pws.specs.Machine.{noMessage, labelled, lastLabelled}
+use Rattle.pws.specs.Insertion.{insert}
+use Rattle.records.specs.Cube.{channelOf}
+use Rattle.records.proofs.CubeParts.{channel-length, channel-equal}
+
+pub last-next : (ms : List Message) (p v i : ℕ) → lastLabelled (channelOf ms (i + 1)) p v ≡ cond (labelled (getD ms i noMessage) p v) (i + 1) (lastLabelled (channelOf ms i) p v)
+last-next ms p v i = simp unary-clauses (ap (λ (k : ℕ). cond (labelled (getD ms i noMessage) p v) (suc k) (lastLabelled (channelOf ms i) p v)) (channel-length ms i))
+
+-- ---- a message inserted
+
+-- of ms, those from `at` on and before i stand one place further in ns
+pub record Shifted (ms ns : List Message) (at i : ℕ) : Type 0 where
+  pub room : length ns ≡ 20
+  pub from : at ≤ i
+  pub kept : (j : ℕ) → j ≤ at → getD ns j noMessage ≡ getD ms j noMessage
+  pub moved : (j : ℕ) → at ≤ j → j < i → getD ns (suc j) noMessage ≡ getD ms j noMessage
+
+pub shift-begin : (ms : List Message) (at : ℕ) → length ms ≡ 20 → Shifted ms ms at at
+shift-begin ms at e = record { room = e; from = omega arith; kept = λ j l. refl; moved = λ j a b. absurd (omega arith) }
+
+pub shift-next : {ms ns : List Message} {at i : ℕ} → Shifted ms ns at i → i < 19 → Shifted ms (set ns (i + 1) (getD ms i noMessage)) at (i + 1)
+shift-next {ms} {ns} {at} {i} w l =
+    simp unary-clauses (record {
+      room = length-set ns (suc i) (getD ms i noMessage) ∙ w .room;
+      from = omega (arith, w .from);
+      kept = λ j a. getD-set-other ns (suc i) j (getD ms i noMessage) noMessage (λ e. omega (arith, w .from)) ∙ w .kept j a;
+      moved = λ j a b. elim (ℕ-discrete j i) [
+        | yes e ↦ ap (λ (k : ℕ). getD (set ns (suc i) (getD ms i noMessage)) (suc k) noMessage) e
+            ∙ getD-set-same ns (suc i) (getD ms i noMessage) noMessage (omega (arith, w .room)) ∙ ap (λ (k : ℕ). getD ms k noMessage) (sym e)
+        | no d ↦ getD-set-other ns (suc i) (suc j) (getD ms i noMessage) noMessage (λ e. d (omega arith)) ∙ w .moved j a (omega arith)
+      ];
+    })
+
+insert-at : (ms rs : List Message) (at n : ℕ) (μ : Message) → at ≤ n → ((j : ℕ) → j < at → getD rs j noMessage ≡ getD ms j noMessage) → getD rs at noMessage ≡ μ
+    → ((j : ℕ) → at ≤ j → j < n → getD rs (suc j) noMessage ≡ getD ms j noMessage) → channelOf rs (suc n) ≡ insert (channelOf ms n) (suc at) μ
+insert-at ms rs at zero μ l below here above = ap (λ (m : Message). m ∷ []) (ap (λ (k : ℕ). getD rs k noMessage) (let z : 0 ≡ at = omega arith in z) ∙ here)
+insert-at ms rs at (suc n) μ l below here above = elim (ℕ-discrete at (suc n)) [
+  | yes e ↦ ap₂ {A = Message} {B = List Message} (λ m ns. m ∷ ns) (ap (λ (k : ℕ). getD rs k noMessage) (sym e) ∙ here) (channel-equal rs ms (suc n) (λ i k. below i (omega arith)))
+      ∙ sym (ap (λ (b : Bool). cond b (getD ms n noMessage ∷ insert (channelOf ms n) (suc at) μ) (μ ∷ channelOf ms (suc n))) (lt-leb (suc at) (suc (length (channelOf ms n))) (omega (arith, channel-length ms n))))
+  | no d ↦ ap₂ {A = Message} {B = List Message} (λ m ns. m ∷ ns) (above n (omega arith) (omega arith)) (insert-at ms rs at n μ (omega arith) below here (λ j a b. above j a (omega arith)))
+      ∙ sym (ap (λ (b : Bool). cond b (getD ms n noMessage ∷ insert (channelOf ms n) (suc at) μ) (μ ∷ channelOf ms (suc n))) (le-leb (suc at) (suc (length (channelOf ms n))) (omega (arith, channel-length ms n))))
+]
+
+pub shift-end : {ms ns : List Message} {at i : ℕ} (μ : Message) (n : ℕ) → Shifted ms ns at i → n ≤ i → at ≤ n → n < 20 → channelOf (set ns at μ) (n + 1) ≡ insert (channelOf ms n) (at + 1) μ
+shift-end {ms} {ns} {at} {i} μ n w a b c =
+    simp unary-clauses (insert-at ms (set ns at μ) at n μ b
+    (λ j l. getD-set-other ns at j μ noMessage (λ e. omega arith) ∙ w .kept j (omega arith))
+    (getD-set-same ns at μ noMessage (omega (arith, w .room)))
+    (λ j k l. getD-set-other ns at (suc j) μ noMessage (λ e. omega arith) ∙ w .moved j k (omega arith)))

@@ -1,0 +1,48 @@
+-- A cube with one part changed.
+use Prim.Native.Nat.{ℕ, _+_, _<_, _≤_}
+use mathlib.Core.Path.{_≡_}
+use mathlib.Core.List.{List}
+use lib.ListN.{getD}
+use Rattle.pws.specs.Machine.{Memory, Configuration}
+use Rattle.pws.specs.Insertion.{up}
+use Rattle.records.specs.declared.entry.Queue.{Queue}
+use Rattle.records.specs.declared.entry.Cube.{Cube}
+use Rattle.records.specs.Cube.{noQueue, configurationOf}
+
+abbrev pub withMemory : Configuration → Memory → Configuration
+withMemory e m = record { state = e .state; queue = e .queue; memory = m }
+
+abbrev pub withQueues : Configuration → (ℕ → ℕ → List ℕ) → Configuration
+withQueues e qs = record { state = e .state; queue = qs; memory = e .memory }
+
+abbrev pub withStates : Configuration → (ℕ → ℕ) → Configuration
+withStates e states = record { state = states; queue = e .queue; memory = e .memory }
+
+-- r stands for e, and has this number of messages and these queues
+pub record Changed (r : Cube) (e : Configuration) (n : ℕ) (qs : List Queue) : Type 0 where
+  pub configuration : configurationOf r ≡ e
+  pub count : r .count ≡ n
+  pub queues : r .queues ≡ qs
+
+-- r stands for e, and there is room for it in a cube
+pub record Fits (r : Cube) (e : Configuration) : Type 0 where
+  pub configuration : configurationOf r ≡ e
+  pub count : r .count ≤ 20
+  pub queues : (i : ℕ) → i < 16 → getD (r .queues) i noQueue .count ≤ 9
+
+abbrev pub byNumber : List ℕ → ℕ → ℕ
+byNumber zs q = getD zs q 0
+
+abbrev pub allUp : ℕ → (ℕ → ℕ) → ℕ → ℕ
+allUp k z q = up k (z q)
+
+-- pointers that can go up by one
+abbrev pub Low : List ℕ → Type 0
+Low zs = (q : ℕ) → q < 4 → getD zs q 0 < 255
+
+-- a message may be put into c as number k
+pub record Room (c : Cube) (k : ℕ) : Type 0 where
+  pub some : 1 ≤ k
+  pub most : k ≤ c .count + 1
+  pub count : c .count < 20
+  pub pointers : Low (c .pointers)

@@ -1,0 +1,27 @@
+-- Kinds of predecessor cubes as the code holds them, and the cubes that it takes them of.
+use Prim.Native.Nat.{ℕ, _<_, _≤_}
+use mathlib.Core.List.{List}
+use lib.ListN.{getD}
+use Rattle.lists.specs.Predecessors as lists
+use Rattle.records.specs.declared.program.Shape.{Shape}
+use Rattle.records.specs.declared.entry.Cube.{Cube}
+use Rattle.records.specs.Cube.{noQueue}
+use Rattle.before.specs.declared.Kind.{Kind}
+use Rattle.before.specs.declared.Kind.the-variants.{Undone, Waited, Inside, OnTop, Pointed}
+
+abbrev pub kindOf : Kind → lists.Kind
+kindOf Undone = lists.undone
+kindOf Waited = lists.waited
+kindOf (Inside k) = lists.inside k
+kindOf (OnTop u) = lists.onTop u
+kindOf (Pointed r u) = lists.pointed r u
+
+-- The sizes of an entry of a file: its cubes of predecessors have room.
+pub record Sound (s : Shape) (c : Cube) : Type 0 where
+  pub processes : s .processes ≤ 4
+  pub variables : s .variables ≤ 4
+  pub some : 1 ≤ c .count
+  pub count : c .count ≤ 16
+  pub queues : (i : ℕ) → i < 16 → getD (c .queues) i noQueue .count ≤ 8
+  pub pointer : (p : ℕ) → p < s .processes → 1 ≤ getD (c .pointers) p 0
+  pub pointers : (p : ℕ) → p < 4 → getD (c .pointers) p 0 ≤ c .count
