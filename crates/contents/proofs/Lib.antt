@@ -5,3 +5,6 @@ pub mod Rows
 pub mod ProgramPart
 pub mod Loading
 pub mod Entry
+pub mod Entries
+pub mod Contents
+pub mod Again
