@@ -1,2 +1,2 @@
-pub mod Below
 pub mod StartLaws
+pub mod ShapeLaws

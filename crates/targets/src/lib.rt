@@ -1,26 +1,29 @@
 // Targets and starts of a list (theory, sections 3 and 4).
 ghost use mathlib.Core.Path.{_≡_};
-ghost use Prim.Native.Nat.{ℕ, _+_, _*_, _≤_, _<_, min};
-ghost use lib.ListN.{length, getD};
-ghost use lib.Dec.{eqb};
-ghost use Rattle.pws.specs.Machine.{isEmpty, allBelow};
-ghost use Rattle.records.specs.Cube.{waitingOf, queueOf, configurationOf};
+ghost use Prim.Native.Nat.{ℕ, _+_, _-_, _*_, _≤_, _<_, min};
+ghost use lib.ListN.{length, getD, take};
+ghost use mathlib.Core.Bool.{cond, not};
+ghost use lib.Dec.{eqb, ltb};
+ghost use Rattle.pws.specs.Machine.{isEmpty, allBelow, labelled};
+ghost use Rattle.records.specs.ProgramPart.{shapeOf};
+ghost use Rattle.records.specs.Cube.{waitingOf, queueOf, channelOf, configurationOf};
+ghost use Rattle.lists.specs.Lists.{any};
 ghost use Rattle.lists.specs.Values.{fills};
+ghost use Rattle.lists.specs.Cubes.{anyMessage};
+ghost use Rattle.lists.specs.Shapes.{allowed};
 ghost use Rattle.lists.specs.Decision.{looksStarted};
 ghost use Rattle.targets.specs.Sizes.{Small, startsOf};
+ghost use Rattle.targets.specs.ShapeCube.{ShapeCube, withWaiting};
+use matching::least;
+use pws::Message;
+use records::bytes::both;
+use records::bytes::wide;
 use records::entry::Cube;
 use records::entry::Queue;
 use records::evidence::either;
 use records::program::Shape;
 
 // ---- starts (section 4)
-
-// At most the four that there is room for.
-fn of_four(n: usize) -> usize
-    ensures { λ r. ⌜ r ≡ min n 4 ⌝ }
-{
-    if n <= 4 { n } else { 4 }
-}
 
 // Nothing waits.
 fn is_empty(queue: Queue) -> bool
@@ -89,8 +92,8 @@ fn may_be_zero(n: usize, values: [u8; 4]) -> bool
 pub fn looks_started(shape: Shape, initial: [u8; 4], cube: Cube) -> bool
     ensures { λ r. ⌜ (Small shape → r ≡ looksStarted (startsOf shape initial) (configurationOf cube)) ⌝ }
 {
-    let n = of_four(shape.processes);
-    let m = of_four(shape.variables);
+    let n = least(shape.processes, 4);
+    let m = least(shape.variables, 4);
     let states = cube.states;
     if !same_bytes(n, states, initial) {
         return false;
@@ -105,4 +108,158 @@ pub fn looks_started(shape: Shape, initial: [u8; 4], cube: Cube) -> bool
     let message = cube.messages[0];
     let values = message.snapshot;
     may_be_zero(m, values)
+}
+
+// ---- shapes (section 3)
+
+fn any_value(variables: usize, v: usize) -> u8
+    ensures { λ r. ⌜ r ≡ cond (ltb v variables) 255 0 ⌝ }
+{
+    if v < variables { 255 } else { 0 }
+}
+
+// A message all of whose values are free.
+fn any_message(shape: Shape, p: usize, v: usize) -> Message
+    requires { ⌜ (p < 4) × (v < 4) ⌝ }
+    ensures { λ r. ⌜ r ≡ anyMessage (shapeOf shape) p v ⌝ }
+{
+    let n = shape.variables;
+    let snapshot = [
+        any_value(n, 0),
+        any_value(n, 1),
+        any_value(n, 2),
+        any_value(n, 3),
+    ];
+    Message {
+        process: p as u8,
+        variable: v as u8,
+        snapshot: snapshot,
+    }
+}
+
+// One of the first n messages has this label.
+fn is_seen(messages: [Message; 20], n: usize, p: usize, v: usize) -> bool
+    requires { ⌜ n ≤ 20 ⌝ }
+    ensures { λ r. ⌜ r ≡ any (λ m. labelled m p v) (channelOf messages n) ⌝ }
+{
+    for i in 0..n {
+        let message = messages[i];
+        let process = wide(message.process);
+        let variable = wide(message.variable);
+        if both(process == p, variable == v) {
+            return true;
+        }
+    }
+    false
+}
+
+// A message with this label, older than the first n, has a role.
+fn is_allowed(
+    shape: Shape,
+    messages: [Message; 20],
+    n: usize,
+    places: [u8; 4],
+    new: [u8; 4],
+    p: usize,
+    v: usize,
+) -> bool
+    requires { ⌜ (shape .processes ≤ 4) × ((n ≤ 20) × (p < 4)) ⌝ }
+    ensures { λ r. ⌜ r ≡ allowed (shapeOf shape) (channelOf messages n) (λ q. getD places q 0) (λ q. getD new q 0) p v ⌝ }
+{
+    let processes = shape.processes;
+    if !same_bytes(processes, new, places) {
+        return true;
+    }
+    if is_seen(messages, n, p, v) {
+        return false;
+    }
+    places[p] == 0
+}
+
+fn all_placed(n: usize, places: [u8; 4]) -> bool
+    requires { ⌜ n ≤ 4 ⌝ }
+    ensures { λ r. ⌜ r ≡ allBelow n (λ q. not (eqb (getD places q 0) 0)) ⌝ }
+{
+    for q in 0..n {
+        if places[q] == 0 {
+            return false;
+        }
+    }
+    true
+}
+
+// The first n messages, which stand newest first, oldest first.
+fn oldest_first(messages: [Message; 20], n: usize) -> [Message; 20]
+    requires { ⌜ n ≤ 20 ⌝ }
+    ensures { λ r. ⌜ channelOf r n ≡ take n messages ⌝ }
+{
+    let mut turned = messages;
+    for i in 0..n {
+        let k = n - 1 - i;
+        let message = messages[k];
+        turned[i] = message;
+    }
+    turned
+}
+
+// The pointer of a process whose place is counted from the newest of n messages.
+fn pointer_at(exists: bool, n: usize, place: u8) -> u8
+    requires { ⌜ n ≤ 20 ⌝ }
+    ensures { λ r. ⌜ r ≡ cond exists (n + 1 - place) 0 ⌝ }
+{
+    if !exists {
+        return 0;
+    }
+    let next = (n + 1) as u8;
+    if place <= next {
+        return next - place;
+    }
+    0
+}
+
+// The shape with these messages, newest first, and these places, and no waiting value.
+fn shape_cube(
+    shape: Shape,
+    states: [u8; 4],
+    messages: [Message; 20],
+    n: usize,
+    places: [u8; 4],
+) -> Cube
+    requires { ⌜ (shape .processes ≤ 4) × (n ≤ 20) ⌝ }
+    ensures { λ r. ⌜ ShapeCube shape states messages n places r ⌝ }
+{
+    let processes = shape.processes;
+    let pointers = [
+        pointer_at(0 < processes, n, places[0]),
+        pointer_at(1 < processes, n, places[1]),
+        pointer_at(2 < processes, n, places[2]),
+        pointer_at(3 < processes, n, places[3]),
+    ];
+    let none = [0u8; 9];
+    let queues = [Queue {
+        values: none,
+        count: 0,
+    }; 16];
+    Cube {
+        states: states,
+        pointers: pointers,
+        queues: queues,
+        messages: oldest_first(messages, n),
+        count: n,
+    }
+}
+
+// With one free value in the queue of p and v.
+fn with_waiting(cube: Cube, p: usize, v: usize) -> Cube
+    requires { ⌜ (p < 4) × (v < 4) ⌝ }
+    ensures { λ r. ⌜ r ≡ withWaiting cube p v ⌝ }
+{
+    let values = [255u8, 0, 0, 0, 0, 0, 0, 0, 0];
+    let k = 4 * p + v;
+    let mut next = cube;
+    next.queues[k] = Queue {
+        values: values,
+        count: 1,
+    };
+    next
 }

@@ -9,23 +9,23 @@ use Rattle.targets.proofs.looks_started.Tie as tie
 
 pub looks-started-spec : {M : Type 1} → statement M
 looks-started-spec = tie.close (tie.spec
-    -- of-four-requires
+    -- least-requires
     (λ c κs. search needs)
-    -- of-four-requires-2
+    -- least-requires-2
     (λ c κs. search needs)
     -- same-bytes-requires
-    (λ c κs. omega (arith, c .before .before .of-four .ensures))
+    (λ c κs. omega (arith, c .before .before .least .ensures))
     -- returns
-    (λ c small. other-states (c .before .before .before .before .before .args .shape) (c .before .before .before .before .before .args .initial) (c .before .before .before .before .before .args .t3) (c .before .before .before .before .of-four .result) (c .before .before .before .of-four2 .result) (c .before .before .before .before .of-four .ensures) (c .before .before .before .of-four2 .ensures) small (sym (c .before .same-bytes .ensures) ∙ not-true _ (c .if1 .taken)))
+    (λ c small. other-states (c .before .before .before .before .before .args .shape) (c .before .before .before .before .before .args .initial) (c .before .before .before .before .before .args .t3) (c .before .before .before .before .least .result) (c .before .before .before .least2 .result) (c .before .before .before .before .least .ensures) (c .before .before .before .least2 .ensures) small (sym (c .before .same-bytes .ensures) ∙ not-true _ (c .if1 .taken)))
     -- none-waiting-requires
-    (λ c κs. (omega (arith, c .before .before .before .before .before .of-four .ensures), omega (arith, c .before .before .before .before .of-four2 .ensures)))
+    (λ c κs. (omega (arith, c .before .before .before .before .before .least .ensures), omega (arith, c .before .before .before .before .least2 .ensures)))
     -- returns-2
-    (λ c small. some-waiting (c .before .before .before .before .before .before .before .before .args .shape) (c .before .before .before .before .before .before .before .before .args .initial) (c .before .before .before .before .before .before .before .before .args .t3) (c .before .before .before .before .before .before .before .of-four .result) (c .before .before .before .before .before .before .of-four2 .result) (c .before .before .before .before .before .before .before .of-four .ensures) (c .before .before .before .before .before .before .of-four2 .ensures) small (sym (c .before .before .before .before .same-bytes .ensures) ∙ not-false _ (c .before .before .before .if1 .left)) (sym (c .before .none-waiting .ensures) ∙ not-true _ (c .if2 .taken)))
+    (λ c small. some-waiting (c .before .before .before .before .before .before .before .before .args .shape) (c .before .before .before .before .before .before .before .before .args .initial) (c .before .before .before .before .before .before .before .before .args .t3) (c .before .before .before .before .before .before .before .least .result) (c .before .before .before .before .before .before .least2 .result) (c .before .before .before .before .before .before .before .least .ensures) (c .before .before .before .before .before .before .least2 .ensures) small (sym (c .before .before .before .before .same-bytes .ensures) ∙ not-false _ (c .before .before .before .if1 .left)) (sym (c .before .none-waiting .ensures) ∙ not-true _ (c .if2 .taken)))
     -- returns-3
-    (λ c small. other-count (c .before .before .before .before .before .before .before .before .before .args .shape) (c .before .before .before .before .before .before .before .before .before .args .initial) (c .before .before .before .before .before .before .before .before .before .args .t3) (c .before .before .before .before .before .before .before .before .of-four .result) (c .before .before .before .before .before .before .before .of-four2 .result) (c .before .before .before .before .before .before .before .before .of-four .ensures) (c .before .before .before .before .before .before .before .of-four2 .ensures) small (sym (c .before .before .before .before .before .same-bytes .ensures) ∙ not-false _ (c .before .before .before .before .if1 .left)) (sym (c .before .before .none-waiting .ensures) ∙ not-false _ (c .before .if2 .left)) (ne-eqb _ _ (c .if3 .taken)))
+    (λ c small. other-count (c .before .before .before .before .before .before .before .before .before .args .shape) (c .before .before .before .before .before .before .before .before .before .args .initial) (c .before .before .before .before .before .before .before .before .before .args .t3) (c .before .before .before .before .before .before .before .before .least .result) (c .before .before .before .before .before .before .before .least2 .result) (c .before .before .before .before .before .before .before .before .least .ensures) (c .before .before .before .before .before .before .before .least2 .ensures) small (sym (c .before .before .before .before .before .same-bytes .ensures) ∙ not-false _ (c .before .before .before .before .if1 .left)) (sym (c .before .before .none-waiting .ensures) ∙ not-false _ (c .before .if2 .left)) (ne-eqb _ _ (c .if3 .taken)))
     -- element-copy-out-message
     (λ c. search needs)
     -- may-be-zero-requires
-    (λ c κs. omega (arith, c .before .before .before .before .before .before .before .before .before .of-four2 .ensures))
+    (λ c κs. omega (arith, c .before .before .before .before .before .before .before .before .before .least2 .ensures))
     -- returns-4
-    (λ c small. c .may-be-zero .ensures ∙ one-message (c .before .before .before .before .before .before .before .before .before .before .before .before .args .shape) (c .before .before .before .before .before .before .before .before .before .before .before .before .args .initial) (c .before .before .before .before .before .before .before .before .before .before .before .before .args .t3) (c .before .before .before .before .before .before .before .before .before .before .before .of-four .result) (c .before .before .before .before .before .before .before .before .before .before .of-four2 .result) (c .before .before .before .before .before .before .before .before .before .before .before .of-four .ensures) (c .before .before .before .before .before .before .before .before .before .before .of-four2 .ensures) small (sym (c .before .before .before .before .before .before .before .before .same-bytes .ensures) ∙ not-false _ (c .before .before .before .before .before .before .before .if1 .left)) (sym (c .before .before .before .before .before .none-waiting .ensures) ∙ not-false _ (c .before .before .before .before .if2 .left)) (c .before .before .before .if3 .left)))
+    (λ c small. c .may-be-zero .ensures ∙ one-message (c .before .before .before .before .before .before .before .before .before .before .before .before .args .shape) (c .before .before .before .before .before .before .before .before .before .before .before .before .args .initial) (c .before .before .before .before .before .before .before .before .before .before .before .before .args .t3) (c .before .before .before .before .before .before .before .before .before .before .before .least .result) (c .before .before .before .before .before .before .before .before .before .before .least2 .result) (c .before .before .before .before .before .before .before .before .before .before .before .least .ensures) (c .before .before .before .before .before .before .before .before .before .before .least2 .ensures) small (sym (c .before .before .before .before .before .before .before .before .same-bytes .ensures) ∙ not-false _ (c .before .before .before .before .before .before .before .if1 .left)) (sym (c .before .before .before .before .before .none-waiting .ensures) ∙ not-false _ (c .before .before .before .before .if2 .left)) (c .before .before .before .if3 .left)))

@@ -1,16 +1,17 @@
+use mathlib.Core.Bool.{true}
 use Prim.Native.Nat.{_-_}
 use native.Mathlib.Omega.{arith}
 use borrow.Author.Tests.{not-true, not-false}
 use mathlib.Core.Path.{sym, ap, _∙_}
 use lib.ListN.{getD}
 use Rattle.lists.specs.Values.{fills}
-use Rattle.targets.proofs.Below.{all-false, Each, each-begin, each-next, each-all}
+use Rattle.matching.proofs.Below.{all-false, Each, each-begin, each-next, each-all}
 use borrow.Author.Needs.{needs}
 use Rattle.targets.proofs.may_be_zero.Statement.{statement}
 use Rattle.targets.proofs.may_be_zero.Tie as tie
 
 abbrev Inv-loop : tie.InvT-loop
-Inv-loop n values v₀ v = Each (λ k. fills (getD values k 0) 0) n v
+Inv-loop n values v₀ v = Each (λ k. fills (getD values k 0) 0) true n v
 
 abbrev μ-loop : tie.MeasureT-loop
 μ-loop n values v₀ v = n - v
@@ -20,7 +21,7 @@ may-be-zero-spec = tie.close (tie.spec
     Inv-loop
     μ-loop
     -- loop-holds
-    (λ c. each-begin (λ k. fills (getD (c .args .t2) k 0) 0) (c .args .n))
+    (λ c. each-begin (λ k. fills (getD (c .args .t2) k 0) 0) true (c .args .n))
     -- array-read-x
     (λ c. search needs)
     -- either-requires

@@ -1,16 +1,17 @@
+use mathlib.Core.Bool.{true}
 use Prim.Native.Nat.{_-_}
 use native.Mathlib.Omega.{arith}
 use borrow.Author.Tests.{not-true, not-false}
 use mathlib.Core.Path.{sym, ap, _∙_}
 use Rattle.pws.specs.Machine.{isEmpty, allBelow}
 use Rattle.records.specs.Cube.{queueOf}
-use Rattle.targets.proofs.Below.{all-false, Each, each-begin, each-next, each-all}
+use Rattle.matching.proofs.Below.{all-false, Each, each-begin, each-next, each-all}
 use borrow.Author.Needs.{needs}
 use Rattle.targets.proofs.none_waiting.Statement.{statement}
 use Rattle.targets.proofs.none_waiting.Tie as tie
 
 abbrev Inv-loop : tie.InvT-loop
-Inv-loop n m queues p₀ p = Each (λ k. allBelow m (λ v. isEmpty (queueOf queues k v))) n p
+Inv-loop n m queues p₀ p = Each (λ k. allBelow m (λ v. isEmpty (queueOf queues k v))) true n p
 
 abbrev μ-loop : tie.MeasureT-loop
 μ-loop n m queues p₀ p = n - p
@@ -20,7 +21,7 @@ none-waiting-spec = tie.close (tie.spec
     Inv-loop
     μ-loop
     -- loop-holds
-    (λ c. each-begin (λ k. allBelow (c .args .m) (λ v. isEmpty (queueOf (c .args .queues) k v))) (c .args .n))
+    (λ c. each-begin (λ k. allBelow (c .args .m) (λ v. isEmpty (queueOf (c .args .queues) k v))) true (c .args .n))
     -- row-empty-requires
     (λ c κs. search needs)
     -- returns

@@ -1,3 +1,4 @@
+use mathlib.Core.Bool.{true}
 use Prim.Native.Nat.{_-_}
 use native.Mathlib.Omega.{arith}
 use borrow.Author.Tests.{not-true, not-false}
@@ -5,13 +6,13 @@ use mathlib.Core.Path.{sym, ap, _∙_}
 use Rattle.pws.specs.Machine.{isEmpty}
 use Rattle.records.specs.Cube.{queueOf}
 use Rattle.records.proofs.CubeParts.{queue-of}
-use Rattle.targets.proofs.Below.{all-false, Each, each-begin, each-next, each-all}
+use Rattle.matching.proofs.Below.{all-false, Each, each-begin, each-next, each-all}
 use borrow.Author.Needs.{needs}
 use Rattle.targets.proofs.row_empty.Statement.{statement}
 use Rattle.targets.proofs.row_empty.Tie as tie
 
 abbrev Inv-loop : tie.InvT-loop
-Inv-loop n p queues v₀ v = Each (λ k. isEmpty (queueOf queues p k)) n v
+Inv-loop n p queues v₀ v = Each (λ k. isEmpty (queueOf queues p k)) true n v
 
 abbrev μ-loop : tie.MeasureT-loop
 μ-loop n p queues v₀ v = n - v
@@ -21,7 +22,7 @@ row-empty-spec = tie.close (tie.spec
     Inv-loop
     μ-loop
     -- loop-holds
-    (λ c. each-begin (λ k. isEmpty (queueOf (c .args .t2) (c .args .p) k)) (c .args .n))
+    (λ c. each-begin (λ k. isEmpty (queueOf (c .args .t2) (c .args .p) k)) true (c .args .n))
     -- mul-k
     (λ c. search needs)
     -- add-k

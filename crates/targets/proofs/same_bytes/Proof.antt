@@ -1,16 +1,17 @@
+use mathlib.Core.Bool.{true}
 use Prim.Native.Nat.{_-_}
 use lib.ListN.{getD}
 use lib.Dec.{eqb}
 use native.Mathlib.Omega.{arith}
 use borrow.Author.Tests.{eq-eqb, ne-eqb}
-use Rattle.targets.proofs.Below.{all-false, Each, each-begin, each-next, each-all}
+use Rattle.matching.proofs.Below.{all-false, Each, each-begin, each-next, each-all}
 use mathlib.Core.Path.{sym}
 use borrow.Author.Needs.{needs}
 use Rattle.targets.proofs.same_bytes.Statement.{statement}
 use Rattle.targets.proofs.same_bytes.Tie as tie
 
 abbrev Inv-loop : tie.InvT-loop
-Inv-loop n a b p₀ p = Each (λ k. eqb (getD a k 0) (getD b k 0)) n p
+Inv-loop n a b p₀ p = Each (λ k. eqb (getD a k 0) (getD b k 0)) true n p
 
 abbrev μ-loop : tie.MeasureT-loop
 μ-loop n a b p₀ p = n - p
@@ -20,7 +21,7 @@ same-bytes-spec = tie.close (tie.spec
     Inv-loop
     μ-loop
     -- loop-holds
-    (λ c. each-begin (λ k. eqb (getD (c .args .t2) k 0) (getD (c .args .t3) k 0)) (c .args .n))
+    (λ c. each-begin (λ k. eqb (getD (c .args .t2) k 0) (getD (c .args .t3) k 0)) true (c .args .n))
     -- array-read-if1
     (λ c. search needs)
     -- array-read-if1-2
