@@ -4,8 +4,11 @@ use mathlib.Core.Path.{_≡_, refl, sym, ap, subst, _∙_}
 use mathlib.Core.Logic.{_≢_}
 use mathlib.Core.List.{List, [], _∷_, _++_}
 use native.Mathlib.Omega.{arith}
-use lib.ListN.{length, length-set, length-replicate, getD, getD-replicate, set, take, replicate}
+use lib.ListN.{List·getD-eq-default, length, length-set, length-replicate, getD, getD-replicate, set, take, replicate}
 use lib.Seq.{ext-getD, getD-set-same, getD-set-other}
+use Rattle.pws.specs.declared.Operation.the-variants.{Nop}
+use Rattle.records.specs.Bytes.{byte}
+use Rattle.records.specs.Records.{transitionAt, operationOf}
 use native.Mathlib.Decide.{ℕ-discrete}
 
 -- ---- cleared up to i
@@ -33,3 +36,13 @@ pub cleared-all : {old new : List ℕ} {i : ℕ} → Cleared old new i → lengt
 cleared-all {old} {new} {i} c l =
     ext-getD 0 new (replicate (length old) 0) (c .same ∙ sym (length-replicate (length old) 0)) (λ j k.
     c .zeros j (omega (arith, c .same)) ∙ sym (getD-replicate (length old) j 0 0 (omega (arith, c .same))))
+
+-- ---- past the end of a file everything is 0
+
+byte-past : (f : List ℕ) (i : ℕ) → length f ≤ i → byte f i ≡ 0
+byte-past f i l = List·getD-eq-default f 0 l
+
+pub transition-past : (f : List ℕ) (at : ℕ) → length f ≤ at → transitionAt f at ≡ record { process = 0; from = 0; operation = Nop; to = 0 }
+unfolding operationOf
+transition-past f at l =
+    rw (byte-past f (at + 1) (omega arith), byte-past f (at + 2) (omega arith), byte-past f (at + 3) (omega arith), byte-past f (at + 7) (omega arith))

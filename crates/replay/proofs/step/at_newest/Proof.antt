@@ -1,0 +1,12 @@
+use Rattle.replay.specs.Layout.{atNewestIn}
+use borrow.Author.Needs.{needs}
+use Rattle.replay.proofs.step.at_newest.Statement.{statement}
+use Rattle.replay.proofs.step.at_newest.Tie as tie
+
+pub at-newest-spec : {M : Type 1} → statement M
+unfolding atNewestIn
+at-newest-spec = tie.close (tie.spec
+    -- pointer-of-requires 185:5
+    (λ c κs. search needs)
+    -- returns 182:1
+    (λ c. rw (c .before .pointer-of .ensures)))
