@@ -1,0 +1,87 @@
+-- How the irreducible shapes are walked: the list `shapeCubes`, cut where the walk branches. No statement rests on these definitions.
+use Prim.Native.Nat.{ℕ, zero, suc, _+_, _-_, _*_}
+use mathlib.Core.Path.{_≡_}
+use mathlib.Core.Bool.{Bool, true, false}
+use mathlib.Core.List.{List, [], _∷_, _++_, map, List·Memᴰ}
+use lib.ListN.{getD, take}
+use lib.Dec.{eqb}
+use Rattle.pws.specs.declared.Message.{Message}
+use Rattle.pws.specs.Machine.{Configuration, put, putQueue}
+use Rattle.pws.specs.Configurations.{Fits}
+use Rattle.pws.specs.Entries.{FF, ValueOrFF}
+use Rattle.records.specs.declared.program.Shape.{Shape}
+use Rattle.records.specs.declared.entry.Cube.{Cube}
+use Rattle.records.specs.ProgramPart.{shapeOf}
+use Rattle.records.specs.Cube.{channelOf, configurationOf}
+use Rattle.lists.specs.Lists.{forEach, every}
+use Rattle.lists.specs.Cubes.{anyMessage}
+use Rattle.lists.specs.Shapes.{Outline, allowed, outlines, longest, queueShapes}
+use Rattle.lists.specs.Decision.{held}
+use Rattle.targets.specs.Search.{entriesOf, Searchable}
+use Rattle.targets.specs.ShapeCube.{Roomy, emptyShape}
+
+-- ---- what a walk over some shapes says
+
+-- every cube that fits the shape can be searched for
+pub record Searches (f list : List ℕ) (n : ℕ) (s : Shape) : Type 0 where
+  pub search : (c : Cube) → Roomy c → Fits (ValueOrFF (shapeOf s)) (shapeOf s) (configurationOf c) → Searchable f list n s c
+
+-- r says whether all of cs are held, if they fit the shape
+pub record Judges (f list : List ℕ) (n : ℕ) (s : Shape) (cs : List Configuration) (r : Bool) : Type 0 where
+  pub judged : Searches f list n s → ((c : Configuration) → List·Memᴰ c cs → Fits (ValueOrFF (shapeOf s)) (shapeOf s) c) → r ≡ every (held (shapeOf s) (entriesOf f list n)) cs
+
+-- ---- queues
+
+-- `left` queues of p, from that of v on, are to be empty or not
+abbrev pub rowFrom : ℕ → ℕ → ℕ → (ℕ → ℕ → List ℕ) → List (ℕ → ℕ → List ℕ)
+rowFrom zero p v q = q ∷ []
+rowFrom (suc left) p v q = rowFrom left p (suc v) q ++ rowFrom left p (suc v) (putQueue q p v (FF ∷ []))
+
+-- and those of `rows` processes, from p on
+abbrev pub rowsFrom : ℕ → ℕ → ℕ → (ℕ → ℕ → List ℕ) → List (ℕ → ℕ → List ℕ)
+rowsFrom variables zero p q = q ∷ []
+rowsFrom variables (suc rows) p q = forEach (rowFrom variables p 0 q) (rowsFrom variables rows (suc p))
+
+-- the queues of p from v on, and those of the processes after p
+unfoldable pub queuesFrom : Shape → ℕ → ℕ → (ℕ → ℕ → List ℕ) → List (ℕ → ℕ → List ℕ)
+queuesFrom s p v q = forEach (rowFrom (s .variables - v) p v q) (rowsFrom (s .variables) (s .processes - suc p) (suc p))
+
+abbrev pub withQueues : Configuration → (ℕ → ℕ → List ℕ) → Configuration
+withQueues c q = record { state = c .state; queue = q; memory = c .memory }
+
+-- c, and the shapes that differ from it in these queues
+unfoldable pub queueCubes : Shape → Configuration → ℕ → ℕ → List Configuration
+queueCubes s c p v = map (withQueues c) (queuesFrom s p v (c .queue))
+
+-- ---- channels
+
+-- each way to place at d some of the `left` processes from q on
+abbrev pub choicesFrom : (ℕ → ℕ) → ℕ → ℕ → ℕ → (ℕ → ℕ) → List (ℕ → ℕ)
+choicesFrom place d zero q new = new ∷ []
+choicesFrom place d (suc left) q new = elim (eqb (place q) 0) [
+  | true ↦ choicesFrom place d left (suc q) new ++ choicesFrom place d left (suc q) (put new q d)
+  | false ↦ choicesFrom place d left (suc q) new
+]
+
+-- the shapes with these messages, newest first, before those of an outline
+abbrev pub cubesAfter : Shape → List ℕ → List Message → Outline → List Configuration
+cubesAfter s states front o =
+    map (withQueues (emptyShape s states (record { channel = front ++ o .channel; place = o .place }))) (queueShapes (s .processes) (s .variables))
+
+-- the shapes whose newest d messages are these, with these places
+unfoldable pub outlineCubes : Shape → List ℕ → List Message → ℕ → List ℕ → List Configuration
+outlineCubes s states ms d places =
+    forEach (outlines (shapeOf s) (suc (longest (shapeOf s)) - d) d (channelOf ms d) (λ q. getD places q 0)) (cubesAfter s states (take d ms))
+
+-- those whose next message has the label (p, v), and the places new
+abbrev pub labelCubes : Shape → List ℕ → List Message → ℕ → List ℕ → ℕ → ℕ → (ℕ → ℕ) → List Configuration
+labelCubes s states ms d places p v new = elim (allowed (shapeOf s) (channelOf ms d) (λ q. getD places q 0) new p v) [
+  | true ↦ forEach (outlines (shapeOf s) (longest (shapeOf s) - d) (suc d) (anyMessage (shapeOf s) p v ∷ channelOf ms d) new)
+      (cubesAfter s states (take d ms ++ (anyMessage (shapeOf s) p v ∷ [])))
+  | false ↦ []
+]
+
+-- and those whose places are these up to q
+unfoldable pub choiceCubes : Shape → List ℕ → List Message → ℕ → List ℕ → ℕ → ℕ → List ℕ → ℕ → List Configuration
+choiceCubes s states ms d places p v new q =
+    forEach (choicesFrom (λ k. getD places k 0) (suc d) (s .processes - q) q (λ k. getD new k 0)) (labelCubes s states ms d places p v)
