@@ -1,26 +1,53 @@
 -- What the reading hands on, and what it leaves in the work area, give the contents of the file again.
 use Prim.Native.Nat.{ℕ, _+_, _*_, _-_, _<_, _≤_}
-use mathlib.Core.Path.{_≡_, refl, sym, ap, ap₂, subst, _∙_}
+use mathlib.Core.Path.{_≡_, refl, sym, ap, _∙_}
 use mathlib.Core.List.{List, [], _∷_, _++_}
 use native.Mathlib.Omega.{arith}
-use lib.ListN.{length, getD, take, drop, length-drop}
+use native.Mathlib.Decide.{decLt}
+use lib.ListN.{length, getD, take, drop, length-drop, List·getD-eq-default}
 use lib.Seq.{length-take-le, drop-at}
-use Rattle.pws.specs.Machine.{Configuration}
+use borrow.Author.Tests.{le-ltb}
+use Rattle.pws.specs.Program.{noTransition, transition}
 use Rattle.records.specs.declared.program.Refusal.{Refusal}
 use Rattle.records.specs.declared.program.Checked.{Checked}
 use Rattle.records.specs.declared.program.Checked.the-variants.{Fine, Refused}
 use Rattle.records.specs.declared.program.Program.{Program}
 use Rattle.records.specs.declared.evidence.Reading.{Reading}
-use Rattle.records.specs.Bytes.{le32}
-use Rattle.records.specs.Records.{transitionAt, stateAt}
-use Rattle.records.specs.ProgramPart.{programFrom, tableFrom, programOf, targetsOf}
+use Rattle.records.specs.Bytes.{byte}
+use Rattle.records.specs.Records.{transitionAt, stateAt, stepBody}
+use Rattle.records.specs.ProgramPart.{programFrom, programOf, targetsOf}
 use Rattle.records.specs.EvidencePart.{stepsOf, wroteFrom}
-use Rattle.records.specs.Cube.{loadEntry}
 use Rattle.records.specs.Reading.{partsOf, FileRead, refused, list, run, readFile, readingRefused, readingWith, readingOf, areaAfter}
 use Rattle.records.proofs.RecordLaws.{fine-refused, refused-same}
-use Rattle.contents.specs.Again.{cubeAt, entriesOf}
-use Rattle.contents.specs.Contents.{CubeRange}
-use Rattle.contents.proofs.Contents.{ListParts, RunParts, Outcome, outcome-refused, outcome-list, outcome-run, outcome, file-list, reading-with, listed, again, cubes, file-run, reading-steps}
+use Rattle.contents.specs.Again.{cubeAt, entriesOf, transitionOf, targetOf, placeOf}
+use Rattle.contents.specs.Contents.{ProgramSizes, CubeRange}
+use Rattle.contents.proofs.Tables.{table-number, of-four}
+use Rattle.contents.proofs.ProgramPart.{part-sizes}
+use Rattle.contents.proofs.Contents.{ListParts, RunParts, Outcome, outcome-refused, outcome-list, outcome-run, outcome, file-list, reading-with, listed, again, cubes, file-run, reading-steps, step-inside}
+
+-- ---- transitions and targets by number
+
+pub transition-again : (f : List ℕ) (p : Program) (i : ℕ) → i < p .transitions .count → transition (programOf f p) i ≡ transitionOf f p i
+transition-again f p i l = table-number (λ i. transitionAt f (p .transitions .at + 8 * i)) (p .transitions .count) i noTransition l
+
+four-states : (f : List ℕ) (at : ℕ)
+    → _≡_ {A = ℕ → ℕ} (stateAt f at) (λ q. getD (byte f (at + 1) ∷ byte f (at + 2) ∷ byte f (at + 3) ∷ byte f (at + 4) ∷ []) q 0)
+four-states f at = λ i q. each q i
+  where
+    bytes : List ℕ
+    bytes = byte f (at + 1) ∷ byte f (at + 2) ∷ byte f (at + 3) ∷ byte f (at + 4) ∷ []
+
+    each : (q : ℕ) → stateAt f at q ≡ getD bytes q 0
+    each q = elim (decLt q 4) [
+      | yes l ↦ of-four (λ (q : ℕ). stateAt f at q ≡ getD bytes q 0) refl refl refl refl q l
+      | no l ↦ let past : 4 ≤ q = omega arith in rw (le-ltb q 4 past) (sym (List·getD-eq-default bytes 0 past))
+    ]
+
+pub target-again : (f : List ℕ) (p : Program) (k : ℕ) → k < p .targets .count → getD (targetsOf f p) k (λ q. 0) ≡ (λ (q : ℕ). getD (targetOf f p k) q 0)
+target-again f p k l =
+    table-number (λ i. stateAt f (p .targets .at + 5 * i)) (p .targets .count) k (λ q. 0) l ∙ four-states f (p .targets .at + 5 * k)
+
+-- ---- what `read` returns and leaves
 
 module _ (f w : List ℕ) where
   abbrev area : ℕ
@@ -32,7 +59,6 @@ module _ (f w : List ℕ) where
       ap (λ x. drop 16384 (areaAfter x w)) (L .parts)
       ∙ drop-at (take 16384 w) (wroteFrom 0 (listed f area .offsets) (drop 16384 w)) 16384 (length-take-le 16384 w (omega (arith, L .enough)))
 
-  -- for what `read` returns and leaves
   module _ (R : Reading) (r : R ≡ readingOf (partsOf f area)) where
     abbrev Answered : Checked → Type 0
     Answered x = R .answer ≡ x
@@ -49,6 +75,15 @@ module _ (f w : List ℕ) where
       never : (x : Refusal) → readingOf (partsOf f area) ≡ readingRefused x → ⊥
       never x a = fine-refused (sym q ∙ ap (λ (z : Reading). z .answer) (r ∙ a))
 
+      -- the places and counts of the program part
+      pub reading-sizes : ProgramSizes (R .contents .program)
+      reading-sizes = go (outcome f area)
+        where
+          go : Outcome f area → ProgramSizes (R .contents .program)
+          go (outcome-refused y a b) = absurd (never y a)
+          go (outcome-list L) = rw (r ∙ reading-with f area L) (part-sizes f 0 (L .fine) refl)
+          go (outcome-run L) = rw (r ∙ reading-steps f area L) (part-sizes f 0 (L .fine) refl)
+
       -- claim 1
       pub reading-run : (R .contents .claim ≡ 0 → ⊥)
           → readFile f area ≡ run (programOf f (R .contents .program)) (targetsOf f (R .contents .program)) (stepsOf f (R .contents .evidence .at) (R .contents .evidence .count))
@@ -59,6 +94,17 @@ module _ (f w : List ℕ) where
           go (outcome-refused y a b) = absurd (never y a)
           go (outcome-list L) = absurd (c (ap (λ (z : Reading). z .contents .claim) (r ∙ reading-with f area L)))
           go (outcome-run L) = rw (r ∙ reading-steps f area L) (file-run f area L)
+
+      -- step i stands in the file
+      pub reading-step : (R .contents .claim ≡ 0 → ⊥) → (i : ℕ) → i < R .contents .evidence .count
+          → (let place = placeOf (λ k. 1 + stepBody f k) (R .contents .evidence .at) i in place + stepBody f place < length f)
+      reading-step c = go (outcome f area)
+        where
+          go : Outcome f area → (i : ℕ) → i < R .contents .evidence .count
+              → (let place = placeOf (λ k. 1 + stepBody f k) (R .contents .evidence .at) i in place + stepBody f place < length f)
+          go (outcome-refused y a b) = absurd (never y a)
+          go (outcome-list L) = absurd (c (ap (λ (z : Reading). z .contents .claim) (r ∙ reading-with f area L)))
+          go (outcome-run L) = rw (r ∙ reading-steps f area L) (step-inside f area L)
 
       -- claim 0
       module _ (work : List ℕ) (e : work ≡ areaAfter (partsOf f area) w) (c : R .contents .claim ≡ 0) where

@@ -46,7 +46,7 @@ use Rattle.records.specs.Reading.{
   readingWith,
   readingOf,
 }
-use Rattle.records.proofs.RecordLaws.{row-most, step-fine}
+use Rattle.records.proofs.RecordLaws.{cut-fits, row-most, step-fine}
 use Rattle.records.proofs.ReadingLaws.{evidence-refused, evidence-entries, evidence-steps, parts-short, parts-refused, parts-both}
 use Rattle.contents.specs.Again.{placeOf, entriesOf}
 use Rattle.contents.specs.Contents.{ProgramPartRead, EntryRange, ListRead, StepOf, RunRead, CubeRange}
@@ -226,6 +226,15 @@ module _ (f : List ℕ) (area : ℕ) where
         let e = row-each (λ k n. leb (length f) k) (λ k n. checked (stepNumber (p .shape) (p .transitions .count) f k n) k) (λ k. 1 + stepBody f k) 1024 (p .claim + 2) 0 (R .count) (R .reads) i (omega arith) in
         let g = step-fine f place (p .shape) (p .transitions .count) (0 + i) e in
         step-named place (not-false _ (g .names))
+
+    -- each step stands in the file
+    pub step-inside : (i : ℕ) → i < R .count
+        → (let place = placeOf (λ k. 1 + stepBody f k) (p .claim + 2) i in place + stepBody f place < length f)
+    unfolding stepsFrom
+    step-inside i l =
+        let place = placeOf (λ k. 1 + stepBody f k) (p .claim + 2) i in
+        let e = row-each (λ k n. leb (length f) k) (λ k n. checked (stepNumber (p .shape) (p .transitions .count) f k n) k) (λ k. 1 + stepBody f k) 1024 (p .claim + 2) 0 (R .count) (R .reads) i (omega arith) in
+        cut-fits f place (stepBody f place) (step-fine f place (p .shape) (p .transitions .count) (0 + i) e .whole)
 
     few : R .count ≤ 1024
     unfolding stepsFrom

@@ -1,12 +1,13 @@
 -- The program and the targets of a file that was read.
 use Prim.Native.Nat.{ℕ, zero, suc, _+_, _*_, _<_, _≤_}
 use mathlib.Core.Path.{_≡_, refl, sym, ap, subst, _∙_}
+use mathlib.Core.Logic.{⊎-elim}
 use mathlib.Core.Bool.{Bool, true, false, _&&_, not}
 use mathlib.Core.List.{List, [], _∷_}
 use native.Mathlib.Omega.{arith}
 use lib.ListN.{length, getD}
-use lib.Dec.{ltb}
-use borrow.Author.Tests.{ltb-true, lt-ltb, not-false}
+use lib.Dec.{leb, ltb}
+use borrow.Author.Tests.{leb-true, ltb-true, lt-ltb, not-false}
 use Rattle.pws.specs.Program as pws
 use Rattle.pws.specs.Configurations.{StatesOf}
 use Rattle.records.specs.declared.program.Shape.{Shape}
@@ -20,10 +21,10 @@ use Rattle.records.specs.ProgramPart.{unlessEnd, statesFrom, ofProcess, ofProce
 use Rattle.records.proofs.RecordLaws.{good, unless-fine, states-fine, transition-fine, target-fine}
 use Rattle.records.proofs.ProgramLaws.{and-true, transitions-most, targets-most}
 use Rattle.records.proofs.ReadingLaws.{ProgramFine, program-fine}
-use Rattle.contents.specs.Contents.{ProgramPartRead}
+use Rattle.contents.specs.Contents.{ProgramPartRead, ProgramSizes}
 use Rattle.contents.proofs.Tables.{table-length, table-number, of-four}
 use Rattle.contents.proofs.Names.{range-true, transition-of, states-of}
-use Rattle.contents.proofs.Rows.{row-each, place-eight, place-five, states-each}
+use Rattle.contents.proofs.Rows.{row-each, row-stop, place-eight, place-five, states-each}
 
 -- ---- the shape
 
@@ -77,6 +78,12 @@ module _ (s : Shape) (states : List ℕ) (f : List ℕ) (at : ℕ) where
       let e = row-each (atClaim f) (λ k n. unlessEnd f k (checked (targetNumber s states f k n) k)) (λ k. 5) 16 at 0 n q i (omega arith) in
       let d = unless-fine f (at + 5 * i) _ (rw (place-five at i) at e) .1 in
       not-false _ (target-fine f (at + 5 * i) s states (0 + i) d .names)
+
+  pub targets-least : (n : ℕ) → targetsFrom s states f at ≡ Records n → 1 ≤ n
+  unfolding targetsFrom atClaim
+  targets-least n q =
+      ⊎-elim (λ e. leb-true 1 n (and-true (isKind f (e .0) 15) (leb 1 n) (e .1) .1)) (λ e. omega arith)
+      (row-stop (atClaim f) (λ k n. unlessEnd f k (checked (targetNumber s states f k n) k)) (λ k. 5) 16 at 0 n q)
 
 -- ---- the whole part
 
@@ -144,11 +151,23 @@ module _ (f : List ℕ) (at : ℕ) (F : ProgramFine f at) where
         states = λ q l. states-most f (at + 4) (s .processes) (range .processes .1) (F .states) q l;
         transitions = omega (arith, count₁, few-rows .0);
         targets = λ k l. aimed k (omega (arith, count₂));
+        someTarget = omega (arith, count₂, targets-least s states f (first + 8 * F .transitions) (F .targets) (F .aims));
         fewTargets = omega (arith, count₂, few-rows .1);
       }
 
   near : p .claim ≤ at + 2144
   near = omega (arith, few-rows .0, few-rows .1, range .processes .1)
+
+  whole-sizes : _≡_ {A = ℕ} at 0 → ProgramSizes p
+  whole-sizes z =
+      record {
+        processes = range .processes;
+        variables = range .variables;
+        values = range .values;
+        transitions = few-rows .0;
+        targets = (targets-least s states f (first + 8 * F .transitions) (F .targets) (F .aims), few-rows .1);
+        claim = omega (arith, near);
+      }
 
 module _ (f : List ℕ) (at : ℕ) (q : programFrom f at .answer ≡ Fine) where
   F : ProgramFine f at
@@ -159,6 +178,9 @@ module _ (f : List ℕ) (at : ℕ) (q : programFrom f at .answer ≡ Fine) where
 
   pub part-shape : ShapeRange (programFrom f at .program .shape)
   part-shape = subst (λ (p : Program). ShapeRange (p .shape)) (sym (F .same)) (shape-in f at (F .shape))
+
+  pub part-sizes : _≡_ {A = ℕ} at 0 → ProgramSizes (programFrom f at .program)
+  part-sizes z = subst ProgramSizes (sym (F .same)) (whole-sizes f at F z)
 
   -- the claim stands near the beginning
   pub claim-near : programFrom f at .program .claim ≤ at + 2144

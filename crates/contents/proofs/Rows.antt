@@ -1,6 +1,7 @@
 -- Records in a row that were all found fine, by number.
 use Prim.Native.Nat.{ℕ, zero, suc, _+_, _*_, _-_, _<_, _≤_}
-use mathlib.Core.Path.{_≡_, refl, sym, ap, ap₂, _∙_}
+use mathlib.Core.Path.{_≡_, refl, sym, ap, subst, _∙_}
+use mathlib.Core.Logic.{_⊎_, inl, inr, ⊎-elim}
 use mathlib.Core.Bool.{Bool, true, false}
 use mathlib.Core.List.{List, [], _∷_}
 use native.Mathlib.Omega.{arith}
@@ -15,7 +16,7 @@ use Rattle.records.specs.Bytes.{choose}
 use Rattle.records.specs.Records.{checked, statesNumber, stepBody, stepAt}
 use Rattle.records.specs.ProgramPart.{unlessEnd, andThen, countThen, statesFrom, rowFrom}
 use Rattle.records.specs.EvidencePart.{stepsOf}
-use Rattle.records.proofs.RecordLaws.{fine-refused, unless-fine}
+use Rattle.records.proofs.RecordLaws.{fine-refused, unless-fine, row-most}
 use Rattle.contents.specs.Again.{placeOf}
 
 records-same : {m n : ℕ} → _≡_ {A = Counted} (Records m) (Records n) → m ≡ n
@@ -47,6 +48,37 @@ module _ (ends : ℕ → ℕ → Bool) (check : ℕ → ℕ → Checked) (size :
   unfolding rowFrom
   row-each zero at n m q = each-last at n m (ends at n) (check at n) q
   row-each (suc left) at n m q = each-more left at n m (row-each left (at + size at) (suc n) m) (ends at n) (check at n) refl q
+
+  least-more : (left at n m : ℕ) → (rowFrom ends check size left (at + size at) (suc n) ≡ Records m → suc n ≤ m) → (b : Bool) (x : Checked)
+      → choose b (λ _. Records n) (λ _. countThen x (λ _. rowFrom ends check size left (at + size at) (suc n))) ≡ Records m → n ≤ m
+  least-more left at n m ih true x q = omega (arith, records-same q)
+  least-more left at n m ih false (Refused r) q = absurd (stopped-records q)
+  least-more left at n m ih false Fine q = omega (arith, ih q)
+
+  least-last : (n m : ℕ) (b : Bool) (x : Checked) → choose b (λ _. Records n) (λ _. countThen x (λ _. Records n)) ≡ Records m → n ≤ m
+  least-last n m true x q = omega (arith, records-same q)
+  least-last n m false Fine q = omega (arith, records-same q)
+  least-last n m false (Refused r) q = absurd (stopped-records q)
+
+  row-least : (left at n m : ℕ) → rowFrom ends check size left at n ≡ Records m → n ≤ m
+  unfolding rowFrom
+  row-least zero at n m q = least-last n m (ends at n) (check at n) q
+  row-least (suc left) at n m q = least-more left at n m (row-least left (at + size at) (suc n) m) (ends at n) (check at n) q
+
+  -- a row ends where its end is told, or where no more are allowed
+  abbrev Ends : ℕ → ℕ → ℕ → Type 0
+  Ends left n m = ((k : ℕ) × (ends k m ≡ true)) ⊎ (m ≡ n + left)
+
+  ends-more : (left at n m : ℕ) → (rowFrom ends check size left (at + size at) (suc n) ≡ Records m → Ends left (suc n) m) → (b : Bool) → ends at n ≡ b → (x : Checked)
+      → choose b (λ _. Records n) (λ _. countThen x (λ _. rowFrom ends check size left (at + size at) (suc n))) ≡ Records m → Ends (suc left) n m
+  ends-more left at n m ih true d x q = inl (at, subst (λ (i : ℕ). ends at i ≡ true) (records-same q) d)
+  ends-more left at n m ih false d (Refused r) q = absurd (stopped-records q)
+  ends-more left at n m ih false d Fine q = ⊎-elim (λ e. inl e) (λ e. inr (omega arith)) (ih q)
+
+  pub row-stop : (left at n m : ℕ) → rowFrom ends check size left at n ≡ Records m → Ends left n m
+  unfolding rowFrom
+  row-stop zero at n m q = inr (omega (arith, row-most ends check size 0 at n m q, row-least zero at n m q))
+  row-stop (suc left) at n m q = ends-more left at n m (row-stop left (at + size at) (suc n) m) (ends at n) refl (check at n) q
 
 -- records of one size
 pub place-eight : (at i : ℕ) → placeOf (λ k. 8) at i ≡ at + 8 * i

@@ -9,6 +9,7 @@ use Rattle.pws.specs.Program.{Program, ProgramInRange}
 use Rattle.pws.specs.Machine.{Configuration}
 use Rattle.pws.specs.Configurations.{StatesOf}
 use Rattle.pws.specs.Entries.{EntryOf, entry}
+use Rattle.records.specs.declared.program.Program as declared
 use Rattle.records.specs.declared.entry.Cube.{Cube}
 use Rattle.records.specs.declared.entry.Queue.{Queue}
 use Rattle.records.specs.EvidencePart.{allowed}
@@ -20,6 +21,7 @@ pub record ProgramPartRead (P : Program) (ts : List (ℕ → ℕ)) : Type 0 wher
   pub states : (p : ℕ) → p < P .shape .processes → P .states p ≤ 32
   pub transitions : length (P .transitions) ≤ 256
   pub targets : (k : ℕ) → k < length ts → StatesOf P (getD ts k (λ p. 0))
+  pub someTarget : 1 ≤ length ts
   pub fewTargets : length ts ≤ 16
 
 -- an entry: a cube of the program with some pointer at 1, no more than 16 messages, and no more than 8 waiting values in a queue
@@ -47,7 +49,18 @@ pub record RunRead (P : Program) (ts : List (ℕ → ℕ)) (ss : List Step) : Ty
   pub steps : (k : ℕ) → k < length ss → StepOf P (getD ss k (Update 0))
   pub count : length ss ≤ 1024
 
--- an entry as the code holds it
+-- ---- what the code holds
+
+-- the places and counts that the program part hands on
+pub record ProgramSizes (p : declared.Program) : Type 0 where
+  pub processes : (1 ≤ p .shape .processes) × (p .shape .processes ≤ 4)
+  pub variables : (1 ≤ p .shape .variables) × (p .shape .variables ≤ 4)
+  pub values : (1 ≤ p .shape .values) × (p .shape .values ≤ 4)
+  pub transitions : p .transitions .count ≤ 256
+  pub targets : (1 ≤ p .targets .count) × (p .targets .count ≤ 16)
+  pub claim : p .claim ≤ 2144
+
+-- an entry
 pub record CubeRange (c : Cube) : Type 0 where
   pub some : 1 ≤ c .count
   pub messages : c .count ≤ 16
