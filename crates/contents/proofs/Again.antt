@@ -1,7 +1,8 @@
 -- What the reading hands on, and what it leaves in the work area, give the contents of the file again.
 use Prim.Native.Nat.{ℕ, _+_, _*_, _-_, _<_, _≤_}
 use mathlib.Core.Path.{_≡_, refl, sym, ap, _∙_}
-use mathlib.Core.List.{List, [], _∷_, _++_}
+use mathlib.Core.Bool.{true}
+use mathlib.Core.List.{List, [], _∷_}
 use native.Mathlib.Omega.{arith}
 use native.Mathlib.Decide.{decLt}
 use lib.ListN.{length, getD, take, drop, length-drop, List·getD-eq-default}
@@ -14,16 +15,16 @@ use Rattle.records.specs.declared.program.Checked.the-variants.{Fine, Refused}
 use Rattle.records.specs.declared.program.Program.{Program}
 use Rattle.records.specs.declared.evidence.Reading.{Reading}
 use Rattle.records.specs.Bytes.{byte}
-use Rattle.records.specs.Records.{transitionAt, stateAt, stepBody}
+use Rattle.records.specs.Records.{isKind, transitionAt, stateAt, stepBody}
 use Rattle.records.specs.ProgramPart.{programFrom, programOf, targetsOf}
-use Rattle.records.specs.EvidencePart.{stepsOf, wroteFrom}
-use Rattle.records.specs.Reading.{partsOf, FileRead, refused, list, run, readFile, readingRefused, readingWith, readingOf, areaAfter}
+use Rattle.records.specs.EvidencePart.{stepsOf, allowed, wroteFrom}
+use Rattle.records.specs.Reading.{partsOf, refused, list, run, readFile, readingRefused, readingWith, readingOf, areaAfter}
 use Rattle.records.proofs.RecordLaws.{fine-refused, refused-same}
-use Rattle.contents.specs.Again.{cubeAt, entriesOf, transitionOf, targetOf, placeOf}
+use Rattle.contents.specs.Again.{offsetAt, cubeAt, entriesOf, transitionOf, targetOf, placeOf}
 use Rattle.contents.specs.Contents.{ProgramSizes, CubeRange}
 use Rattle.contents.proofs.Tables.{table-number, of-four}
 use Rattle.contents.proofs.ProgramPart.{part-sizes}
-use Rattle.contents.proofs.Contents.{ListParts, RunParts, Outcome, outcome-refused, outcome-list, outcome-run, outcome, file-list, reading-with, listed, again, cubes, file-run, reading-steps, step-inside}
+use Rattle.contents.proofs.Contents.{ListParts, Outcome, outcome-refused, outcome-list, outcome-run, outcome, file-list, reading-with, listed, count-allowed, offsets, again, cubes, file-run, reading-steps, step-inside}
 
 -- ---- transitions and targets by number
 
@@ -127,6 +128,14 @@ module _ (f w : List ℕ) where
             rw (left, handed)
             (file-list f area as-list
             ∙ ap (list (programOf f (programFrom f 0 .program)) (targetsOf f (programFrom f 0 .program))) (again f area as-list (drop 16384 w) (length-drop 16384 w)))
+
+        pub reading-count : R .contents .evidence .count ≤ allowed area
+        reading-count = rw handed (count-allowed f area as-list (drop 16384 w) (length-drop 16384 w))
+
+        -- the offset of entry k is the place of its 10
+        pub reading-offset : (k : ℕ) → k < R .contents .evidence .count
+            → (isKind f (offsetAt (drop 16384 work) k) 16 ≡ true) × (offsetAt (drop 16384 work) k + 8 < length f)
+        reading-offset = rw (left, handed) (λ k i. let o = offsets f area as-list (drop 16384 w) (length-drop 16384 w) k i in (o .1, o .2))
 
         -- entry k, as the code loads it
         pub reading-cube : (k : ℕ) → k < R .contents .evidence .count → CubeRange (cubeAt f (drop 16384 work) k)

@@ -1,8 +1,8 @@
 -- The contents of a file that was read, and the same from what the reading hands on.
-use Prim.Native.Nat.{ℕ, zero, suc, _+_, _*_, _-_, _/_, _<_, _≤_, min}
-use mathlib.Core.Path.{_≡_, refl, sym, ap, ap₂, subst, _∙_}
+use Prim.Native.Nat.{ℕ, _+_, _*_, _-_, _<_, _≤_}
+use mathlib.Core.Path.{_≡_, refl, sym, ap, subst, _∙_}
 use mathlib.Core.Bool.{Bool, true, false, cond}
-use mathlib.Core.List.{List, [], _∷_, _++_}
+use mathlib.Core.List.{List, []}
 use native.Mathlib.Omega.{arith}
 use native.Mathlib.Decide.{decLt, ℕ-discrete}
 use lib.ListN.{length, getD}
@@ -13,49 +13,28 @@ use Rattle.pws.specs.declared.Step.the-variants.{Take, Serialise, Update}
 use Rattle.pws.specs.Program as pws
 use Rattle.pws.specs.Machine.{Configuration}
 use Rattle.pws.specs.Entries.{noEntry, entry}
-use Rattle.records.specs.declared.program.Shape.{Shape}
 use Rattle.records.specs.declared.program.Refusal.{Refusal}
 use Rattle.records.specs.declared.program.Checked.{Checked}
 use Rattle.records.specs.declared.program.Checked.the-variants.{Fine, Refused}
 use Rattle.records.specs.declared.program.Counted.{Counted}
 use Rattle.records.specs.declared.program.Counted.the-variants.{Records, Stopped}
 use Rattle.records.specs.declared.program.Program.{Program}
-use Rattle.records.specs.declared.evidence.Reading.{Reading}
 use Rattle.records.specs.Bytes.{byte, le32}
 use Rattle.records.specs.Records.{checked, isKind, claimNumber, exists, stepBody, stepNames, stepNumber, stepAt, transitionAt}
-use Rattle.records.specs.ProgramPart.{unlessEnd, rowFrom, programFrom, tableFrom, programOf, targetsOf}
+use Rattle.records.specs.ProgramPart.{unlessEnd, programFrom, programOf, targetsOf}
 use Rattle.records.specs.EvidencePart.{stepsFrom, stepsOf, EntriesRead, entriesFrom, allowed, wroteFrom}
 use Rattle.records.specs.Cube.{configurationOf, loadEntry}
-use Rattle.records.specs.Reading.{
-  Evidence,
-  refusal,
-  entries,
-  steps,
-  evidenceFrom,
-  Parts,
-  none,
-  both,
-  partsOf,
-  FileRead,
-  refused,
-  list,
-  run,
-  partsRead,
-  readFile,
-  readingRefused,
-  readingWith,
-  readingOf,
-}
-use Rattle.records.proofs.RecordLaws.{cut-fits, row-most, step-fine}
+use Rattle.records.specs.Reading.{entries, steps, none, both, partsOf, refused, list, run, partsRead, readFile, readingRefused, readingWith, readingOf}
+use Rattle.records.proofs.RecordLaws.{cut-fits, row-most, step-fine, entry-fine}
 use Rattle.records.proofs.ReadingLaws.{evidence-refused, evidence-entries, evidence-steps, parts-short, parts-refused, parts-both}
 use Rattle.contents.specs.Again.{placeOf, entriesOf}
-use Rattle.contents.specs.Contents.{ProgramPartRead, EntryRange, ListRead, StepOf, RunRead, CubeRange}
+use Rattle.contents.specs.Contents.{ListRead, StepOf, RunRead, CubeRange}
 use Rattle.contents.proofs.Tables.{table-length, table-of}
 use Rattle.contents.proofs.Names.{both-exist}
 use Rattle.contents.proofs.Rows.{row-each, steps-length, steps-at}
 use Rattle.contents.proofs.ProgramPart.{ShapeRange, part-read, part-shape, claim-near}
 use Rattle.contents.proofs.Entry.{entry-range, entry-loaded, cube-range}
-use Rattle.contents.proofs.Entries.{More, entries-more, Listed, Standing, listed-count, listed-at, listed-near, wrote-at}
+use Rattle.contents.proofs.Entries.{More, entries-more, Standing, listed-count, listed-at, listed-near, wrote-at}
 
 -- ---- what came of a reading
 
@@ -179,6 +158,22 @@ module _ (f : List ℕ) (area : ℕ) where
 
       count-same : length (more .entries) ≡ length (listed .offsets)
       count-same = sym (listed-count (more .listed) .0) ∙ ap length (sym (more .same))
+
+      pub count-allowed : length (listed .offsets) ≤ allowed area
+      count-allowed = omega (arith, count-same, listed-count (more .listed) .1)
+
+      -- the numbers in the list are the places of the 10s
+      pub offsets : (k : ℕ) → k < length (listed .offsets)
+          → (le32 after (4 * k) ≡ getD (listed .offsets) k 0) × (isKind f (le32 after (4 * k)) 16 ≡ true) × (le32 after (4 * k) + 8 < length f)
+      offsets k i =
+          let j : k < length (more .entries) = omega (arith, count-same) in
+          let z : 4 * (0 + k) ≡ 4 * k = omega arith in
+          let e : le32 after (4 * k) ≡ getD (more .offsets) k 0 = ap (le32 after) (sym z) ∙ written k j in
+          let g = entry-fine f (getD (more .offsets) k 0) (p .shape) (p .states) false (standing k j .head) in (
+            e ∙ ap (λ (os : List ℕ). getD os k 0) (sym (more .same)),
+            ap (λ (at : ℕ). isKind f at 16) e ∙ not-false _ (g .allowed),
+            omega (arith, e, cut-fits f (getD (more .offsets) k 0) 8 (g .whole)),
+          )
 
       pub again : listed .entries ≡ entriesOf f after (length (listed .offsets))
       again =

@@ -1,60 +1,38 @@
 -- An entry that was read: it is a cube of the program, it is near to its 10, and loading it gives it again.
 use Prim.Native.Nat.{ℕ, zero, suc, _+_, _*_, _<_, _≤_}
-use mathlib.Core.Path.{_≡_, refl, sym, ap, ap₂, subst, _∙_}
+use mathlib.Core.Path.{_≡_, refl, sym, ap, subst, _∙_}
 use mathlib.Core.Logic.{_⊎_, inl, inr, ⊎-elim}
-use mathlib.Core.Bool.{Bool, true, false, cond, _&&_, _||_, not}
+use mathlib.Core.Bool.{Bool, true, false, cond, _&&_, not}
 use mathlib.Core.List.{List, [], _∷_, _++_}
 use native.Mathlib.Omega.{arith}
 use native.Mathlib.Decide.{decLt}
 use lib.ListN.{length, getD, length-append, List·getD-eq-default}
 use lib.Dec.{eqb, leb, ltb}
 use borrow.Author.Tests.{lt-ltb, le-ltb, leb-true, leb-false, ltb-true, eqb-true, ne-eqb, not-false}
-use Rattle.pws.specs.declared.Message.{Message}
 use Rattle.pws.specs.declared.Transition.{Transition}
 use Rattle.pws.specs.Program as pws
-use Rattle.pws.specs.Machine.{Memory, Configuration, putQueue, message}
-use Rattle.pws.specs.Configurations.{All, MessageIn, MemoryIn, QueuesIn, Fits, StatesOf}
-use Rattle.pws.specs.Entries.{ValueOrFF, EntryOf}
+use Rattle.pws.specs.Machine.{Configuration, message}
+use Rattle.pws.specs.Configurations.{All, MessageIn, QueuesIn, StatesOf}
+use Rattle.pws.specs.Entries.{ValueOrFF}
 use Rattle.pws.proofs.Facts.{putQueue-each, message-each}
 use Rattle.pws.proofs.Steps.{queues-put}
 use Rattle.records.specs.declared.program.Shape.{Shape}
 use Rattle.records.specs.declared.program.Refusal.{Refusal}
 use Rattle.records.specs.declared.program.Checked.{Checked}
 use Rattle.records.specs.declared.program.Checked.the-variants.{Fine, Refused}
-use Rattle.records.specs.declared.entry.Cube.{Cube}
 use Rattle.records.specs.declared.entry.Loaded.{Loaded}
 use Rattle.records.specs.Bytes.{choose, byte, cut}
 use Rattle.records.specs.Records.{checked, isKind, exists, stateNames, stateAt, pointerNames, pointerAt, entryNumber, messageAt, messageNumber, messageNames, waitingNumber, waitingNames}
 use Rattle.records.specs.ProgramPart.{shapeOf}
-use Rattle.records.specs.EvidencePart.{
-  beginning,
-  withMessage,
-  withWaiting,
-  extended,
-  bodySize,
-  bodyNumber,
-  pointerFits,
-  pointsFirst,
-  pointersFit,
-  someFirst,
-  complete,
-  EntryRead,
-  whole,
-  bad,
-  atBoundary,
-  finished,
-  bodyThen,
-  entryFrom,
-  entryRead,
-}
-use Rattle.records.specs.Cube.{configurationOf, channelOf, loadsMessage, loadsWaiting, nothingLoaded, moreMessage, moreWaiting, loadFrom, loaded, loadEntry}
+use Rattle.records.specs.EvidencePart.{beginning, withMessage, withWaiting, extended, bodySize, bodyNumber, pointerFits, pointsFirst, pointersFit, someFirst, complete, whole, bad, atBoundary, finished, bodyThen, entryFrom, entryRead}
+use Rattle.records.specs.Cube.{configurationOf, loadsMessage, loadsWaiting, nothingLoaded, moreMessage, moreWaiting, loadFrom, loaded, loadEntry}
 use Rattle.records.proofs.ByteLaws.{byte-past}
 use Rattle.records.proofs.RecordLaws.{Good, good, entry-fine, cut-fits}
 use Rattle.records.proofs.ProgramLaws.{and-true}
 use Rattle.records.proofs.CubeLaws.{load-message, load-waiting, load-ends}
 use Rattle.contents.specs.Contents.{EntryRange, CubeRange}
 use Rattle.contents.proofs.Tables.{of-four}
-use Rattle.contents.proofs.Names.{no-true, or-cases, states-of, pointer-absent, message-in, waiting-in}
+use Rattle.contents.proofs.Names.{or-cases, states-of, pointer-absent, message-in, waiting-in}
 use Rattle.contents.proofs.Loading.{Stands, stands-begin, stands-message, stands-waiting, total, total-more, total-most}
 
 pub whole-inverse : {e d : Configuration} {m n : ℕ} → whole e m ≡ whole d n → (e ≡ d) × (m ≡ n)

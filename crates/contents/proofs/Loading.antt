@@ -1,7 +1,7 @@
 -- An entry as the code holds it, while its records are loaded, and the entry that was read so far.
 use Prim.Native.Nat.{ℕ, zero, suc, _+_, _*_, _<_, _≤_, min}
 use mathlib.Core.Path.{_≡_, refl, sym, ap, ap₂, subst, _∙_}
-use mathlib.Core.Bool.{Bool, true, false, cond, _&&_}
+use mathlib.Core.Bool.{Bool, true, false, _&&_}
 use mathlib.Core.List.{List, [], _∷_, _++_}
 use native.Mathlib.Omega.{arith}
 use native.Mathlib.Decide.{ℕ-discrete}
@@ -16,9 +16,8 @@ use Rattle.records.specs.declared.entry.Loaded.{Loaded}
 use Rattle.records.specs.Bytes.{byte}
 use Rattle.records.specs.Records.{messageAt}
 use Rattle.records.specs.EvidencePart.{beginning, withMessage, withWaiting}
-use Rattle.records.specs.Tally.{queueAt}
 use Rattle.records.specs.Cube.{noQueue, emptyQueue, blankMessage, waitingOf, channelOf, queueOf, pushed, nothingLoaded, moreMessage, moreWaiting}
-use Rattle.records.proofs.CubeParts.{channel-length, channel-equal, queue-of, queue-none, queue-put}
+use Rattle.records.proofs.CubeParts.{channel-equal, queue-of, queue-none, queue-put}
 use Rattle.records.proofs.ProgramLaws.{and-true}
 use Rattle.contents.proofs.Tables.{of-four}
 

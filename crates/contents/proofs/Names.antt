@@ -1,45 +1,21 @@
 -- What a record that is fine names.
-use Prim.Native.Nat.{ℕ, zero, suc, _+_, _*_, _<_, _≤_}
-use mathlib.Core.Path.{_≡_, refl, sym, ap, subst, _∙_}
+use Prim.Native.Nat.{ℕ, _+_, _<_, _≤_}
+use mathlib.Core.Path.{_≡_, refl, sym, subst}
 use mathlib.Core.Logic.{_⊎_, inl, inr}
-use mathlib.Core.Bool.{Bool, true, false, cond, _&&_, _||_, not}
+use mathlib.Core.Bool.{Bool, true, false, _||_, not}
 use mathlib.Core.List.{List, [], _∷_}
 use native.Mathlib.Omega.{arith}
 use native.Mathlib.Decide.{ℕ-discrete, decLt}
-use lib.ListN.{length, getD, List·getD-eq-default}
+use lib.ListN.{getD, List·getD-eq-default}
 use lib.Dec.{eqb, leb, ltb}
-use borrow.Author.Tests.{ltb-true, leb-true, eqb-true, eqb-false, not-true, not-false, lt-ltb, le-ltb, ne-eqb}
-use Rattle.pws.specs.declared.Message.{Message}
+use borrow.Author.Tests.{ltb-true, leb-true, eqb-true, eqb-false, not-true, lt-ltb, le-ltb, ne-eqb}
 use Rattle.pws.specs.declared.Transition.{Transition}
-use Rattle.pws.specs.declared.Operation.{Operation}
-use Rattle.pws.specs.declared.Operation.the-variants.{Nop, Read, Write, Mfence, Sfence, Arw}
 use Rattle.pws.specs.Program as pws
 use Rattle.pws.specs.Configurations.{MessageIn, StatesOf}
 use Rattle.pws.specs.Entries.{ValueOrFF}
 use Rattle.records.specs.declared.program.Shape.{Shape}
 use Rattle.records.specs.Bytes.{byte}
-use Rattle.records.specs.Records.{
-  inRange,
-  valueCount,
-  valueExists,
-  allZero,
-  operationNames,
-  operationOf,
-  transitionAt,
-  transitionNames,
-  stateName,
-  stateNames,
-  stateAt,
-  exists,
-  pointerName,
-  pointerNames,
-  pointerAt,
-  valueName,
-  valueNames,
-  messageNames,
-  messageAt,
-  waitingNames,
-}
+use Rattle.records.specs.Records.{inRange, valueExists, operationNames, operationOf, transitionAt, transitionNames, stateName, stateNames, stateAt, exists, pointerName, pointerNames, pointerAt, valueName, valueNames, messageNames, messageAt, waitingNames}
 use Rattle.records.specs.ProgramPart.{shapeOf}
 use Rattle.records.proofs.ProgramLaws.{and-true}
 use Rattle.contents.proofs.Tables.{of-four}

@@ -1,12 +1,12 @@
 -- Laws of places past the file's end.
-use Prim.Native.Nat.{ℕ, _+_, _*_, _-_, _/_, _<_, _≤_, min}
-use mathlib.Core.Path.{_≡_, refl, sym, ap, ap₂, _∙_}
+use Prim.Native.Nat.{ℕ, _+_, _-_, _≤_}
+use mathlib.Core.Path.{_≡_, sym, ap, _∙_}
 use mathlib.Core.List.{List, [], _∷_}
 use native.Mathlib.Omega.{arith}
 use native.Mathlib.Decide.{decLe}
 use lib.ListN.{length}
 use Rattle.records.specs.Bytes.{byte}
-use Rattle.records.specs.Records.{operationOf, transitionAt}
+use Rattle.records.specs.Records.{transitionAt}
 use Rattle.records.proofs.ByteLaws.{byte-past}
 use Rattle.contents.specs.Again.{placeIn}
 

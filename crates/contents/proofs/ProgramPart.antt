@@ -1,23 +1,22 @@
 -- The program and the targets of a file that was read.
-use Prim.Native.Nat.{ℕ, zero, suc, _+_, _*_, _<_, _≤_}
+use Prim.Native.Nat.{ℕ, _+_, _*_, _<_, _≤_}
 use mathlib.Core.Path.{_≡_, refl, sym, ap, subst, _∙_}
 use mathlib.Core.Logic.{⊎-elim}
-use mathlib.Core.Bool.{Bool, true, false, _&&_, not}
-use mathlib.Core.List.{List, [], _∷_}
+use mathlib.Core.Bool.{true, _&&_, not}
+use mathlib.Core.List.{List}
 use native.Mathlib.Omega.{arith}
 use lib.ListN.{length, getD}
-use lib.Dec.{leb, ltb}
+use lib.Dec.{leb}
 use borrow.Author.Tests.{leb-true, ltb-true, lt-ltb, not-false}
 use Rattle.pws.specs.Program as pws
 use Rattle.pws.specs.Configurations.{StatesOf}
 use Rattle.records.specs.declared.program.Shape.{Shape}
 use Rattle.records.specs.declared.program.Program.{Program}
-use Rattle.records.specs.declared.program.Checked.{Checked}
-use Rattle.records.specs.declared.program.Checked.the-variants.{Fine, Refused}
-use Rattle.records.specs.declared.program.Counted.the-variants.{Records, Stopped}
+use Rattle.records.specs.declared.program.Checked.the-variants.{Fine}
+use Rattle.records.specs.declared.program.Counted.the-variants.{Records}
 use Rattle.records.specs.Bytes.{byte}
-use Rattle.records.specs.Records.{checked, inRange, isKind, shapeAt, shapeNumber, statesNumber, transitionAt, transitionNumber, transitionNames, targetNumber, stateNames, stateAt}
-use Rattle.records.specs.ProgramPart.{unlessEnd, statesFrom, ofProcess, ofProcesses, atClaim, transitionsFrom, targetsFrom, programFrom, shapeOf, tableFrom, programOf, targetsOf}
+use Rattle.records.specs.Records.{checked, inRange, isKind, shapeAt, shapeNumber, transitionAt, transitionNumber, transitionNames, targetNumber, stateNames, stateAt}
+use Rattle.records.specs.ProgramPart.{unlessEnd, statesFrom, ofProcess, ofProcesses, atClaim, transitionsFrom, targetsFrom, programFrom, programOf, targetsOf}
 use Rattle.records.proofs.RecordLaws.{good, unless-fine, states-fine, transition-fine, target-fine}
 use Rattle.records.proofs.ProgramLaws.{and-true, transitions-most, targets-most}
 use Rattle.records.proofs.ReadingLaws.{ProgramFine, program-fine}

@@ -11,7 +11,6 @@ use Rattle.pws.specs.Configurations.{StatesOf}
 use Rattle.pws.specs.Entries.{EntryOf, entry}
 use Rattle.records.specs.declared.program.Program as declared
 use Rattle.records.specs.declared.entry.Cube.{Cube}
-use Rattle.records.specs.declared.entry.Queue.{Queue}
 use Rattle.records.specs.EvidencePart.{allowed}
 use Rattle.records.specs.Cube.{noQueue}
 

@@ -1,5 +1,4 @@
 use mathlib.Core.Path.{ap, _∙_}
-use Prim.Native.Nat.{ℕ}
 use Rattle.records.specs.Cube.{loadEntry}
 use borrow.Author.Needs.{needs}
 use Rattle.contents.proofs.entry_at.Statement.{statement}

@@ -1,5 +1,4 @@
-use Prim.Native.Nat.{ℕ, _+_, _*_}
-use mathlib.Core.Path.{ap, _∙_}
+use Prim.Native.Nat.{_+_, _*_}
 use Rattle.contents.proofs.PlaceLaws.{place-target}
 use borrow.Author.Needs.{needs}
 use Rattle.contents.proofs.target_of.Statement.{statement}
