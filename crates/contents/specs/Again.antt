@@ -25,7 +25,7 @@ entriesOf f list n = tableFrom (λ i. configurationOf (loadEntry f (le32 list (4
 
 -- ---- transitions and targets
 
--- the place of a record in a row; a place past the file's end is as good as its end, since every byte there is 0
+-- a place in the file; every byte past its end is 0, so its end stands for any place past it
 abbrev pub placeIn : List ℕ → ℕ → ℕ
 placeIn f at = min (length f) at
 
