@@ -2,13 +2,20 @@
 use Prim.Native.Nat.{ℕ, zero, suc, _+_, _*_, _/_, _%_, _<_, _≤_}
 use mathlib.Core.Path.{_≡_, refl, sym, ap, subst, _∙_}
 use mathlib.Core.Logic.{_≢_}
+use mathlib.Core.Bool.{Bool, true, false, cond}
 use mathlib.Core.List.{List, [], _∷_, _++_}
 use native.Mathlib.Omega.{arith}
 use lib.ListN.{List·getD-eq-default, length, length-set, length-replicate, getD, getD-replicate, set, take, replicate}
 use lib.Seq.{ext-getD, getD-set-same, getD-set-other}
-use Rattle.pws.specs.declared.Operation.the-variants.{Nop}
-use Rattle.records.specs.Bytes.{byte}
-use Rattle.records.specs.Records.{transitionAt, operationOf}
+use lib.Dec.{ltb}
+use Rattle.pws.specs.declared.Operation.{Operation}
+use Rattle.pws.specs.declared.Operation.the-variants.{Nop, Read, Write, Mfence, Sfence, Arw}
+use Rattle.replay.specs.declared.step.Move.{Move}
+use Rattle.replay.specs.declared.step.Move.the-variants.{Absent, Take, Serialise, Update}
+use Rattle.replay.specs.declared.step.Run.{Run}
+use Rattle.replay.specs.Layout.{putSnapshot, appended, areaTaken, areaAfter}
+use Rattle.records.specs.Bytes.{choose, byte}
+use Rattle.records.specs.Records.{transitionAt, operationOf, isKind, stepBody}
 use native.Mathlib.Decide.{ℕ-discrete}
 
 -- ---- cleared up to i
@@ -46,3 +53,43 @@ pub transition-past : (f : List ℕ) (at : ℕ) → length f ≤ at → transiti
 unfolding operationOf
 transition-past f at l =
     rw (byte-past f (at + 1) (omega arith), byte-past f (at + 2) (omega arith), byte-past f (at + 3) (omega arith), byte-past f (at + 7) (omega arith))
+
+-- ---- steps
+
+pub body-most : (f : List ℕ) (at : ℕ) → stepBody f at ≤ 2
+unfolding stepBody
+body-most f at = go (isKind f at 33)
+  where
+    go : (b : Bool) → cond b 2 1 ≤ 2
+    go true = omega arith
+    go false = omega arith
+
+-- ---- a step keeps the length
+
+pub snapshot-length : (a : List ℕ) (i : ℕ) (s : List ℕ) → length (putSnapshot a i s) ≡ length a
+unfolding putSnapshot
+snapshot-length a i s = go (ltb (length a) (4 * i + 4))
+  where
+    go : (b : Bool)
+        → length (choose b (λ _. a) (λ _. set (set (set (set a (4 * i) (getD s 0 0)) (4 * i + 1) (getD s 1 0)) (4 * i + 2) (getD s 2 0)) (4 * i + 3) (getD s 3 0)))
+        ≡ length a
+    go true = refl
+    go false = simp length-set
+
+appended-length : (a : List ℕ) (messages v x : ℕ) → length (appended a messages v x) ≡ length a
+unfolding appended
+appended-length a messages v x = snapshot-length a _ _
+
+taken-length : (a : List ℕ) (run : Run) (p : ℕ) (o : Operation) → length (areaTaken a run p o) ≡ length a
+taken-length a run p Nop = refl
+taken-length a run p (Read v x) = refl
+taken-length a run p (Write v x) = length-set a _ _
+taken-length a run p Mfence = refl
+taken-length a run p Sfence = refl
+taken-length a run p (Arw v old new) = appended-length a _ _ _
+
+pub area-length : (a : List ℕ) (run : Run) (m : Move) → length (areaAfter a run m) ≡ length a
+area-length a run Absent = refl
+area-length a run (Take t) = taken-length a run (t .process) (t .operation)
+area-length a run (Serialise p v) = appended-length a _ _ _
+area-length a run (Update p) = refl

@@ -1,0 +1,171 @@
+// The replay of a run's steps (document 01, "The machine" and "Verdicts and refusal table").
+ghost use mathlib.Core.Path.{_≡_};
+ghost use Prim.Native.Nat.{ℕ, _+_, _*_, _≤_, _<_};
+ghost use lib.ListN.{length, getD, replicate};
+ghost use Rattle.replay.specs.Loop.{agreesIn, inTargetIn, nextTarget, nextStep, lastFrom, lastIn, stoppedBy, firstRun, firstRows, replayIn};
+use crate::area::clear;
+use crate::area::put_snapshot;
+use crate::step::Answer;
+use crate::step::Cause;
+use crate::step::Run;
+use crate::step::move_of;
+use crate::step::rows_after;
+use crate::step::step_answer;
+use crate::step::store;
+use records::bytes::both;
+use records::bytes::field;
+use records::evidence::either;
+use records::evidence::step_at;
+use records::evidence::step_body;
+use records::program::Program;
+use records::program::Row;
+use records::program::Shape;
+use records::program::of_four;
+
+// The verdict of a run: reachable with the number of steps and the lowest target met; the number of the step that is refused, and why; or
+// the number of steps, after which no target is met.
+pub enum RunAnswer {
+    Reachable { steps: usize, target: usize },
+    Stopped { step: usize, cause: Cause },
+    Missed { steps: usize },
+}
+
+// ---- the last test
+
+pub fn agrees(shape: Shape, p: usize, x: u8, y: u8) -> bool
+    ensures { λ r. ⌜ r ≡ agreesIn shape p x y ⌝ }
+{
+    either(shape.processes <= p, x == y)
+}
+
+// The states are those of the target at a place.
+pub fn in_target(file: &[u8], at: usize, shape: Shape, states: [u8; 4]) -> bool
+    ensures { λ r. ⌜ r ≡ inTargetIn (now (file .entry)) at shape states ⌝ }
+{
+    let a = agrees(shape, 0, of_four(states, 0), field(file, at, 1));
+    let b = agrees(shape, 1, of_four(states, 1), field(file, at, 2));
+    let c = agrees(shape, 2, of_four(states, 2), field(file, at, 3));
+    let d = agrees(shape, 3, of_four(states, 3), field(file, at, 4));
+    both(a, both(b, both(c, d)))
+}
+
+// Where the next target stands, and the next step; past the file's end there is nothing to pass.
+pub fn next_target(file: &[u8], at: usize) -> usize
+    ensures { λ r. ⌜ r ≡ nextTarget (now (file .entry)) at ⌝ }
+{
+    if file.len() <= at {
+        return at;
+    }
+    at + 5
+}
+
+pub fn next_step(file: &[u8], at: usize) -> usize
+    ensures { λ r. ⌜ r ≡ nextStep (now (file .entry)) at ⌝ }
+{
+    if file.len() <= at {
+        return at;
+    }
+    at + (1 + step_body(file, at))
+}
+
+pub fn last_answer(
+    file: &[u8],
+    targets: Row,
+    shape: Shape,
+    states: [u8; 4],
+    steps: usize,
+) -> RunAnswer
+    ensures { λ r. ⌜ r ≡ lastIn (now (file .entry)) targets shape states steps ⌝ }
+{
+    let mut k = targets.at;
+    for i in 0..targets.count {
+        if in_target(file, k, shape, states) {
+            return RunAnswer::Reachable {
+                steps: steps,
+                target: i,
+            };
+        }
+        k = next_target(file, k);
+    }
+    RunAnswer::Missed { steps: steps }
+}
+
+// ---- the replay
+
+pub fn stopped_by(step: usize, answer: Answer) -> RunAnswer
+    ensures { λ r. ⌜ r ≡ stoppedBy step answer ⌝ }
+{
+    match answer {
+        Answer::Permitted => RunAnswer::Stopped {
+            step: step,
+            cause: Cause::Nothing,
+        },
+        Answer::Refused(cause) => RunAnswer::Stopped {
+            step: step,
+            cause: cause,
+        },
+    }
+}
+
+// Initial local states, empty queues, one message.
+pub fn first_run(states: [u8; 4]) -> Run
+    ensures { λ r. ⌜ r ≡ firstRun states ⌝ }
+{
+    let none = [0u16; 16];
+    Run {
+        states: states,
+        messages: 1,
+        heads: none,
+        tails: none,
+    }
+}
+
+// All pointers and LastWrite numbers 1.
+pub fn first_rows() -> [[u16; 5]; 4]
+    ensures { λ r. ⌜ r ≡ firstRows ⌝ }
+{
+    let row = [1u16; 5];
+    [row; 4]
+}
+
+// `count` steps from `at` on; afterwards the lower part is 0.
+pub fn replay_steps(
+    file: &[u8],
+    program: Program,
+    at: usize,
+    count: usize,
+    lower: &mut [u8],
+) -> RunAnswer
+    ensures { λ r. ⌜ r ≡ replayIn (now (file .entry)) program at count (now (lower .entry)) ⌝ }
+    ensures { λ r. ⌜ now (lower .exit) ≡ replicate (length (now (lower .entry))) 0 ⌝ }
+{
+    let shape = program.shape;
+    let transitions = program.transitions;
+    let targets = program.targets;
+    let states = program.initial;
+    let zeros = [0u8; 4];
+    put_snapshot(lower, 1, zeros);
+    let mut run = first_run(states);
+    let mut rows = first_rows();
+    let mut k = at;
+    let mut i = 0;
+    let verdict = loop {
+        if count <= i {
+            let last = run.states;
+            break last_answer(file, targets, shape, last, count);
+        }
+        let step = move_of(file, transitions, step_at(file, k));
+        let answer = step_answer(run, rows, &lower[..], shape, step);
+        let Answer::Permitted = answer else {
+            break stopped_by(i, answer);
+        };
+        store(lower, run, step);
+        let next = rows_after(rows, run.messages, step);
+        rows = next;
+        run = run.after(step);
+        k = next_step(file, k);
+        i += 1;
+    };
+    clear(lower);
+    verdict
+}

@@ -1,0 +1,119 @@
+-- Laws of the loops: what one turn does to the definitions of specs/Loop.antt.
+use Prim.Native.Nat.{ℕ, zero, suc, _+_, _-_, _<_, _≤_}
+use mathlib.Core.Path.{_≡_, refl, sym, ap, subst, _∙_}
+use mathlib.Core.Bool.{Bool, true, false}
+use mathlib.Core.List.{List}
+use native.Mathlib.Omega.{arith}
+use lib.ListN.{length}
+use Rattle.pws.specs.declared.Step.{Step}
+use Rattle.records.specs.declared.program.Shape.{Shape}
+use Rattle.records.specs.declared.program.Row.{Row}
+use Rattle.records.specs.Bytes.{choose}
+use Rattle.records.specs.Records.{stepAt}
+use Rattle.replay.specs.declared.step.Cause.{Cause}
+use Rattle.replay.specs.declared.step.Answer.{Answer}
+use Rattle.replay.specs.declared.step.Answer.the-variants.{Permitted, Refused}
+use Rattle.replay.specs.declared.step.Move.{Move}
+use Rattle.replay.specs.declared.step.Run.{Run}
+use Rattle.replay.specs.declared.run.RunAnswer.{RunAnswer}
+use Rattle.replay.specs.declared.run.RunAnswer.the-variants.{Reachable, Stopped, Missed}
+use Rattle.replay.specs.Layout.{moveOf, answerIn, runAfter, rowsAfter, areaAfter}
+use Rattle.replay.specs.Loop.{inTargetIn, nextTarget, nextStep, lastFrom, lastIn, stoppedBy, answerThen, runFrom}
+use Rattle.replay.proofs.AreaLaws.{area-length}
+
+left-suc : (n i : ℕ) → i < n → n - i ≡ suc (n - (i + 1))
+left-suc n i l = omega arith
+
+left-zero : (n i : ℕ) → n ≤ i → n - i ≡ 0
+left-zero n i l = omega arith
+
+-- ---- the targets
+
+module _ (f : List ℕ) (s : Shape) (states : List ℕ) (steps : ℕ) where
+  pub last-begin : (n at : ℕ) → lastFrom f s states steps at 0 (n - 0) ≡ lastFrom f s states steps at 0 n
+  last-begin n at = ap (lastFrom f s states steps at 0) (omega arith)
+
+  pub last-hit : (n at i : ℕ) → i < n → inTargetIn f at s states ≡ true → lastFrom f s states steps at i (n - i) ≡ Reachable steps i
+  unfolding lastFrom
+  last-hit n at i l e = ap (lastFrom f s states steps at i) (left-suc n i l) ∙ rw e
+
+  pub last-next : (n at i : ℕ) → i < n → inTargetIn f at s states ≡ false
+      → lastFrom f s states steps at i (n - i) ≡ lastFrom f s states steps (nextTarget f at) (i + 1) (n - (i + 1))
+  unfolding lastFrom
+  last-next n at i l e = ap (lastFrom f s states steps at i) (left-suc n i l) ∙ rw e
+
+  pub last-none : (n at i : ℕ) → n ≤ i → lastFrom f s states steps at i (n - i) ≡ Missed steps
+  unfolding lastFrom
+  last-none n at i l = ap (lastFrom f s states steps at i) (left-zero n i l)
+
+-- ---- the steps
+
+module _ (f : List ℕ) (s : Shape) (transitions targets : Row) (steps : ℕ) where
+  then-stopped : (x : Answer) (cause : Cause) (k : ℕ) (y : Unit {0} → RunAnswer) → x ≡ Refused cause → answerThen x k y ≡ Stopped k cause
+  then-stopped x cause k y e = ap (λ (z : Answer). answerThen z k y) e
+
+  then-goes : (x : Answer) (k : ℕ) (y : Unit {0} → RunAnswer) → x ≡ Permitted → answerThen x k y ≡ y tt
+  then-goes x k y e = ap (λ (z : Answer). answerThen z k y) e
+
+  pub run-begin : (n at : ℕ) (run : Run) (rows : List (List ℕ)) (a : List ℕ)
+      → runFrom f s transitions targets steps 0 at run rows a (n - 0) ≡ runFrom f s transitions targets steps 0 at run rows a n
+  run-begin n at run rows a = ap (runFrom f s transitions targets steps 0 at run rows a) (omega arith)
+
+  pub run-done : (n k at : ℕ) (run : Run) (rows : List (List ℕ)) (a : List ℕ) → n ≤ k
+      → runFrom f s transitions targets steps k at run rows a (n - k) ≡ lastIn f targets s (run .states) steps
+  unfolding runFrom
+  run-done n k at run rows a l = ap (runFrom f s transitions targets steps k at run rows a) (left-zero n k l)
+
+  pub run-stopped : (n k at : ℕ) (run : Run) (rows : List (List ℕ)) (a : List ℕ) (cause : Cause) → k < n
+      → answerIn run rows a s (moveOf f transitions (stepAt f at)) ≡ Refused cause
+      → runFrom f s transitions targets steps k at run rows a (n - k) ≡ Stopped k cause
+  unfolding runFrom
+  run-stopped n k at run rows a cause l e =
+      ap (runFrom f s transitions targets steps k at run rows a) (left-suc n k l) ∙ then-stopped _ cause k _ e
+
+  pub run-next : (n k at : ℕ) (run : Run) (rows : List (List ℕ)) (a : List ℕ) → k < n
+      → answerIn run rows a s (moveOf f transitions (stepAt f at)) ≡ Permitted
+      → runFrom f s transitions targets steps k at run rows a (n - k)
+      ≡ runFrom f s transitions targets steps (k + 1) (nextStep f at) (runAfter run (moveOf f transitions (stepAt f at)))
+      (rowsAfter rows (run .messages) (moveOf f transitions (stepAt f at))) (areaAfter a run (moveOf f transitions (stepAt f at))) (n - (k + 1))
+  unfolding runFrom
+  run-next n k at run rows a l e =
+      ap (runFrom f s transitions targets steps k at run rows a) (left-suc n k l) ∙ then-goes _ k _ e
+
+-- ---- the state of the loop over the steps
+
+pub record Replaying (f : List ℕ) (s : Shape) (transitions targets : Row) (steps at : ℕ) (run₀ : Run) (rows₀ : List (List ℕ)) (a₀ : List ℕ)
+    (k place : ℕ) (run : Run) (rows : List (List ℕ)) (a : List ℕ) : Type 0 where
+  pub most : k ≤ steps
+  pub same : length a ≡ length a₀
+  pub rest :
+      runFrom f s transitions targets steps k place run rows a (steps - k) ≡ runFrom f s transitions targets steps 0 at run₀ rows₀ a₀ steps
+
+pub replaying-begin : (f : List ℕ) (s : Shape) (transitions targets : Row) (steps at : ℕ) (run₀ : Run) (rows₀ : List (List ℕ)) (a₀ : List ℕ)
+    → Replaying f s transitions targets steps at run₀ rows₀ a₀ 0 at run₀ rows₀ a₀
+replaying-begin f s transitions targets steps at run₀ rows₀ a₀ =
+    record { most = omega arith; same = refl; rest = run-begin f s transitions targets steps steps at run₀ rows₀ a₀ }
+
+module _ {f : List ℕ} {s : Shape} {transitions targets : Row} {steps at : ℕ} {run₀ : Run} {rows₀ : List (List ℕ)} {a₀ : List ℕ}
+    {k place : ℕ} {run : Run} {rows : List (List ℕ)} {a : List ℕ} (r : Replaying f s transitions targets steps at run₀ rows₀ a₀ k place run rows a) where
+  pub replaying-done : steps ≤ k → lastIn f targets s (run .states) steps ≡ runFrom f s transitions targets steps 0 at run₀ rows₀ a₀ steps
+  replaying-done l = sym (run-done f s transitions targets steps steps k place run rows a l) ∙ r .rest
+
+  pub replaying-stopped : (x : Answer) (cause : Cause) → k < steps → x ≡ answerIn run rows a s (moveOf f transitions (stepAt f place)) → x ≡ Refused cause
+      → stoppedBy k x ≡ runFrom f s transitions targets steps 0 at run₀ rows₀ a₀ steps
+  replaying-stopped x cause l e q =
+      ap (stoppedBy k) q ∙ sym (run-stopped f s transitions targets steps steps k place run rows a cause l (sym e ∙ q)) ∙ r .rest
+
+  pub replaying-next : {place′ : ℕ} {run′ : Run} {rows′ : List (List ℕ)} {a′ : List ℕ} (m : Move) → k < steps → m ≡ moveOf f transitions (stepAt f place)
+      → answerIn run rows a s m ≡ Permitted → place′ ≡ nextStep f place → run′ ≡ runAfter run m
+      → rows′ ≡ rowsAfter rows (run .messages) m → a′ ≡ areaAfter a run m
+      → Replaying f s transitions targets steps at run₀ rows₀ a₀ (k + 1) place′ run′ rows′ a′
+  replaying-next {place′} {run′} {rows′} {a′} m l em e ep er ew ea =
+      record {
+        most = omega arith;
+        same = ap length ea ∙ area-length a run m ∙ r .same;
+        rest =
+            (λ i. runFrom f s transitions targets steps (k + 1) (ep i) (er i) (ew i) (ea i) (steps - (k + 1)))
+            ∙ ap (λ (x : Move). runFrom f s transitions targets steps (k + 1) (nextStep f place) (runAfter run x) (rowsAfter rows (run .messages) x) (areaAfter a run x) (steps - (k + 1))) em
+            ∙ sym (run-next f s transitions targets steps steps k place run rows a l (ap (answerIn run rows a s) (sym em) ∙ e)) ∙ r .rest;
+      }

@@ -1,0 +1,85 @@
+use mathlib.Core.Logic.{⊎-elim}
+use lib.ListN.{length, length-replicate, replicate}
+use Rattle.replay.specs.Layout.{moveOf, answerIn}
+use Rattle.replay.specs.Loop.{runFrom}
+use Rattle.replay.proofs.AreaLaws.{snapshot-length}
+use Prim.Native.Nat.{ℕ, _-_}
+use mathlib.Core.Path.{_≡_, sym, ap, _∙_}
+use native.Mathlib.Omega.{arith}
+use Rattle.replay.proofs.LoopLaws.{Replaying, replaying-begin, replaying-done, replaying-stopped, replaying-next}
+use borrow.Author.Needs.{needs}
+use Rattle.replay.proofs.run.replay_steps.Statement.{statement}
+use Rattle.replay.proofs.run.replay_steps.Tie as tie
+
+abbrev Inv-loop : tie.InvT-loop
+Inv-loop file at count lower₀ shape transitions targets run₀ rows₀ k₀ i₀ lower run rows k i = Replaying file shape transitions targets count at run₀ rows₀ lower₀ i k run rows lower
+
+abbrev μ-loop : tie.MeasureT-loop
+μ-loop file at count lower₀ shape transitions targets run₀ rows₀ k₀ i₀ lower run rows k i = count - i
+
+kept : (c : tie.After-slice-known4 Inv-loop μ-loop) → length (c .before .before .clear .last .0) ≡ length (c .before .before .before .before .before .before .before .before .before .before .before .before .before .before .before .before .before .before .args .lower .now)
+kept c =
+    ap length (c .before .before .clear .ensures) ∙ length-replicate _ _ ∙ c .before .before .before .before .before .loop .inv .same ∙ ap length (c .before .before .before .before .before .before .before .before .before .before .put-snapshot .ensures) ∙ snapshot-length _ _ _
+
+pub replay-steps-spec : {M : Type 1} → statement M
+replay-steps-spec = tie.close (tie.spec
+    Inv-loop
+    μ-loop
+    -- put-snapshot-requires 147:5
+    (λ c κs. search needs)
+    -- first-run-requires 148:9
+    (λ c κs. search needs)
+    -- first-rows-requires 149:9
+    (λ c κs. search needs)
+    -- loop-holds 152:9
+    (λ c. replaying-begin _ _ _ _ _ _ _ _ _)
+    -- last-answer-requires 155:19
+    (λ c κs. search needs)
+    -- step-at-requires 157:47
+    (λ c κs. search needs)
+    -- move-of-requires 157:13
+    (λ c κs. search needs)
+    -- step-answer-requires 158:13
+    (λ c κs. search needs)
+    -- enum-told
+    (λ c. search needs)
+    -- enum-told-2 160:19
+    (λ c. search needs)
+    -- stopped-by-requires 160:19
+    (λ c κs. search needs)
+    -- store-requires 162:9
+    (λ c κs. search needs)
+    -- rows-after-requires 163:13
+    (λ c κs. search needs)
+    -- after-requires 165:9
+    (λ c κs. search needs)
+    -- next-step-requires 166:9
+    (λ c κs. search needs)
+    -- add-i 167:9
+    (λ c. omega (arith, c .before .before .before .before .before .before .before .before .before .before .before .before .before .if1 .left, c .before .before .before .before .before .before .before .before .before .before .before .before .before .before .before .before .before .before .before .before .before .before .before .before .before .before .before .fits .count))
+    -- loop-less 152:9
+    (λ c. omega (arith, c .before .before .before .before .before .before .before .before .before .before .before .before .before .if1 .left))
+    -- loop-again 152:9
+    (λ c. let f = c .before .before .before .before .before .before .before .before .before .before .before .before .before .before .before .before .before .before .before .before .before .before .before .before .before .before .before .args .file .now in
+    replaying-next (c .before .before .before .before .before .before .before .before .before .before .before .before .before .before .loop .inv) (c .before .before .before .before .before .before .before .before .before .before .before .move-of .result) (c .before .before .before .before .before .before .before .before .before .before .before .before .before .if1 .left)
+    (c .before .before .before .before .before .before .before .before .before .before .before .move-of .ensures ∙ ap (moveOf f (c .before .before .before .before .before .before .before .before .before .before .before .before .before .before .before .before .before .before .before .before .before .before .before .before .before .before .before .args .program .transitions)) (c .before .before .before .before .before .before .before .before .before .before .before .before .step-at .ensures))
+    (sym (c .before .before .before .before .before .before .before .before .before .step-answer .ensures) ∙ c .before .before .before .before .before .before .before .enum-told .given .1)
+    (c .next-step .ensures) (c .before .after .ensures) (c .before .before .rows-after .ensures) (c .before .before .before .before .before .store .ensures))
+    -- clear-requires 169:5
+    (λ c κs. search needs)
+    -- same-length 132:1
+    (λ c. kept c)
+    -- returns 132:1
+    (λ c. let f = c .before .before .before .before .before .before .before .before .before .before .before .before .before .before .before .before .before .before .args .file .now in
+    let s = c .before .before .before .before .before .before .before .before .before .before .before .before .before .before .before .before .before .before .args .program .shape in
+    let transitions = c .before .before .before .before .before .before .before .before .before .before .before .before .before .before .before .before .before .before .args .program .transitions in
+    let targets = c .before .before .before .before .before .before .before .before .before .before .before .before .before .before .before .before .before .before .args .program .targets in
+    let n = c .before .before .before .before .before .before .before .before .before .before .before .before .before .before .before .before .before .before .args .count in
+    let I = c .before .before .before .before .before .loop .inv in (
+      ⊎-elim
+          (λ w. w .3 ∙ w .2 .ensures ∙ replaying-done I (w .0 .taken))
+          (λ w. w .8 ∙ w .7 .ensures ∙ replaying-stopped I (w .4 .result) (w .6 .given .0 .0) (w .0 .left) (w .4 .ensures ∙ ap (answerIn (c .before .before .before .before .before .loop .run) (c .before .before .before .before .before .loop .rows) (c .before .before .before .before .before .loop .lower) s) (w .2 .ensures ∙ ap (moveOf f transitions) (w .1 .ensures))) (w .6 .given .1))
+          (c .before .before .before .before .if1 .came)
+          ∙ (λ i. runFrom f s transitions targets n 0 (c .before .before .before .before .before .before .before .before .before .before .before .before .before .before .before .before .before .before .args .at) (c .before .before .before .before .before .before .before .first-run .ensures i) (c .before .before .before .before .before .before .first-rows .ensures i) (c .before .before .before .before .before .before .before .before .before .before .put-snapshot .ensures i) n),
+      c .before .before .clear .ensures ∙ ap (λ (k : ℕ). replicate k 0) (I .same ∙ ap length (c .before .before .before .before .before .before .before .before .before .before .put-snapshot .ensures) ∙ snapshot-length _ _ _),
+    )))

@@ -1,0 +1,74 @@
+-- The replay as the code makes it, over the bytes and arrays of Layout. No statement rests on these definitions: `replay-right` says that they
+-- give the verdict of the machine.
+use Prim.Native.Nat.{ℕ, zero, suc, _+_, _*_}
+use mathlib.Core.Bool.{Bool, true, false, cond, _&&_, _||_}
+use mathlib.Core.List.{List, [], _∷_}
+use lib.ListN.{length, getD, replicate}
+use lib.Dec.{eqb, leb, ltb}
+use Rattle.records.specs.declared.program.Shape.{Shape}
+use Rattle.records.specs.declared.program.Row.{Row}
+use Rattle.records.specs.declared.program.Program.{Program}
+use Rattle.records.specs.Bytes.{choose, byte}
+use Rattle.records.specs.Records.{stepBody, stepAt}
+use Rattle.replay.specs.declared.step.Cause.the-variants.{Nothing}
+use Rattle.replay.specs.declared.step.Answer.{Answer}
+use Rattle.replay.specs.declared.step.Answer.the-variants.{Permitted, Refused}
+use Rattle.replay.specs.declared.step.Move.{Move}
+use Rattle.replay.specs.declared.step.Run.{Run}
+use Rattle.replay.specs.declared.run.RunAnswer.{RunAnswer}
+use Rattle.replay.specs.declared.run.RunAnswer.the-variants.{Reachable, Stopped, Missed}
+use Rattle.replay.specs.Layout.{putSnapshot, moveOf, answerIn, runAfter, rowsAfter, areaAfter}
+
+-- ---- the last test
+
+unfoldable pub agreesIn : Shape → ℕ → ℕ → ℕ → Bool
+agreesIn s p x y = leb (s .processes) p || eqb x y
+
+unfoldable pub inTargetIn : List ℕ → ℕ → Shape → List ℕ → Bool
+inTargetIn f at s states =
+    agreesIn s 0 (getD states 0 0) (byte f (at + 1))
+    && (agreesIn s 1 (getD states 1 0) (byte f (at + 2))
+    && (agreesIn s 2 (getD states 2 0) (byte f (at + 3)) && agreesIn s 3 (getD states 3 0) (byte f (at + 4))))
+
+unfoldable pub nextTarget : List ℕ → ℕ → ℕ
+nextTarget f at = cond (leb (length f) at) at (at + 5)
+
+unfoldable pub nextStep : List ℕ → ℕ → ℕ
+nextStep f at = cond (leb (length f) at) at (at + (1 + stepBody f at))
+
+-- the targets from number i on, which stands at `at`; n of them are left
+unfoldable pub lastFrom : List ℕ → Shape → List ℕ → ℕ → ℕ → ℕ → ℕ → RunAnswer
+lastFrom f s states steps at i zero = Missed steps
+lastFrom f s states steps at i (suc n) =
+    choose (inTargetIn f at s states) (λ _. Reachable steps i) (λ _. lastFrom f s states steps (nextTarget f at) (i + 1) n)
+
+abbrev pub lastIn : List ℕ → Row → Shape → List ℕ → ℕ → RunAnswer
+lastIn f targets s states steps = lastFrom f s states steps (targets .at) 0 (targets .count)
+
+-- ---- the replay
+
+abbrev pub stoppedBy : ℕ → Answer → RunAnswer
+stoppedBy k Permitted = Stopped k Nothing
+stoppedBy k (Refused cause) = Stopped k cause
+
+abbrev pub answerThen : Answer → ℕ → (Unit {0} → RunAnswer) → RunAnswer
+answerThen Permitted k x = x tt
+answerThen (Refused cause) k x = Stopped k cause
+
+abbrev pub firstRun : List ℕ → Run
+firstRun states = record { states = states; messages = 1; heads = replicate 16 0; tails = replicate 16 0 }
+
+abbrev pub firstRows : List (List ℕ)
+firstRows = replicate 4 (replicate 5 1)
+
+-- the steps from number k on, which stands at `at`; n of `steps` are left
+unfoldable pub runFrom : List ℕ → Shape → Row → Row → ℕ → ℕ → ℕ → Run → List (List ℕ) → List ℕ → ℕ → RunAnswer
+runFrom f s transitions targets steps k at run rows a zero = lastIn f targets s (run .states) steps
+runFrom f s transitions targets steps k at run rows a (suc n) =
+    let m = moveOf f transitions (stepAt f at) in
+    answerThen (answerIn run rows a s m) k (λ _.
+    runFrom f s transitions targets steps (k + 1) (nextStep f at) (runAfter run m) (rowsAfter rows (run .messages) m) (areaAfter a run m) n)
+
+abbrev pub replayIn : List ℕ → Program → ℕ → ℕ → List ℕ → RunAnswer
+replayIn f p at count a =
+    runFrom f (p .shape) (p .transitions) (p .targets) count 0 at (firstRun (p .initial)) firstRows (putSnapshot a 1 (replicate 4 0)) count
