@@ -1,0 +1,300 @@
+//! compare cases FILE [JUDGES]     the hand-worked lines
+//! compare brute SEED COUNT        the separate judge's two algorithms against each other
+//! compare corpora SEED [JUDGES]   the corpora
+//! JUDGES: --caller PROGRAM (the exported function through C), --program PROGRAM (standard input to one line).
+//! Every line is compared with the separate judge's. Exit status 0 if all agree.
+
+mod fixed;
+mod random;
+mod search;
+
+use random::Random;
+use reference::{brute, cubes, judge, judge_input, writing, Verdict};
+use std::collections::{BTreeMap, HashMap};
+use std::io::{BufRead, BufReader, Read, Write};
+use std::process::{Child, ChildStdin, ChildStdout, Command, Stdio};
+
+struct Caller {
+    child: Child,
+    input: ChildStdin,
+    output: BufReader<ChildStdout>,
+}
+
+impl Caller {
+    fn new(name: &str) -> Caller {
+        let mut child = Command::new(name).stdin(Stdio::piped()).stdout(Stdio::piped()).spawn().expect("the caller starts");
+        let input = child.stdin.take().unwrap();
+        let output = BufReader::new(child.stdout.take().unwrap());
+        Caller { child, input, output }
+    }
+
+    fn line(&mut self, file: &[u8], area: usize) -> String {
+        let mut head = (area as u64).to_le_bytes().to_vec();
+        head.extend((file.len() as u64).to_le_bytes());
+        head.extend(file);
+        let mut line = String::new();
+        let sent = self.input.write_all(&head).and_then(|_| self.input.flush());
+        if sent.is_err() || self.output.read_line(&mut line).unwrap_or(0) == 0 {
+            return format!("the caller ended: {:?}", self.child.wait());
+        }
+        line.trim_end_matches('\n').to_string()
+    }
+}
+
+fn program_line(name: &str, file: &[u8]) -> String {
+    let mut child = Command::new(name).stdin(Stdio::piped()).stdout(Stdio::piped()).spawn().expect("the program starts");
+    let mut input = child.stdin.take().unwrap();
+    // The program may stop reading after 65,537 bytes.
+    let _ = input.write_all(file);
+    drop(input);
+    let mut line = String::new();
+    child.stdout.take().unwrap().read_to_string(&mut line).expect("text");
+    let status = child.wait().expect("the program ends");
+    match line.strip_suffix('\n') {
+        Some(line) if status.success() => line.to_string(),
+        _ => format!("{:?}, {}", line, status),
+    }
+}
+
+struct Judges {
+    caller: Option<Caller>,
+    program: Option<String>,
+    judged: usize,
+    by_program: usize,
+    failed: usize,
+    lines: BTreeMap<String, usize>,
+}
+
+impl Judges {
+    fn fail(&mut self, what: &str, who: &str, wanted: &str, got: &str, file: &[u8], area: usize) {
+        self.failed += 1;
+        if self.failed <= 20 {
+            let kept = format!("target/tests/differs-{}", self.failed);
+            let _ = std::fs::write(&kept, file);
+            println!("{}: area {}: {} says '{}', wanted '{}' ({}, {} bytes)", what, area, who, got, wanted, kept, file.len());
+        }
+        if got.starts_with("the caller ended") {
+            println!("stopped");
+            std::process::exit(1);
+        }
+    }
+
+    /// Judges one file everywhere and compares with the wanted line.
+    fn compare(&mut self, what: &str, file: &[u8], area: usize, wanted: Verdict, program_too: bool) {
+        self.judged += 1;
+        let kind = match wanted {
+            Verdict::Safe(_) => "safe".to_string(),
+            Verdict::Reachable(..) => "reachable".to_string(),
+            Verdict::Refused(number, _) => format!("{}", number),
+        };
+        *self.lines.entry(kind).or_default() += 1;
+        let wanted = wanted.to_string();
+        if let Some(caller) = &mut self.caller {
+            let got = caller.line(file, area);
+            if got != wanted {
+                self.fail(what, "the exported function", &wanted, &got, file, area);
+            }
+        }
+        if program_too && self.program.is_some() {
+            self.by_program += 1;
+            let wanted = judge_input(file).to_string();
+            let got = program_line(self.program.as_ref().unwrap(), file);
+            if got != wanted {
+                self.fail(what, "the program", &wanted, &got, file, 32_768);
+            }
+        }
+    }
+
+    fn end(&self, what: &str) -> i32 {
+        let spread: Vec<String> = self.lines.iter().map(|(kind, n)| format!("{}: {}", kind, n)).collect();
+        println!("{}: {} files, {} differ ({})", what, self.judged, self.failed, spread.join(", "));
+        if self.caller.is_some() || self.program.is_some() {
+            let called = if self.caller.is_some() { self.judged } else { 0 };
+            println!("{}: {} through the exported function, {} through the program", what, called, self.by_program);
+        }
+        (self.failed > 0) as i32
+    }
+}
+
+/// The syntax of tests/cases: bytes, names, repetition.
+fn bytes(text: &str, names: &HashMap<String, Vec<u8>>) -> Vec<u8> {
+    let mut stack: Vec<(usize, Vec<u8>)> = vec![(1, Vec::new())];
+    for word in text.split_whitespace() {
+        if let Some(name) = word.strip_prefix('$') {
+            let named = names.get(name).unwrap_or_else(|| panic!("no name {}", name));
+            stack.last_mut().unwrap().1.extend(named);
+        } else if let Some(count) = word.strip_suffix("*(") {
+            stack.push((count.parse().expect("a count"), Vec::new()));
+        } else if word == ")" {
+            let (count, part) = stack.pop().unwrap();
+            stack.last_mut().unwrap().1.extend(part.repeat(count));
+        } else {
+            assert!(word.len() == 2, "two digits: {}", word);
+            stack.last_mut().unwrap().1.push(u8::from_str_radix(word, 16).expect("hexadecimal digits"));
+        }
+    }
+    assert!(stack.len() == 1, "unbalanced: {}", text);
+    stack.pop().unwrap().1
+}
+
+fn cases(name: &str, judges: &mut Judges) {
+    let text = std::fs::read_to_string(name).expect("the cases");
+    let mut logical: Vec<String> = Vec::new();
+    for line in text.lines() {
+        let line = line.split('#').next().unwrap();
+        if line.starts_with(' ') && !line.trim().is_empty() {
+            let last = logical.last_mut().unwrap();
+            last.push_str(line);
+        } else if !line.trim().is_empty() {
+            logical.push(line.to_string());
+        }
+    }
+    let mut names = HashMap::new();
+    for line in &logical {
+        if let Some((name, text)) = line.split_once(":=") {
+            let value = bytes(text, &names);
+            names.insert(name.trim().to_string(), value);
+            continue;
+        }
+        let (wanted, text) = line.split_once("<-").expect("LINE <- BYTES");
+        let file = bytes(text, &names);
+        let mut wanted = wanted.trim();
+        let mut area = 32_768;
+        let mut program_only = false;
+        if let Some((before, rest)) = wanted.split_once(':') {
+            match before.strip_prefix("area ") {
+                Some(n) => area = n.trim().parse().expect("an area"),
+                None => program_only = true,
+            }
+            wanted = rest.trim();
+        }
+        let verdict = if program_only { judge_input(&file) } else { judge(&file, area) };
+        if verdict.to_string() != wanted {
+            judges.fail(line, "the separate judge", wanted, &verdict.to_string(), &file, area);
+        }
+        if program_only {
+            judges.judged += 1;
+            if let Some(program) = judges.program.clone() {
+                judges.by_program += 1;
+                let got = program_line(&program, &file);
+                if got != wanted {
+                    judges.fail(line, "the program", wanted, &got, &file, 32_768);
+                }
+            }
+        } else {
+            judges.compare(line, &file, area, verdict, area == 32_768);
+            both_algorithms(judges, line, &file, area, 50_000.0);
+        }
+    }
+}
+
+/// The brute force beside the cubes, where the file is a list of a shape that is tiny enough.
+fn both_algorithms(judges: &mut Judges, what: &str, file: &[u8], area: usize, most: f64) -> bool {
+    let Ok((program, reference::Evidence::List(entries))) = reference::read(file, reference::entries_allowed(area)) else { return false };
+    let bounds = brute::bounds(&program, &entries);
+    let combinations: f64 = program.states.iter().map(|n| *n as f64).product();
+    if brute::size(&program, &bounds) * combinations > most || entries.len() > 1_000 {
+        return false;
+    }
+    let Some(slow) = brute::judge_list(&program, &entries, &bounds) else { return false };
+    let fast = cubes::judge_list(&program, &entries);
+    if slow != fast {
+        judges.fail(what, "the brute force", &fast.to_string(), &slow.to_string(), file, area);
+    }
+    true
+}
+
+fn brute_force(seed: u64, count: usize, judges: &mut Judges) {
+    let mut r = Random(seed);
+    let mut number = 0;
+    while number < count {
+        // One process with one variable, mostly; the other shapes with one value, so that there are few configurations.
+        let (processes, variables, values) = match r.below(20) {
+            0..=11 => (1, 1, 2),
+            12..=13 => (1, 1, 3),
+            14..=17 => (1, 2, 1),
+            18 => (1, 1, 1),
+            _ => (2, 1, 1),
+        };
+        let (program, entries) = random::list(&mut r, processes, variables, values, 400);
+        for variant in 0..6 {
+            let (program, entries) =
+                if variant == 0 { (program.clone(), entries.clone()) } else { random::spoilt_list(&mut r, &program, &entries) };
+            let file = writing::list_file(&program, &entries);
+            let area = 16_384 + 4 * 524_288;
+            let most = if processes == 2 { 150_000.0 } else { 40_000.0 };
+            if both_algorithms(judges, "random list", &file, area, most) {
+                judges.compare("random list", &file, area, judge(&file, area), false);
+                number += 1;
+            }
+            if processes == 2 && variant == 1 {
+                break;
+            }
+        }
+    }
+}
+
+fn corpora(seed: u64, judges: &mut Judges) {
+    let mut r = Random(seed);
+    let areas = [32_768, 32_768, 32_768, 32_768, 32_769, 32_770, 32_772, 33_000, 65_536, 100_001];
+    let odd_areas = [0, 1, 16_384, 32_767];
+    let mut counter = 0usize;
+    let mut sample = move || {
+        counter += 1;
+        counter % 150 == 0
+    };
+    for full in fixed::full_files() {
+        fixed::sweeps(&full, &mut |what, file| {
+            let area = if r.one_in(60) { *r.pick(&odd_areas) } else { *r.pick(&areas) };
+            judges.compare(what, &file, area, judge(&file, area), sample());
+        });
+        for area in odd_areas.iter().chain(&areas) {
+            judges.compare(full.name, &full.bytes, *area, judge(&full.bytes, *area), false);
+        }
+    }
+    fixed::limits(&mut |what, file, area| {
+        judges.compare(what, &file, area, judge(&file, area), area == 32_768);
+    });
+    for _ in 0..2_000 {
+        let (program, run) = random::walk(&mut r);
+        let file = writing::run_file(&program, &run);
+        let area = *r.pick(&areas);
+        judges.compare("run", &file, area, judge(&file, area), sample());
+        for _ in 0..4 {
+            let file = random::damaged_run(&mut r, &program, &run);
+            let area = *r.pick(&areas);
+            judges.compare("damaged run", &file, area, judge(&file, area), sample());
+        }
+    }
+    let mut s = Random(seed ^ 0x5eed);
+    random::lists(&mut r, 320, 12, 500, &mut |program, entries| {
+        let file = writing::list_file(program, entries);
+        let area = *s.pick(&areas);
+        judges.compare("list", &file, area, judge(&file, area), sample());
+        if s.one_in(4) {
+            let file = random::damaged_bytes(&mut s, &file);
+            judges.compare("damaged list", &file, area, judge(&file, area), sample());
+        }
+    });
+}
+
+fn main() {
+    let words: Vec<String> = std::env::args().skip(1).collect();
+    let after = |name: &str| words.iter().position(|w| w == name).map(|at| words[at + 1].clone());
+    let mut judges = Judges {
+        caller: after("--caller").map(|name| Caller::new(&name)),
+        program: after("--program"),
+        judged: 0,
+        by_program: 0,
+        failed: 0,
+        lines: BTreeMap::new(),
+    };
+    let number = |at: usize| words[at].parse::<u64>().expect("a number");
+    match words[0].as_str() {
+        "cases" => cases(&words[1], &mut judges),
+        "brute" => brute_force(number(1), number(2) as usize, &mut judges),
+        "corpora" => corpora(number(1), &mut judges),
+        other => panic!("no part {}", other),
+    }
+    std::process::exit(judges.end(&words[0]));
+}

@@ -1,0 +1,363 @@
+//! Seeded random programs, runs and lists, and their damaged variants.
+
+use crate::search::closed_list;
+use reference::cubes::start_above;
+use reference::{writing, Configuration, Message, Operation, Program, Step, Transition, FF};
+
+/// SplitMix64.
+pub struct Random(pub u64);
+
+impl Random {
+    pub fn next(&mut self) -> u64 {
+        self.0 = self.0.wrapping_add(0x9e37_79b9_7f4a_7c15);
+        let mut z = self.0;
+        z = (z ^ (z >> 30)).wrapping_mul(0xbf58_476d_1ce4_e5b9);
+        z = (z ^ (z >> 27)).wrapping_mul(0x94d0_49bb_1331_11eb);
+        z ^ (z >> 31)
+    }
+
+    pub fn below(&mut self, n: usize) -> usize {
+        (self.next() % n as u64) as usize
+    }
+
+    pub fn one_in(&mut self, n: usize) -> bool {
+        self.below(n) == 0
+    }
+
+    pub fn pick<'a, T>(&mut self, things: &'a [T]) -> &'a T {
+        &things[self.below(things.len())]
+    }
+}
+
+pub fn operation(r: &mut Random, variables: usize, values: u8) -> Operation {
+    let variable = r.below(variables);
+    let value = r.below(values as usize) as u8;
+    match r.below(10) {
+        0 => Operation::Nop,
+        1..=3 => Operation::Read { variable, value },
+        4..=6 => Operation::Write { variable, value },
+        7 => Operation::Mfence,
+        8 => Operation::Sfence,
+        _ => Operation::Arw { variable, old: value, new: r.below(values as usize) as u8 },
+    }
+}
+
+pub fn program(r: &mut Random, processes: usize, variables: usize, values: u8, most_states: usize, transitions: usize) -> Program {
+    let states: Vec<u8> = (0..processes).map(|_| 1 + r.below(most_states) as u8).collect();
+    let initial = states.iter().map(|n| r.below(*n as usize) as u8).collect();
+    let transitions = (0..transitions)
+        .map(|_| {
+            let process = r.below(processes);
+            Transition {
+                process,
+                from: r.below(states[process] as usize) as u8,
+                operation: operation(r, variables, values),
+                to: r.below(states[process] as usize) as u8,
+            }
+        })
+        .collect();
+    let mut made = Program { processes, variables, values, states, initial, transitions, targets: Vec::new() };
+    for _ in 0..1 + if r.one_in(3) { r.below(3) } else { 0 } {
+        let target = random_states(r, &made);
+        made.targets.push(target);
+    }
+    made
+}
+
+fn random_states(r: &mut Random, program: &Program) -> [u8; 4] {
+    let mut states = [0; 4];
+    for p in 0..program.processes {
+        states[p] = r.below(program.states[p] as usize) as u8;
+    }
+    states
+}
+
+/// A run by random walk. The targets are the last local states, or by chance others.
+pub fn walk(r: &mut Random) -> (Program, Vec<Step>) {
+    let (processes, variables, values) = (1 + r.below(4), 1 + r.below(4), 1 + r.below(4) as u8);
+    let most_states = *r.pick(&[2, 3, 4, 32]);
+    let transitions = *r.pick(&[1, 4, 12, 12, 30, 60, 256]);
+    let mut program = program(r, processes, variables, values, most_states, transitions);
+    let length = *r.pick(&[0, 1, 3, 8, 20, 20, 60, 60, 200, 1_024]);
+    let all = program.all_steps();
+    let mut c = Configuration::start(&program);
+    let mut run = Vec::new();
+    while run.len() < length {
+        // A few tries, then a look at all steps, so that a walk ends only where nothing is permitted.
+        let mut taken = None;
+        for _ in 0..20 {
+            let step = *r.pick(&all);
+            if c.take(&program, step) {
+                taken = Some(step);
+                break;
+            }
+        }
+        if taken.is_none() {
+            taken = all.iter().copied().find(|step| c.take(&program, *step));
+        }
+        match taken {
+            Some(step) => run.push(step),
+            None => break,
+        }
+    }
+    if !r.one_in(8) {
+        let at = r.below(program.targets.len());
+        program.targets[at] = c.states;
+    }
+    (program, run)
+}
+
+/// One of the ways to damage a run.
+pub fn damaged_run(r: &mut Random, program: &Program, run: &[Step]) -> Vec<u8> {
+    let mut program = program.clone();
+    let mut run = run.to_vec();
+    let all = program.all_steps();
+    match r.below(8) {
+        0 if !run.is_empty() => {
+            let at = r.below(run.len());
+            run.remove(at);
+        }
+        1 if run.len() > 1 => {
+            let at = r.below(run.len() - 1);
+            run.swap(at, at + 1);
+        }
+        2 => run.insert(r.below(run.len() + 1), *r.pick(&all)),
+        3 if !run.is_empty() => {
+            let at = r.below(run.len());
+            run[at] = *r.pick(&all);
+        }
+        4 if !program.transitions.is_empty() => {
+            let at = r.below(program.transitions.len());
+            program.transitions[at].operation = operation(r, program.variables, program.values);
+        }
+        5 => {
+            let at = r.below(program.targets.len());
+            program.targets[at] = random_states(r, &program);
+        }
+        6 => {
+            let p = r.below(program.processes);
+            program.initial[p] = r.below(program.states[p] as usize) as u8;
+        }
+        _ => return damaged_bytes(r, &writing::run_file(&program, &run)),
+    }
+    writing::run_file(&program, &run)
+}
+
+/// Bytes changed, dropped, doubled or cut.
+pub fn damaged_bytes(r: &mut Random, file: &[u8]) -> Vec<u8> {
+    let mut file = file.to_vec();
+    for _ in 0..1 + r.below(2) {
+        if file.is_empty() {
+            break;
+        }
+        let at = r.below(file.len());
+        match r.below(5) {
+            0 => file[at] = r.next() as u8,
+            1 => file[at] = *r.pick(&[0, 1, 2, 3, 4, 5, 8, 16, 32, 254, 255]),
+            2 => drop(file.remove(at)),
+            3 => file.insert(at, *r.pick(&[0, 1, 2, 3, 4, 15, 16, 17, 18, 32, 33, 34, 255])),
+            _ => file.truncate(at),
+        }
+    }
+    file
+}
+
+/// A closed list for a random program; usually no start is above it.
+pub fn list(r: &mut Random, processes: usize, variables: usize, values: u8, most: usize) -> (Program, Vec<Configuration>) {
+    let (reached_too, targets_only) = (r.one_in(8), r.one_in(8));
+    for tries in 0.. {
+        let states = 2 + r.below(2);
+        let transitions = r.below(if processes == 2 { 4 } else { 6 });
+        let mut program = program(r, processes, variables, values, states, transitions);
+        let reached_too = reached_too || tries > 100;
+        if !reached_too && program.targets.iter().any(|t| t[..processes] == program.initial[..]) {
+            continue;
+        }
+        program.targets.truncate(if processes == 2 || variables == 3 { 1 } else { 2 });
+        if let Some(entries) = closed_list(&program, most) {
+            let further = entries.iter().any(|entry| !program.targets.contains(&entry.states));
+            if reached_too || (further || targets_only) && !entries.iter().any(|entry| start_above(&program, entry)) {
+                return (program, entries);
+            }
+        }
+    }
+    unreachable!()
+}
+
+fn value_places(entry: &mut Configuration, variables: usize) -> Vec<&mut u8> {
+    let mut places: Vec<&mut u8> = Vec::new();
+    for message in &mut entry.channel {
+        places.extend(message.snapshot[..variables].iter_mut());
+    }
+    for queue in &mut entry.queues {
+        places.extend(queue.iter_mut());
+    }
+    places
+}
+
+pub fn shuffle<T>(r: &mut Random, things: &mut [T]) {
+    for at in (1..things.len()).rev() {
+        things.swap(at, r.below(at + 1));
+    }
+}
+
+fn random_value(r: &mut Random, program: &Program) -> u8 {
+    if r.one_in(3) {
+        FF
+    } else {
+        r.below(program.values as usize) as u8
+    }
+}
+
+/// One of the ways to spoil a list, or to write the same set otherwise.
+pub fn spoilt_list(r: &mut Random, program: &Program, entries: &[Configuration]) -> (Program, Vec<Configuration>) {
+    let mut program = program.clone();
+    let mut entries = entries.to_vec();
+    for _ in 0..1 + r.below(2) {
+        if entries.is_empty() {
+            break;
+        }
+        // Entries outside the targets, mostly: without them the answer is 11, without others 9.
+        let further: Vec<usize> = (0..entries.len()).filter(|n| !program.targets.contains(&entries[*n].states)).collect();
+        let at = if further.is_empty() || r.one_in(3) { r.below(entries.len()) } else { *r.pick(&further) };
+        if entries[at].channel.is_empty() {
+            continue;
+        }
+        match r.below(12) {
+            0 | 1 => drop(entries.remove(at)),
+            // An FF split into its values, completely or but for one.
+            2..=4 => {
+                let entry = entries[at].clone();
+                let mut copy = entry.clone();
+                let open: Vec<usize> =
+                    value_places(&mut copy, program.variables).iter().enumerate().filter(|(_, v)| ***v == FF).map(|(n, _)| n).collect();
+                if open.is_empty() {
+                    continue;
+                }
+                let place = *r.pick(&open);
+                let left_out = if r.one_in(2) { r.below(program.values as usize) as u8 } else { FF };
+                entries.remove(at);
+                for value in (0..program.values).filter(|v| *v != left_out) {
+                    let mut part = entry.clone();
+                    *value_places(&mut part, program.variables)[place] = value;
+                    entries.insert(r.below(entries.len() + 1), part);
+                }
+            }
+            5 | 6 => {
+                let value = random_value(r, &program);
+                let mut places = value_places(&mut entries[at], program.variables);
+                let place = r.below(places.len());
+                *places[place] = value;
+            }
+            // A redundant entry: equal, with fewer values, with one more waiting value, or with one more message.
+            7 | 8 => {
+                let mut more = entries[at].clone();
+                match r.below(4) {
+                    0 => {}
+                    1 => {
+                        let value = random_value(r, &program);
+                        let mut places = value_places(&mut more, program.variables);
+                        let place = r.below(places.len());
+                        if *places[place] == FF {
+                            *places[place] = value;
+                        }
+                    }
+                    2 => {
+                        let queue = r.below(more.queues.len());
+                        while !more.queues[queue].is_empty() && more.queues[queue].len() < 8 {
+                            let value = random_value(r, &program);
+                            more.queues[queue].insert(0, value);
+                            if r.one_in(3) {
+                                break;
+                            }
+                        }
+                    }
+                    _ => {
+                        while more.channel.len() < 16 {
+                            let place = r.below(more.channel.len() + 1);
+                            let mut snapshot = [0; 4];
+                            for value in &mut snapshot[..program.variables] {
+                                *value = random_value(r, &program);
+                            }
+                            let process = r.below(program.processes) as u8;
+                            let variable = r.below(program.variables) as u8;
+                            more.channel.insert(place, Message { process, variable, snapshot });
+                            for z in &mut more.pointers[..program.processes] {
+                                if *z > place && !(*z == 1 && place == 0) {
+                                    *z += 1;
+                                }
+                            }
+                            if r.one_in(2) {
+                                break;
+                            }
+                        }
+                    }
+                }
+                entries.insert(r.below(entries.len() + 1), more);
+            }
+            9 => shuffle(r, &mut entries),
+            10 => match r.below(5) {
+                0 => {
+                    let process = r.below(program.processes);
+                    let states = program.states[process] as usize;
+                    let operation = operation(r, program.variables, program.values);
+                    let transition = Transition { process, from: r.below(states) as u8, operation, to: r.below(states) as u8 };
+                    program.transitions.push(transition);
+                }
+                1 => {
+                    let target = random_states(r, &program);
+                    program.targets.push(target);
+                }
+                2 => {
+                    let p = r.below(program.processes);
+                    program.initial[p] = r.below(program.states[p] as usize) as u8;
+                }
+                3 => {
+                    let p = r.below(program.processes);
+                    entries[at].states[p] = r.below(program.states[p] as usize) as u8;
+                }
+                _ => {
+                    let queue = r.below(entries[at].queues.len());
+                    let value = random_value(r, &program);
+                    entries[at].queues[queue] = if entries[at].queues[queue].is_empty() { vec![value] } else { Vec::new() };
+                }
+            },
+            _ => {
+                let entry = &mut entries[at];
+                match r.below(3) {
+                    0 => {
+                        let message = r.below(entry.channel.len());
+                        entry.channel[message].process = r.below(program.processes) as u8;
+                        entry.channel[message].variable = r.below(program.variables) as u8;
+                    }
+                    1 => entry.pointers[r.below(program.processes)] = 1 + r.below(entry.channel.len()),
+                    _ => {
+                        let message = r.below(entry.channel.len());
+                        entry.channel.remove(message);
+                    }
+                }
+            }
+        }
+    }
+    (program, entries)
+}
+
+/// Closed lists of all shapes that can be accepted within reason, with `variants` spoilt ones each.
+pub fn lists(r: &mut Random, count: usize, variants: usize, most: usize, each: &mut dyn FnMut(&Program, &[Configuration])) {
+    for number in 0..count {
+        let (processes, variables) = match number % 40 {
+            0..=21 => (1, 1),
+            22..=35 => (1, 2),
+            36 | 37 => (1, 3),
+            _ => (2, 1),
+        };
+        let values = 1 + r.below(if processes * variables == 1 { 4 } else { 3 }) as u8;
+        let (program, entries) = list(r, processes, variables, values, most);
+        each(&program, &entries);
+        let variants = if processes * variables >= 3 || processes == 2 { variants / 2 } else { variants };
+        for _ in 0..variants {
+            let (program, entries) = spoilt_list(r, &program, &entries);
+            each(&program, &entries);
+        }
+    }
+}

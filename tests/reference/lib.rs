@@ -1,0 +1,71 @@
+//! A judge written separately, from document 01 alone, to be compared with the proved one.
+//! It shares no code, no order of work and no layout with it: records are read into owned values, a channel is a vector with its oldest
+//! message first, lists are answered over an index, and a second algorithm (`brute`) knows only the machine and the order.
+
+pub mod brute;
+pub mod cubes;
+pub mod machine;
+pub mod reading;
+pub mod writing;
+
+pub use machine::{Configuration, Message, Operation, Program, Step, Transition};
+pub use reading::{read, Evidence};
+
+/// Stands for any value of its place, in an entry.
+pub const FF: u8 = 255;
+
+#[derive(Clone, Copy, PartialEq, Eq, Debug)]
+pub enum Verdict {
+    Safe(u64),
+    Reachable(u64, u64),
+    Refused(u64, u64),
+}
+
+impl std::fmt::Display for Verdict {
+    fn fmt(&self, f: &mut std::fmt::Formatter) -> std::fmt::Result {
+        match self {
+            Verdict::Safe(n) => write!(f, "safe {}", n),
+            Verdict::Reachable(steps, target) => write!(f, "reachable {} {}", steps, target),
+            Verdict::Refused(number, place) => write!(f, "refused {} {}", number, place),
+        }
+    }
+}
+
+/// Document 01, "Records": entries allowed by a work area of `area` bytes.
+pub fn entries_allowed(area: usize) -> usize {
+    (area.saturating_sub(16_384) / 4).min(524_288)
+}
+
+/// The whole judgement of a file with a work area of `area` bytes.
+pub fn judge(file: &[u8], area: usize) -> Verdict {
+    if area < 32_768 {
+        return Verdict::Refused(8, 0);
+    }
+    match read(file, entries_allowed(area)) {
+        Err((number, place)) => Verdict::Refused(number, place as u64),
+        Ok((program, Evidence::Run(steps))) => replay(&program, &steps),
+        Ok((program, Evidence::List(entries))) => cubes::judge_list(&program, &entries),
+    }
+}
+
+/// What the program answers to a file on standard input: its area has 32,768 bytes, and number 14 comes first.
+pub fn judge_input(file: &[u8]) -> Verdict {
+    if file.len() > 65_536 {
+        return Verdict::Refused(14, 65_536);
+    }
+    judge(file, 32_768)
+}
+
+/// Claim 1: every step in turn, then the lowest target that the last local states meet.
+pub fn replay(program: &Program, steps: &[Step]) -> Verdict {
+    let mut configuration = Configuration::start(program);
+    for (number, step) in steps.iter().enumerate() {
+        if !configuration.take(program, *step) {
+            return Verdict::Refused(12, number as u64);
+        }
+    }
+    match program.targets.iter().position(|target| *target == configuration.states) {
+        Some(target) => Verdict::Reachable(steps.len() as u64, target as u64),
+        None => Verdict::Refused(13, steps.len() as u64),
+    }
+}

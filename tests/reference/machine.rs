@@ -1,0 +1,180 @@
+//! The machine of document 01, "The machine".
+
+#[derive(Clone, Copy, PartialEq, Eq, Debug)]
+pub enum Operation {
+    Nop,
+    Read { variable: usize, value: u8 },
+    Write { variable: usize, value: u8 },
+    Mfence,
+    Sfence,
+    Arw { variable: usize, old: u8, new: u8 },
+}
+
+#[derive(Clone, Copy, PartialEq, Eq, Debug)]
+pub struct Transition {
+    pub process: usize,
+    pub from: u8,
+    pub operation: Operation,
+    pub to: u8,
+}
+
+#[derive(Clone, Copy, PartialEq, Eq, Debug)]
+pub enum Step {
+    Transition(usize),
+    Serialise(usize, usize),
+    Update(usize),
+}
+
+#[derive(Clone, PartialEq, Eq, Debug, Default)]
+pub struct Program {
+    pub processes: usize,
+    pub variables: usize,
+    pub values: u8,
+    /// Number of local states and the initial one, per process.
+    pub states: Vec<u8>,
+    pub initial: Vec<u8>,
+    pub transitions: Vec<Transition>,
+    /// Local states, 0 for absent processes.
+    pub targets: Vec<[u8; 4]>,
+}
+
+#[derive(Clone, Copy, PartialEq, Eq, Hash, Debug)]
+pub struct Message {
+    pub process: u8,
+    pub variable: u8,
+    pub snapshot: [u8; 4],
+}
+
+/// A configuration, or an entry: then a value may be FF.
+#[derive(Clone, PartialEq, Eq, Hash, Debug)]
+pub struct Configuration {
+    pub states: [u8; 4],
+    /// Queue of p and v at p * variables + v, oldest value first.
+    pub queues: Vec<Vec<u8>>,
+    /// Oldest message first; message number n is at n - 1.
+    pub channel: Vec<Message>,
+    /// Message numbers, counted from 1; 0 for absent processes.
+    pub pointers: [usize; 4],
+}
+
+impl Program {
+    pub fn queue(&self, process: usize, variable: usize) -> usize {
+        process * self.variables + variable
+    }
+
+    /// Every step that the shape has, permitted or not: transitions, serialise, update.
+    pub fn all_steps(&self) -> Vec<Step> {
+        let mut steps: Vec<Step> = (0..self.transitions.len()).map(Step::Transition).collect();
+        for p in 0..self.processes {
+            for v in 0..self.variables {
+                steps.push(Step::Serialise(p, v));
+            }
+        }
+        steps.extend((0..self.processes).map(Step::Update));
+        steps
+    }
+}
+
+impl Configuration {
+    /// The permitted start whose message is labelled (0, 0). No replay depends on that label: every pointer is at least 1, and so is
+    /// every LastWrite without it.
+    pub fn start(program: &Program) -> Configuration {
+        let mut states = [0; 4];
+        let mut pointers = [0; 4];
+        for p in 0..program.processes {
+            states[p] = program.initial[p];
+            pointers[p] = 1;
+        }
+        Configuration {
+            states,
+            queues: vec![Vec::new(); program.processes * program.variables],
+            channel: vec![Message { process: 0, variable: 0, snapshot: [0; 4] }],
+            pointers,
+        }
+    }
+
+    /// The largest message number that is p's pointer or carries the label (p, v).
+    pub fn last_write(&self, process: usize, variable: usize) -> usize {
+        let mut last = self.pointers[process];
+        for (at, message) in self.channel.iter().enumerate() {
+            if message.process as usize == process && message.variable as usize == variable {
+                last = last.max(at + 1);
+            }
+        }
+        last
+    }
+
+    fn queues_empty(&self, program: &Program, process: usize) -> bool {
+        (0..program.variables).all(|v| self.queues[program.queue(process, v)].is_empty())
+    }
+
+    fn append(&mut self, process: usize, variable: usize, value: u8) {
+        let mut snapshot = self.channel[self.channel.len() - 1].snapshot;
+        snapshot[variable] = value;
+        self.channel.push(Message { process: process as u8, variable: variable as u8, snapshot });
+    }
+
+    /// Takes the step if the machine permits it, and says so; else nothing changes.
+    pub fn take(&mut self, program: &Program, step: Step) -> bool {
+        match step {
+            Step::Update(p) => {
+                if self.pointers[p] >= self.channel.len() {
+                    return false;
+                }
+                self.pointers[p] += 1;
+                true
+            }
+            Step::Serialise(p, v) => {
+                let queue = &mut self.queues[program.queue(p, v)];
+                if queue.is_empty() {
+                    return false;
+                }
+                let value = queue.remove(0);
+                self.append(p, v, value);
+                true
+            }
+            Step::Transition(number) => {
+                let Transition { process: p, from, operation, to } = program.transitions[number];
+                if self.states[p] != from {
+                    return false;
+                }
+                let newest = self.channel.len();
+                match operation {
+                    Operation::Nop => {}
+                    Operation::Write { variable, value } => self.queues[program.queue(p, variable)].push(value),
+                    Operation::Read { variable, value } => {
+                        let found = match self.queues[program.queue(p, variable)].last() {
+                            Some(waiting) => *waiting,
+                            None => self.channel[self.last_write(p, variable) - 1].snapshot[variable],
+                        };
+                        if found != value {
+                            return false;
+                        }
+                    }
+                    Operation::Sfence => {
+                        if !self.queues_empty(program, p) {
+                            return false;
+                        }
+                    }
+                    Operation::Mfence => {
+                        if !self.queues_empty(program, p) || self.pointers[p] != newest {
+                            return false;
+                        }
+                    }
+                    Operation::Arw { variable, old, new } => {
+                        if !self.queues[program.queue(p, variable)].is_empty()
+                            || self.pointers[p] != newest
+                            || self.channel[newest - 1].snapshot[variable] != old
+                        {
+                            return false;
+                        }
+                        self.append(p, variable, new);
+                        self.pointers[p] = newest + 1;
+                    }
+                }
+                self.states[p] = to;
+                true
+            }
+        }
+    }
+}

@@ -1,0 +1,249 @@
+//! Document 01, "Records" and the refusal table: bytes to program and evidence, or a number and a place.
+
+use crate::machine::{Configuration, Message, Operation, Program, Step, Transition};
+use crate::FF;
+
+pub enum Evidence {
+    List(Vec<Configuration>),
+    Run(Vec<Step>),
+}
+
+/// Body lengths of the kinds that exist.
+pub fn body_length(kind: u8) -> Option<usize> {
+    Some(match kind {
+        0x01 => 3,
+        0x02 => 2,
+        0x03 => 7,
+        0x04 => 4,
+        0x0f => 1,
+        0x10 => 8,
+        0x11 => 6,
+        0x12 => 3,
+        0x20 => 1,
+        0x21 => 2,
+        0x22 => 1,
+        _ => return None,
+    })
+}
+
+#[derive(Default)]
+struct Reader {
+    shape: bool,
+    program: Program,
+    claim: Option<u8>,
+    entries: Vec<Configuration>,
+    /// Offset of the latest entry's 10.
+    entry_at: usize,
+    steps: Vec<Step>,
+}
+
+impl Reader {
+    fn allowed_here(&self, kind: u8) -> bool {
+        let all_states = self.shape && self.program.states.len() == self.program.processes;
+        let no_target = self.program.targets.is_empty();
+        match (kind, self.claim) {
+            (0x01, None) => !self.shape,
+            (0x02, None) => self.shape && !all_states,
+            (0x03, None) => all_states && no_target,
+            (0x04, None) => all_states,
+            (0x0f, None) => all_states && !no_target,
+            (0x10, Some(0)) => true,
+            (0x11 | 0x12, Some(0)) => !self.entries.is_empty(),
+            (0x20 | 0x21 | 0x22, Some(1)) => true,
+            _ => false,
+        }
+    }
+
+    /// Number 7, of the latest entry.
+    fn entry_faulty(&self) -> bool {
+        let Some(entry) = self.entries.last() else { return false };
+        let pointers = &entry.pointers[..self.program.processes];
+        entry.channel.is_empty() || pointers.iter().any(|z| *z < 1 || *z > entry.channel.len()) || !pointers.contains(&1)
+    }
+
+    fn one_too_many(&self, kind: u8, body: &[u8], entries_allowed: usize) -> bool {
+        match kind {
+            0x03 => self.program.transitions.len() == 256,
+            0x04 => self.program.targets.len() == 16,
+            0x10 => self.entries.len() == entries_allowed,
+            0x11 => self.entries[self.entries.len() - 1].channel.len() == 16,
+            0x12 => {
+                let (p, v) = (body[0] as usize, body[1] as usize);
+                p < self.program.processes
+                    && v < self.program.variables
+                    && self.entries[self.entries.len() - 1].queues[self.program.queue(p, v)].len() == 8
+            }
+            0x20..=0x22 => self.steps.len() == 1_024,
+            _ => false,
+        }
+    }
+
+    fn out_of_range(&self, kind: u8, body: &[u8]) -> bool {
+        match kind {
+            0x01 => body.iter().any(|n| *n < 1 || *n > 4),
+            0x02 => body[0] < 1 || body[0] > 32,
+            _ => false,
+        }
+    }
+
+    fn local_states(&self, bytes: &[u8]) -> Option<[u8; 4]> {
+        let mut states = [0; 4];
+        for (p, byte) in bytes.iter().enumerate() {
+            let fits = if p < self.program.processes { *byte < self.program.states[p] } else { *byte == 0 };
+            if !fits {
+                return None;
+            }
+            states[p] = *byte;
+        }
+        Some(states)
+    }
+
+    fn value_or_any(&self, byte: u8) -> bool {
+        byte < self.program.values || byte == FF
+    }
+
+    /// Takes the record in; None is number 4.
+    fn take(&mut self, kind: u8, body: &[u8]) -> Option<()> {
+        let processes = self.program.processes;
+        let variables = self.program.variables;
+        let values = self.program.values;
+        let process = |byte: u8| if (byte as usize) < processes { Some(byte as usize) } else { None };
+        let variable = |byte: u8| if (byte as usize) < variables { Some(byte as usize) } else { None };
+        let value = |byte: u8| if byte < values { Some(byte) } else { None };
+        let zero = |byte: u8| if byte == 0 { Some(()) } else { None };
+        match kind {
+            0x01 => {
+                self.shape = true;
+                self.program.processes = body[0] as usize;
+                self.program.variables = body[1] as usize;
+                self.program.values = body[2];
+            }
+            0x02 => {
+                if body[1] >= body[0] {
+                    return None;
+                }
+                self.program.states.push(body[0]);
+                self.program.initial.push(body[1]);
+            }
+            0x03 => {
+                let p = process(body[0])?;
+                if body[1] >= self.program.states[p] || body[6] >= self.program.states[p] {
+                    return None;
+                }
+                let operation = match body[2] {
+                    0 | 3 | 4 => {
+                        zero(body[3])?;
+                        zero(body[4])?;
+                        zero(body[5])?;
+                        [Operation::Nop, Operation::Mfence, Operation::Sfence][(body[2] as usize).saturating_sub(2)]
+                    }
+                    1 | 2 => {
+                        let variable = variable(body[3])?;
+                        let value = value(body[4])?;
+                        zero(body[5])?;
+                        if body[2] == 1 {
+                            Operation::Read { variable, value }
+                        } else {
+                            Operation::Write { variable, value }
+                        }
+                    }
+                    5 => Operation::Arw { variable: variable(body[3])?, old: value(body[4])?, new: value(body[5])? },
+                    _ => return None,
+                };
+                self.program.transitions.push(Transition { process: p, from: body[1], operation, to: body[6] });
+            }
+            0x04 => {
+                let target = self.local_states(body)?;
+                self.program.targets.push(target);
+            }
+            0x0f => {
+                if body[0] > 1 {
+                    return None;
+                }
+                self.claim = Some(body[0]);
+            }
+            0x10 => {
+                let states = self.local_states(&body[..4])?;
+                let mut pointers = [0; 4];
+                for p in 0..4 {
+                    if p >= processes {
+                        zero(body[4 + p])?;
+                    }
+                    pointers[p] = body[4 + p] as usize;
+                }
+                self.entries.push(Configuration { states, queues: vec![Vec::new(); processes * variables], channel: Vec::new(), pointers });
+            }
+            0x11 => {
+                process(body[0])?;
+                variable(body[1])?;
+                for (v, byte) in body[2..6].iter().enumerate() {
+                    if v < variables && !self.value_or_any(*byte) || v >= variables && *byte != 0 {
+                        return None;
+                    }
+                }
+                let message = Message { process: body[0], variable: body[1], snapshot: [body[2], body[3], body[4], body[5]] };
+                self.entries.last_mut()?.channel.push(message);
+            }
+            0x12 => {
+                let queue = self.program.queue(process(body[0])?, variable(body[1])?);
+                if !self.value_or_any(body[2]) {
+                    return None;
+                }
+                self.entries.last_mut()?.queues[queue].push(body[2]);
+            }
+            0x20 => {
+                if body[0] as usize >= self.program.transitions.len() {
+                    return None;
+                }
+                self.steps.push(Step::Transition(body[0] as usize));
+            }
+            0x21 => {
+                let step = Step::Serialise(process(body[0])?, variable(body[1])?);
+                self.steps.push(step);
+            }
+            _ => {
+                let step = Step::Update(process(body[0])?);
+                self.steps.push(step);
+            }
+        }
+        Some(())
+    }
+}
+
+/// Reads a whole file. A refusal is a number of the table and a byte offset.
+pub fn read(file: &[u8], entries_allowed: usize) -> Result<(Program, Evidence), (u64, usize)> {
+    let mut reader = Reader::default();
+    let mut at = 0;
+    while at < file.len() {
+        let kind = file[at];
+        if kind == 0x10 && reader.entry_faulty() {
+            return Err((7, reader.entry_at));
+        }
+        if !reader.allowed_here(kind) {
+            return Err((2, at));
+        }
+        let Some(length) = body_length(kind) else { return Err((2, at)) };
+        let Some(body) = file.get(at + 1..at + 1 + length) else { return Err((1, at)) };
+        if reader.one_too_many(kind, body, entries_allowed) {
+            return Err((5, at));
+        }
+        if reader.out_of_range(kind, body) {
+            return Err((3, at));
+        }
+        if reader.take(kind, body).is_none() {
+            return Err((4, at));
+        }
+        if kind == 0x10 {
+            reader.entry_at = at;
+        }
+        at += 1 + length;
+    }
+    if reader.entry_faulty() {
+        return Err((7, reader.entry_at));
+    }
+    match reader.claim {
+        None => Err((6, file.len())),
+        Some(0) => Ok((reader.program, Evidence::List(reader.entries))),
+        Some(_) => Ok((reader.program, Evidence::Run(reader.steps))),
+    }
+}
