@@ -12,7 +12,7 @@
 extern "C" {
 #endif
 
-/* kind HRAFNOLT_SAFE:      first = number of entries, second = 0; line `safe FIRST`
+/* kind HRAFNOLT_SAFE:      first = number of entries; line `safe FIRST`
  * kind HRAFNOLT_REACHABLE: first = number of steps, second = lowest target met; line `reachable FIRST SECOND`
  * kind HRAFNOLT_REFUSED:   first = number of the refusal table, second = place; line `refused FIRST SECOND` */
 struct hrafnolt_verdict {

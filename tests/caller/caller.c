@@ -106,7 +106,7 @@ int main(void)
         }
         if (fault != NULL)
             printf("fault: %s\n", fault);
-        else if (v.kind == HRAFNOLT_SAFE && v.second == 0)
+        else if (v.kind == HRAFNOLT_SAFE)
             printf("safe %" PRIu64 "\n", v.first);
         else if (v.kind == HRAFNOLT_REACHABLE)
             printf("reachable %" PRIu64 " %" PRIu64 "\n", v.first, v.second);

@@ -1,6 +1,6 @@
-//! evidence safe MOST        program records (01 to 04) on standard input; a file with claim 0 and a closed list on standard output
-//! evidence run WAITING      the same; a file with claim 1 and a shortest run, keeping at most WAITING waiting values per process
-//! Exit status 1 and nothing written if there is none.
+//! evidence safe MOST      a file with claim 0 and a closed list of at most MOST entries
+//! evidence run WAITING    a file with claim 1 and a shortest run that keeps at most WAITING waiting values per process
+//! The program is on standard input: records 01 to 04, or any whole file. Exit status 1 and nothing written if there is none.
 
 mod search;
 
@@ -50,8 +50,12 @@ fn main() {
     let number: usize = words.get(2).and_then(|n| n.parse().ok()).expect("evidence safe|run NUMBER");
     let mut file = Vec::new();
     std::io::stdin().read_to_end(&mut file).expect("standard input");
-    file.extend([0x0f, 1]);
-    let (program, _) = reference::read(&file, 0).unwrap_or_else(|(n, place)| panic!("refused {} {}", n, place));
+    let (program, _) = reference::read(&file, 524_288)
+        .or_else(|_| {
+            file.extend([0x0f, 1]);
+            reference::read(&file, 0)
+        })
+        .unwrap_or_else(|(n, place)| panic!("refused {} {}", n, place));
     let out = match words[1].as_str() {
         "safe" => search::closed_list(&program, number).map(|list| writing::list_file(&program, &list)),
         _ => match shortest_run(&program, number) {

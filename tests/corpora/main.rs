@@ -60,6 +60,7 @@ struct Judges {
     caller: Option<Caller>,
     program: Option<String>,
     judged: usize,
+    by_caller: usize,
     by_program: usize,
     failed: usize,
     lines: BTreeMap<String, usize>,
@@ -90,6 +91,7 @@ impl Judges {
         *self.lines.entry(kind).or_default() += 1;
         let wanted = wanted.to_string();
         if let Some(caller) = &mut self.caller {
+            self.by_caller += 1;
             let got = caller.line(file, area);
             if got != wanted {
                 self.fail(what, "the exported function", &wanted, &got, file, area);
@@ -109,8 +111,7 @@ impl Judges {
         let spread: Vec<String> = self.lines.iter().map(|(kind, n)| format!("{}: {}", kind, n)).collect();
         println!("{}: {} files, {} differ ({})", what, self.judged, self.failed, spread.join(", "));
         if self.caller.is_some() || self.program.is_some() {
-            let called = if self.caller.is_some() { self.judged } else { 0 };
-            println!("{}: {} through the exported function, {} through the program", what, called, self.by_program);
+            println!("{}: {} through the exported function, {} through the program", what, self.by_caller, self.by_program);
         }
         (self.failed > 0) as i32
     }
@@ -267,7 +268,7 @@ fn corpora(seed: u64, judges: &mut Judges) {
         }
     }
     let mut s = Random(seed ^ 0x5eed);
-    random::lists(&mut r, 320, 12, 500, &mut |program, entries| {
+    random::lists(&mut r, &mut |program, entries| {
         let file = writing::list_file(program, entries);
         let area = *s.pick(&areas);
         judges.compare("list", &file, area, judge(&file, area), sample());
@@ -285,6 +286,7 @@ fn main() {
         caller: after("--caller").map(|name| Caller::new(&name)),
         program: after("--program"),
         judged: 0,
+        by_caller: 0,
         by_program: 0,
         failed: 0,
         lines: BTreeMap::new(),

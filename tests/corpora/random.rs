@@ -342,22 +342,22 @@ pub fn spoilt_list(r: &mut Random, program: &Program, entries: &[Configuration])
     (program, entries)
 }
 
-/// Closed lists of all shapes that can be accepted within reason, with `variants` spoilt ones each.
-pub fn lists(r: &mut Random, count: usize, variants: usize, most: usize, each: &mut dyn FnMut(&Program, &[Configuration])) {
-    for number in 0..count {
-        let (processes, variables) = match number % 40 {
-            0..=21 => (1, 1),
-            22..=35 => (1, 2),
-            36 | 37 => (1, 3),
-            _ => (2, 1),
-        };
-        let values = 1 + r.below(if processes * variables == 1 { 4 } else { 3 }) as u8;
-        let (program, entries) = list(r, processes, variables, values, most);
-        each(&program, &entries);
-        let variants = if processes * variables >= 3 || processes == 2 { variants / 2 } else { variants };
-        for _ in 0..variants {
-            let (program, entries) = spoilt_list(r, &program, &entries);
+/// How many programs of a shape, how many spoilt variants of each list, and the longest list. A judge that compares each predecessor with
+/// the whole list needs seconds for a few hundred entries, so the larger shapes are few.
+const LISTS: [(usize, usize, usize, usize, usize); 5] =
+    [(1, 1, 200, 12, 200), (1, 2, 30, 10, 100), (1, 2, 10, 6, 250), (1, 3, 4, 5, 500), (2, 1, 4, 5, 500)];
+
+/// Closed lists of the shapes that can be accepted, with spoilt ones.
+pub fn lists(r: &mut Random, each: &mut dyn FnMut(&Program, &[Configuration])) {
+    for (processes, variables, programs, variants, most) in LISTS {
+        for _ in 0..programs {
+            let values = 1 + r.below(if variables == 1 { 4 } else { 3 }) as u8;
+            let (program, entries) = list(r, processes, variables, values, most);
             each(&program, &entries);
+            for _ in 0..variants {
+                let (program, entries) = spoilt_list(r, &program, &entries);
+                each(&program, &entries);
+            }
         }
     }
 }
