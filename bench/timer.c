@@ -1,0 +1,45 @@
+/* timer FILE TIMES: judges the file that many times through the exported function; prints the line and the least time of one call in
+ * nanoseconds. */
+#define _GNU_SOURCE
+#include "hrafnolt.h"
+
+#include <inttypes.h>
+#include <stdio.h>
+#include <stdlib.h>
+#include <time.h>
+
+static uint64_t now(void)
+{
+    struct timespec t;
+    clock_gettime(CLOCK_MONOTONIC, &t);
+    return (uint64_t)t.tv_sec * 1000000000u + (uint64_t)t.tv_nsec;
+}
+
+int main(int count, char **words)
+{
+    if (count != 3)
+        return 2;
+    FILE *in = fopen(words[1], "rb");
+    if (in == NULL || fseek(in, 0, SEEK_END) != 0)
+        return 2;
+    size_t length = (size_t)ftell(in), room = hrafnolt_work_enough(length);
+    rewind(in);
+    uint8_t *file = malloc(length + 1), *work = calloc(room, 1);
+    if (file == NULL || work == NULL || fread(file, 1, length, in) != length)
+        return 2;
+    uint64_t least = UINT64_MAX;
+    struct hrafnolt_verdict v = {0, 0, 0};
+    for (int i = 0; i < atoi(words[2]); i++) {
+        uint64_t start = now();
+        v = hrafnolt_judge(file, length, work, room);
+        uint64_t taken = now() - start;
+        if (taken < least)
+            least = taken;
+    }
+    static const char *const kinds[] = {"safe", "reachable", "refused"};
+    printf("%" PRIu64 " %s %" PRIu64, least, kinds[v.kind], v.first);
+    if (v.kind != HRAFNOLT_SAFE)
+        printf(" %" PRIu64, v.second);
+    printf("\n");
+    return 0;
+}
