@@ -15,7 +15,8 @@ use Rattle.records.specs.Cube.{configurationOf}
 use Rattle.lists.specs.Lists.{forBelow, every}
 use Rattle.lists.specs.Decision.{held}
 use Rattle.matching.proofs.Below.{and-false}
-use Rattle.targets.specs.Search.{entriesOf, Searchable}
+use Rattle.contents.specs.Again.{entriesOf}
+use Rattle.targets.specs.Search.{Searchable}
 use Rattle.targets.specs.ShapeCube.{Roomy}
 use Rattle.targets.specs.Walk.{Judges}
 use Rattle.targets.proofs.ListLaws.{every-append, every-one}
@@ -27,11 +28,24 @@ module _ {f list : List ℕ} {n : ℕ} {s : Shape} where
   pub judges-same : {cs ds : List Configuration} {r : Bool} → cs ≡ ds → Judges f list n s ds r → Judges f list n s cs r
   judges-same {cs} {ds} {r} e j = subst (λ (x : List Configuration). Judges f list n s x r) (sym e) j
 
+  pub judges-is : {cs : List Configuration} {r b : Bool} → r ≡ b → Judges f list n s cs r → Judges f list n s cs b
+  judges-is {cs} e j = subst (Judges f list n s cs) e j
+
   pub judges-none : Judges f list n s [] true
   judges-none = record { judged = λ h a. refl }
 
   pub judges-one : (c : Cube) (r : Bool) → Roomy c → (Searchable f list n s c → r ≡ (isHeld f list n s) (configurationOf c)) → Judges f list n s (configurationOf c ∷ []) r
-  judges-one c r m e = record { judged = λ h a. e (h .search c m (a (configurationOf c) (List·Memᴰ·head refl))) ∙ sym (every-one (isHeld f list n s) (configurationOf c)) }
+  judges-one c r m e =
+      record {
+        judged = λ h a. e (record {
+          count = h .count;
+          shape = h .shape;
+          entries = h .entries;
+          fits = a (configurationOf c) (List·Memᴰ·head refl);
+          messages = m .messages;
+          waiting = m .waiting;
+        }) ∙ sym (every-one (isHeld f list n s) (configurationOf c));
+      }
 
   pub judges-both : {cs ds : List Configuration} {r : Bool} → Judges f list n s cs true → Judges f list n s ds r → Judges f list n s (cs ++ ds) r
   judges-both {cs} {ds} {r} x y =

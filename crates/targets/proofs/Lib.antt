@@ -4,3 +4,6 @@ pub mod ListLaws
 pub mod JudgeLaws
 pub mod QueueWalk
 pub mod ChannelWalk
+pub mod QueueSteps
+pub mod ChannelSteps
+pub mod TargetLaws

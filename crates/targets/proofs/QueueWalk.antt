@@ -1,18 +1,16 @@
 -- The walk over the queues of a shape.
 use Prim.Native.Nat.{ℕ, zero, suc, _+_, _-_, _*_, _<_, _≤_}
-use mathlib.Core.Path.{fun-ext, _≡_, refl, sym, ap, ap₂, _∙_}
+use mathlib.Core.Path.{fun-ext, _≡_, sym, ap, subst, _∙_}
 use mathlib.Core.List.{List, [], _∷_, _++_, map, append-nil, map-append}
 use native.Mathlib.Omega.{arith}
 use native.Mathlib.Numerals.{add-one}
-use native.Mathlib.Decide.{ℕ-discrete}
-use lib.ListN.{length, getD, set}
-use lib.Seq.{getD-set-same, getD-set-other}
+use lib.ListN.{length, length-set}
 use Rattle.pws.specs.Machine.{Configuration, putQueue}
 use Rattle.pws.specs.Entries.{FF}
+use Rattle.pws.proofs.Facts.{putQueue-each}
 use Rattle.records.specs.declared.program.Shape.{Shape}
-use Rattle.records.specs.declared.entry.Queue.{Queue}
 use Rattle.records.specs.declared.entry.Cube.{Cube}
-use Rattle.records.specs.Cube.{noQueue, queueOf, configurationOf}
+use Rattle.records.specs.Cube.{queueOf, configurationOf}
 use Rattle.records.proofs.CubeParts.{queue-put}
 use Rattle.lists.specs.Lists.{forEach}
 use Rattle.lists.specs.Shapes.{Outline, rowShapes, queueShapes}
@@ -104,16 +102,11 @@ module _ (s : Shape) where
 
 -- ---- there is room
 
-pub roomy-waiting : (c : Cube) (p v : ℕ) → p < 4 → v < 4 → length (c .queues) ≡ 16 → Roomy c → Roomy (withWaiting c p v)
-roomy-waiting c p v a b n r =
+pub roomy-waiting : (c : Cube) (p v : ℕ) → p < 4 → v < 4 → Roomy c → Roomy (withWaiting c p v)
+roomy-waiting c p v a b r =
     record {
+      queues = length-set (c .queues) (4 * p + v) oneFree ∙ r .queues;
       messages = r .messages;
-      waiting = λ k l. elim (ℕ-discrete k (4 * p + v)) [
-        | yes d ↦ omega (
-          arith,
-          ap (λ (j : ℕ). getD (set (c .queues) (4 * p + v) oneFree) j noQueue .count) d,
-          ap (λ (q : Queue). q .count) (getD-set-same (c .queues) (4 * p + v) oneFree noQueue (omega arith)),
-        )
-        | no d ↦ omega (arith, ap (λ (q : Queue). q .count) (getD-set-other (c .queues) (4 * p + v) k oneFree noQueue d), r .waiting k l)
-      ];
+      waiting = λ q u. subst (λ (qs : Queues). length (qs q u) ≤ 9) (sym (queue-put (c .queues) p v oneFree a b (r .queues)))
+          (putQueue-each (queueOf (c .queues)) p v (FF ∷ []) (λ q u xs. length xs ≤ 9) q u (omega arith) (λ d. r .waiting q u));
     }

@@ -12,7 +12,6 @@ use borrow.Author.Tests.{le-ltb}
 use Rattle.pws.specs.declared.Message.{Message}
 use Rattle.pws.specs.Machine.{Memory, noMessage}
 use Rattle.records.specs.declared.program.Shape.{Shape}
-use Rattle.records.specs.declared.entry.Queue.{Queue}
 use Rattle.records.specs.ProgramPart.{shapeOf}
 use Rattle.records.specs.Cube.{noQueue, emptyQueue, waitingOf, channelOf, queueOf}
 use Rattle.records.proofs.CubeParts.{queue-of, queue-none}
@@ -120,7 +119,7 @@ pub shape-cube-is : (s : Shape) (states : List ℕ) (messages turned : List Mess
     → ShapeCube s states messages n places (record { states = states; pointers = a ∷ b ∷ c ∷ d ∷ []; queues = replicate 16 emptyQueue; messages = turned; count = n })
 shape-cube-is s states messages turned n places few most l e a b c d ea eb ec ed =
     record {
-      roomy = record { messages = most; waiting = λ k m. omega (arith, ap (λ (q : Queue). q .count) (getD-replicate 16 k emptyQueue noQueue m)) };
+      roomy = record { queues = refl; messages = most; waiting = λ p v. rw (none-queued p v) (omega arith) };
       stands = ap₂ {A = ℕ → ℕ → List ℕ} {B = Memory} (λ q m. record { state = λ (p : ℕ). getD states p 0; queue = q; memory = m })
           (λ i p v. none-queued p v i)
           (ap₂ {A = List Message} {B = ℕ → ℕ} (λ ms z. record { channel = ms; pointer = z }) e (λ i q. pointer-is s messages n places few l a b c d ea eb ec ed q i));

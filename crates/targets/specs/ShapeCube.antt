@@ -9,13 +9,14 @@ use Rattle.records.specs.declared.program.Shape.{Shape}
 use Rattle.records.specs.declared.entry.Queue.{Queue}
 use Rattle.records.specs.declared.entry.Cube.{Cube}
 use Rattle.records.specs.ProgramPart.{shapeOf}
-use Rattle.records.specs.Cube.{noQueue, configurationOf}
+use Rattle.records.specs.Cube.{configurationOf}
 use Rattle.lists.specs.Shapes.{Outline, outlineMemory}
 
 -- the cube has room for its messages and waiting values
 pub record Roomy (c : Cube) : Type 0 where
+  pub queues : length (c .queues) ≡ 16
   pub messages : c .count ≤ 20
-  pub waiting : (k : ℕ) → k < 16 → getD (c .queues) k noQueue .count ≤ 9
+  pub waiting : (p v : ℕ) → length (configurationOf c .queue p v) ≤ 9
 
 -- n messages, which stand newest first, and places counted from 1 at the newest
 abbrev pub outlineOf : List Message → ℕ → List ℕ → Outline

@@ -1,30 +1,32 @@
 -- How the irreducible shapes are walked: the list `shapeCubes`, cut where the walk branches. No statement rests on these definitions.
-use Prim.Native.Nat.{ℕ, zero, suc, _+_, _-_, _*_}
+use Prim.Native.Nat.{ℕ, zero, suc, _-_, _<_, _≤_}
 use mathlib.Core.Path.{_≡_}
 use mathlib.Core.Bool.{Bool, true, false}
 use mathlib.Core.List.{List, [], _∷_, _++_, map, List·Memᴰ}
 use lib.ListN.{getD, take}
 use lib.Dec.{eqb}
 use Rattle.pws.specs.declared.Message.{Message}
+use Rattle.pws.specs.Program.{ShapeInRange}
 use Rattle.pws.specs.Machine.{Configuration, put, putQueue}
 use Rattle.pws.specs.Configurations.{Fits}
 use Rattle.pws.specs.Entries.{FF, ValueOrFF}
 use Rattle.records.specs.declared.program.Shape.{Shape}
-use Rattle.records.specs.declared.entry.Cube.{Cube}
 use Rattle.records.specs.ProgramPart.{shapeOf}
 use Rattle.records.specs.Cube.{channelOf, configurationOf}
 use Rattle.lists.specs.Lists.{forEach, every}
 use Rattle.lists.specs.Cubes.{anyMessage}
 use Rattle.lists.specs.Shapes.{Outline, allowed, outlines, longest, queueShapes}
 use Rattle.lists.specs.Decision.{held}
-use Rattle.targets.specs.Search.{entriesOf, Searchable}
-use Rattle.targets.specs.ShapeCube.{Roomy, emptyShape}
+use Rattle.contents.specs.Again.{cubeAt, entriesOf}
+use Rattle.targets.specs.ShapeCube.{emptyShape}
 
 -- ---- what a walk over some shapes says
 
--- every cube that fits the shape can be searched for
+-- a list that can be searched: its entries fit the shape
 pub record Searches (f list : List ℕ) (n : ℕ) (s : Shape) : Type 0 where
-  pub search : (c : Cube) → Roomy c → Fits (ValueOrFF (shapeOf s)) (shapeOf s) (configurationOf c) → Searchable f list n s c
+  pub count : n ≤ 524288
+  pub shape : ShapeInRange (shapeOf s)
+  pub entries : (k : ℕ) → k < n → Fits (ValueOrFF (shapeOf s)) (shapeOf s) (configurationOf (cubeAt f list k))
 
 -- r says whether all of cs are held, if they fit the shape
 pub record Judges (f list : List ℕ) (n : ℕ) (s : Shape) (cs : List Configuration) (r : Bool) : Type 0 where

@@ -1,19 +1,25 @@
 // Targets and starts of a list (theory, sections 3 and 4).
 ghost use mathlib.Core.Path.{_≡_};
+ghost use mathlib.Core.List.{map};
 ghost use Prim.Native.Nat.{ℕ, _+_, _-_, _*_, _≤_, _<_, min};
 ghost use lib.ListN.{length, getD, take};
 ghost use mathlib.Core.Bool.{cond, not};
 ghost use lib.Dec.{eqb, ltb};
+ghost use Rattle.pws.specs.Program.{Program};
 ghost use Rattle.pws.specs.Machine.{isEmpty, allBelow, labelled};
 ghost use Rattle.records.specs.ProgramPart.{shapeOf};
 ghost use Rattle.records.specs.Cube.{waitingOf, queueOf, channelOf, configurationOf};
 ghost use Rattle.lists.specs.Lists.{any};
 ghost use Rattle.lists.specs.Values.{fills};
 ghost use Rattle.lists.specs.Cubes.{anyMessage};
-ghost use Rattle.lists.specs.Shapes.{allowed};
-ghost use Rattle.lists.specs.Decision.{looksStarted};
+ghost use Rattle.lists.specs.Shapes.{allowed, queueShapes};
+ghost use Rattle.lists.specs.Decision.{held, targetHeld, looksStarted};
 ghost use Rattle.targets.specs.Sizes.{Small, startsOf};
-ghost use Rattle.targets.specs.ShapeCube.{ShapeCube, withWaiting};
+ghost use Rattle.targets.specs.ShapeCube.{ShapeCube, outlineOf, emptyShape, withWaiting};
+ghost use Rattle.contents.specs.Again.{entriesOf};
+ghost use Rattle.targets.specs.Search.{Searchable};
+ghost use Rattle.targets.specs.Walk.{Searches, Judges, withQueues, queueCubes, outlineCubes, choiceCubes};
+ghost use Rattle.targets.specs.Depth.{SmallShape, AtQueue, AtMessage, AtPlace};
 use matching::least;
 use pws::Message;
 use records::bytes::both;

@@ -1,0 +1,64 @@
+-- The steps of the walk over queues.
+use Prim.Native.Nat.{ℕ, _+_, _<_, _≤_}
+use mathlib.Core.Path.{_≡_, sym, subst}
+use mathlib.Core.Bool.{Bool, true, false}
+use mathlib.Core.List.{List, map}
+use native.Mathlib.Omega.{arith}
+use Rattle.pws.specs.declared.Message.{Message}
+use Rattle.records.specs.declared.program.Shape.{Shape}
+use Rattle.records.specs.declared.entry.Cube.{Cube}
+use Rattle.records.specs.ProgramPart.{shapeOf}
+use Rattle.records.specs.Cube.{configurationOf}
+use Rattle.lists.specs.Shapes.{queueShapes}
+use Rattle.lists.specs.Decision.{held}
+use Rattle.targets.specs.ShapeCube.{Roomy, outlineOf, emptyShape, ShapeCube, withWaiting}
+use Rattle.contents.specs.Again.{entriesOf}
+use Rattle.targets.specs.Search.{Searchable}
+use Rattle.targets.specs.Walk.{Judges, withQueues, queueCubes}
+use Rattle.targets.specs.Depth.{SmallShape, AtQueue}
+use Rattle.targets.proofs.JudgeLaws.{judges-same, judges-one, judges-both, judges-first, judges-is}
+use Rattle.targets.proofs.QueueWalk.{cubes-branch, cubes-row, cubes-end, cubes-all, roomy-waiting}
+
+module _ {s : Shape} {c : Cube} {p v : ℕ} (w : AtQueue s c p v) where
+  pub next-queue : v < s .variables → AtQueue s c p (v + 1)
+  next-queue l = record { small = w .small; process = w .process; variable = omega arith; roomy = w .roomy }
+
+  pub next-row : p + 1 < s .processes → AtQueue s c (p + 1) 0
+  next-row l = record { small = w .small; process = l; variable = omega arith; roomy = w .roomy }
+
+  module _ (l : v < s .variables) where
+    low : p < 4
+    low = omega (arith, w .process, w .small .processes)
+
+    narrow : v < 4
+    narrow = omega (arith, w .small .variables)
+
+    pub next-waiting : {full : Cube} → full ≡ withWaiting c p v → AtQueue s full p (v + 1)
+    next-waiting g = subst (λ (x : Cube). AtQueue s x p (v + 1)) (sym g) (record { small = w .small; process = w .process; variable = omega arith; roomy = roomy-waiting c p v low narrow (w .roomy) })
+
+    module _ {f list : List ℕ} {k : ℕ} {a : Bool} (empty : Judges f list k s (queueCubes s (configurationOf c) p (v + 1)) a) where
+      pub empty-not : a ≡ false → Judges f list k s (queueCubes s (configurationOf c) p v) false
+      empty-not e = judges-same (cubes-branch s c p v low narrow (w .roomy .queues) l) (judges-first (queueCubes s (configurationOf (withWaiting c p v)) p (v + 1)) (judges-is e empty))
+
+      pub waiting-too : {b : Bool} {full : Cube} → a ≡ true → full ≡ withWaiting c p v → Judges f list k s (queueCubes s (configurationOf full) p (v + 1)) b → Judges f list k s (queueCubes s (configurationOf c) p v) b
+      waiting-too {b} e g x =
+          judges-same (cubes-branch s c p v low narrow (w .roomy .queues) l)
+          (judges-both (judges-is e empty) (subst (λ (y : Cube). Judges f list k s (queueCubes s (configurationOf y) p (v + 1)) b) g x))
+
+  pub row-done : {f list : List ℕ} {k : ℕ} {a : Bool} → s .variables ≤ v → p + 1 < s .processes → Judges f list k s (queueCubes s (configurationOf c) (p + 1) 0) a
+      → Judges f list k s (queueCubes s (configurationOf c) p v) a
+  row-done l m x = judges-same (cubes-row s (configurationOf c) p v l m) x
+
+  pub queues-done : {f list : List ℕ} {k : ℕ} {a : Bool} → s .variables ≤ v → s .processes ≤ p + 1
+      → (Searchable f list k s c → a ≡ held (shapeOf s) (entriesOf f list k) (configurationOf c)) → Judges f list k s (queueCubes s (configurationOf c) p v) a
+  queues-done {a = a} l m x = judges-same (cubes-end s c p v l m) (judges-one c a (w .roomy) x)
+
+-- ---- the shapes of a channel begin at the first queue
+
+pub first-queue : {s : Shape} {states : List ℕ} {ms : List Message} {d : ℕ} {places : List ℕ} {c : Cube} → SmallShape s → ShapeCube s states ms d places c → AtQueue s c 0 0
+first-queue w x = record { small = w; process = w .some; variable = omega arith; roomy = x .roomy }
+
+pub channel-judged : {s : Shape} {states : List ℕ} {ms : List Message} {d : ℕ} {places : List ℕ} {c : Cube} {f list : List ℕ} {k : ℕ} {a : Bool} → SmallShape s
+    → ShapeCube s states ms d places c → Judges f list k s (queueCubes s (configurationOf c) 0 0) a
+    → Judges f list k s (map (withQueues (emptyShape s states (outlineOf ms d places))) (queueShapes (s .processes) (s .variables))) a
+channel-judged {s} {states} {ms} {d} {places} {c} w x j = judges-same (cubes-all s states (outlineOf ms d places) (configurationOf c) (w .some) (x .stands)) j
