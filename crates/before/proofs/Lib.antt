@@ -1,3 +1,6 @@
 pub mod MessageLaws
+pub mod QueueLaws
 pub mod ChangeLaws
+pub mod ReadLaws
+pub mod NewestLaws
 pub mod Steps

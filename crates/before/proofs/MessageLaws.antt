@@ -8,13 +8,18 @@ use native.Mathlib.Numerals.{unary-clauses}
 use native.Mathlib.Decide.{ℕ-discrete}
 use lib.ListN.{length, getD, set, length-set}
 use lib.Seq.{getD-set-same, getD-set-other}
-use lib.Dec.{leb}
-use borrow.Author.Tests.{le-leb, lt-leb}
+use lib.Dec.{eqb, leb}
+use borrow.Author.Tests.{le-leb, lt-leb, eq-eqb, ne-eqb}
 use Rattle.pws.specs.declared.Message.{Message}
 use Rattle.pws.specs.Machine.{noMessage, labelled, lastLabelled}
 use Rattle.pws.specs.Insertion.{insert}
-use Rattle.records.specs.Cube.{channelOf}
+use Rattle.lists.specs.Cubes.{withValues, setValue}
+use Rattle.records.specs.declared.program.Shape.{Shape}
+use Rattle.records.specs.declared.entry.Cube.{Cube}
+use Rattle.records.specs.Cube.{channelOf, configurationOf}
 use Rattle.records.proofs.CubeParts.{channel-length, channel-equal}
+use Rattle.before.specs.Kinds.{Sound}
+use Rattle.before.specs.Changes.{LastWrite}
 
 pub last-next : (ms : List Message) (p v i : ℕ) → lastLabelled (channelOf ms (i + 1)) p v ≡ cond (labelled (getD ms i noMessage) p v) (i + 1) (lastLabelled (channelOf ms i) p v)
 last-next ms p v i = simp unary-clauses (ap (λ (k : ℕ). cond (labelled (getD ms i noMessage) p v) (suc k) (lastLabelled (channelOf ms i) p v)) (channel-length ms i))
@@ -60,3 +65,45 @@ shift-end {ms} {ns} {at} {i} μ n w a b c =
     (λ j l. getD-set-other ns at j μ noMessage (λ e. omega arith) ∙ w .kept j (omega arith))
     (getD-set-same ns at μ noMessage (omega (arith, w .room)))
     (λ j k l. getD-set-other ns at (suc j) μ noMessage (λ e. omega arith) ∙ w .moved j k (omega arith)))
+
+-- ---- a value set, and LastWrite in its channel
+
+pub set-value : (ms : List Message) (i v x n : ℕ) → length ms ≡ 20 → i < n → n ≤ 20
+    → channelOf (set ms i (withValues (getD ms i noMessage) (set (getD ms i noMessage .snapshot) v x))) n ≡ setValue (channelOf ms n) (suc i) v x
+set-value ms i v x zero e l k = absurd (omega arith)
+set-value ms i v x (suc n) e l k = elim (ℕ-discrete i n) [
+  | yes d ↦ ap₂ {A = Message} {B = List Message} (λ m ns. m ∷ ns)
+      (ap (λ (j : ℕ). getD after j noMessage) (sym d) ∙ getD-set-same ms i new noMessage (omega arith) ∙ ap (λ (j : ℕ). withValues (getD ms j noMessage) (set (getD ms j noMessage .snapshot) v x)) d)
+      (channel-equal after ms n (λ j b. getD-set-other ms i j new noMessage (λ f. omega arith)))
+      ∙ sym (split true (eq-eqb (suc i) (suc (length (channelOf ms n))) (omega (arith, channel-length ms n))))
+  | no d ↦ ap₂ {A = Message} {B = List Message} (λ m ns. m ∷ ns)
+      (getD-set-other ms i n new noMessage (λ f. d (sym f))) (set-value ms i v x n e (omega arith) (omega arith))
+      ∙ sym (split false (ne-eqb (suc i) (suc (length (channelOf ms n))) (λ f. d (omega (arith, channel-length ms n)))))
+]
+  where
+    new : Message
+    new = withValues (getD ms i noMessage) (set (getD ms i noMessage .snapshot) v x)
+
+    after : List Message
+    after = set ms i new
+
+    split : (b : Bool) → eqb (suc i) (suc (length (channelOf ms n))) ≡ b
+        → setValue (channelOf ms (suc n)) (suc i) v x
+        ≡ cond b (withValues (getD ms n noMessage) (set (getD ms n noMessage .snapshot) v x) ∷ channelOf ms n) (getD ms n noMessage ∷ setValue (channelOf ms n) (suc i) v x)
+    split b f = ap (λ (b : Bool). cond b (withValues (getD ms n noMessage) (set (getD ms n noMessage .snapshot) v x) ∷ channelOf ms n) (getD ms n noMessage ∷ setValue (channelOf ms n) (suc i) v x)) f
+
+last-most : (ms : List Message) (p v : ℕ) → lastLabelled ms p v ≤ length ms
+last-most [] p v = omega arith
+last-most (m ∷ ms) p v = at (last-most ms p v) (labelled m p v)
+  where
+    at : lastLabelled ms p v ≤ length ms → (b : Bool) → cond b (suc (length ms)) (lastLabelled ms p v) ≤ suc (length ms)
+    at w true = omega arith
+    at w false = omega arith
+
+pub write-some : {s : Shape} {c : Cube} → Sound s c → (p v : ℕ) → p < s .processes → LastWrite c p v
+write-some {s} {c} w p v l =
+    record {
+      count = omega (arith, w .count);
+      some = omega (arith, w .pointer p l);
+      most = omega (arith, last-most (channelOf (c .messages) (c .count)) p v, channel-length (c .messages) (c .count), w .pointers p (omega (arith, w .processes)));
+    }

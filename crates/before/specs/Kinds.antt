@@ -1,10 +1,17 @@
 -- Kinds of predecessor cubes as the code holds them, and the cubes that it takes them of.
 use Prim.Native.Nat.{ℕ, _<_, _≤_}
 use mathlib.Core.List.{List}
+use mathlib.Core.Bool.{Bool, _&&_}
 use lib.ListN.{getD}
+use lib.Dec.{eqb}
+use Rattle.pws.specs.declared.Transition.{Transition}
+use Rattle.pws.specs.Program as pws
+use Rattle.pws.specs.Program.{OperationOf}
+use Rattle.pws.specs.Machine.{Configuration, put}
 use Rattle.lists.specs.Predecessors as lists
 use Rattle.records.specs.declared.program.Shape.{Shape}
 use Rattle.records.specs.declared.entry.Cube.{Cube}
+use Rattle.records.specs.ProgramPart.{shapeOf}
 use Rattle.records.specs.Cube.{noQueue}
 use Rattle.before.specs.declared.Kind.{Kind}
 use Rattle.before.specs.declared.Kind.the-variants.{Undone, Waited, Inside, OnTop, Pointed}
@@ -25,3 +32,20 @@ pub record Sound (s : Shape) (c : Cube) : Type 0 where
   pub queues : (i : ℕ) → i < 16 → getD (c .queues) i noQueue .count ≤ 8
   pub pointer : (p : ℕ) → p < s .processes → 1 ≤ getD (c .pointers) p 0
   pub pointers : (p : ℕ) → p < 4 → getD (c .pointers) p 0 ≤ c .count
+
+-- ---- a transition, by itself and not by its number
+
+pub record Named (s : Shape) (t : Transition) : Type 0 where
+  pub process : t .process < s .processes
+  pub operation : OperationOf (shapeOf s) (t .operation)
+
+abbrev pub hasTake : pws.Shape → Configuration → Transition → lists.Kind → Bool
+hasTake S e t k = eqb (e .state (t .process)) (t .to) && lists.hasOperation S e (t .process) (t .operation) k
+
+abbrev pub takeBefore : Configuration → Transition → lists.Kind → Configuration
+takeBefore e t k =
+    record {
+      state = put (e .state) (t .process) (t .from);
+      queue = lists.queueBefore e (t .process) (t .operation) k;
+      memory = lists.memoryBefore e (t .process) (t .operation) k;
+    }

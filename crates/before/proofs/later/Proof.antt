@@ -5,9 +5,9 @@ use Rattle.before.proofs.later.Tie as tie
 
 pub later-spec : {M : Type 1} → statement M
 later-spec = tie.close (tie.spec
-    -- both-requires 0:0
+    -- carries-requires 0:0
     (λ c κs. search needs)
     -- returns 46:9
-    (λ c. rw (sym (c .before .both .ensures) ∙ c .if1 .taken) refl)
+    (λ c. rw (sym (c .before .carries .ensures) ∙ c .if1 .taken) refl)
     -- returns-2 42:1
-    (λ c. rw (sym (c .before .both .ensures) ∙ c .if1 .left) refl))
+    (λ c. rw (sym (c .before .carries .ensures) ∙ c .if1 .left) refl))
