@@ -17,8 +17,9 @@ use Rattle.replay.specs.declared.step.Move.{Move}
 use Rattle.replay.specs.declared.step.Run.{Run}
 use Rattle.replay.specs.declared.run.RunAnswer.{RunAnswer}
 use Rattle.replay.specs.declared.run.RunAnswer.the-variants.{Reachable, Stopped, Missed}
+use Rattle.replay.specs.Answers.{answerThen}
 use Rattle.replay.specs.Layout.{moveOf, answerIn, runAfter, rowsAfter, areaAfter}
-use Rattle.replay.specs.Loop.{inTargetIn, nextTarget, nextStep, lastFrom, lastIn, stoppedBy, answerThen, runFrom}
+use Rattle.replay.specs.Loop.{inTargetIn, nextTarget, nextStep, lastFrom, lastIn, stoppedBy, runFrom}
 use Rattle.replay.proofs.AreaLaws.{area-length}
 
 left-suc : (n i : ℕ) → i < n → n - i ≡ suc (n - (i + 1))

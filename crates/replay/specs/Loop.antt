@@ -17,6 +17,7 @@ use Rattle.replay.specs.declared.step.Move.{Move}
 use Rattle.replay.specs.declared.step.Run.{Run}
 use Rattle.replay.specs.declared.run.RunAnswer.{RunAnswer}
 use Rattle.replay.specs.declared.run.RunAnswer.the-variants.{Reachable, Stopped, Missed}
+use Rattle.replay.specs.Answers.{answerThen}
 use Rattle.replay.specs.Layout.{putSnapshot, moveOf, answerIn, runAfter, rowsAfter, areaAfter}
 
 -- ---- the last test
@@ -50,10 +51,6 @@ lastIn f targets s states steps = lastFrom f s states steps (targets .at) 0 (tar
 abbrev pub stoppedBy : ℕ → Answer → RunAnswer
 stoppedBy k Permitted = Stopped k Nothing
 stoppedBy k (Refused cause) = Stopped k cause
-
-abbrev pub answerThen : Answer → ℕ → (Unit {0} → RunAnswer) → RunAnswer
-answerThen Permitted k x = x tt
-answerThen (Refused cause) k x = Stopped k cause
 
 abbrev pub firstRun : List ℕ → Run
 firstRun states = record { states = states; messages = 1; heads = replicate 16 0; tails = replicate 16 0 }

@@ -1,0 +1,231 @@
+-- The step's answer from the bytes and arrays is the answer of the configuration that they represent.
+use Prim.Native.Nat.{ℕ, zero, suc, _+_, _*_, _-_, _<_, _≤_, max}
+use mathlib.Core.Path.{_≡_, refl, sym, ap, ap₂, subst, _∙_}
+use mathlib.Core.Logic.{_≢_}
+use mathlib.Core.Bool.{Bool, true, false, cond, _&&_, _||_, not}
+use mathlib.Core.Option.{Option, none, some}
+use mathlib.Core.List.{List, [], _∷_, _++_}
+use native.Mathlib.Omega.{arith}
+use native.Mathlib.Decide.{decLe, decLt, ℕ-discrete}
+use lib.ListN.{length, getD, set}
+use lib.Dec.{eqb, leb, ltb}
+use borrow.Author.Tests.{le-leb, lt-leb, lt-ltb, le-ltb, ltb-true}
+use Rattle.pws.specs.declared.Operation.{Operation}
+use Rattle.pws.specs.declared.Operation.the-variants.{Nop, Read, Write, Mfence, Sfence, Arw}
+use Rattle.pws.specs.declared.Transition.{Transition}
+use Rattle.pws.specs.Program as pws
+use Rattle.pws.specs.Machine.{Configuration, message, newest, lastWrite, isEmpty, newestWaiting, newestOr, allBelow, noneWaiting, atNewest, sees}
+use Rattle.pws.proofs.Facts.{IsLast, last-is}
+use Rattle.records.specs.declared.program.Shape.{Shape}
+use Rattle.records.specs.ProgramPart.{tableFrom, shapeOf}
+use Rattle.replay.specs.declared.step.Answer.{Answer}
+use Rattle.replay.specs.declared.step.Run.{Run}
+use Rattle.replay.specs.Causes.{firstCause, queueFits, pointerFits, valueFits, takeAnswer}
+use Rattle.replay.specs.Layout.{
+  queueNumber,
+  snapshotAt,
+  waitingAt,
+  pointerOf,
+  lastWriteOf,
+  emptyIn,
+  idleIn,
+  noneWaitingIn,
+  atNewestIn,
+  seesIn,
+  queueFitsIn,
+  pointerFitsIn,
+  newestHasIn,
+  valueFitsIn,
+  takeAnswerIn,
+  maySerialiseIn,
+  mayUpdateIn,
+}
+use Rattle.replay.specs.Represents.{waitingIn, Represents}
+
+-- ---- what else holds of the bytes and arrays after k steps
+
+pub record Kept (S : pws.Shape) (k : ℕ) (run : Run) (rows : List (List ℕ)) (a : List ℕ) (c : Configuration) : Type 0 where
+  pub represents : Represents S run rows a c
+  pub area : length a ≡ 16384
+  pub states : length (run .states) ≡ 4
+  pub heads : length (run .heads) ≡ 16
+  pub tails : length (run .tails) ≡ 16
+  pub rowCount : length rows ≡ 4
+  pub rowLength : (p : ℕ) → p < 4 → length (getD rows p []) ≡ 5
+  pub order : (q : ℕ) → getD (run .heads) q 0 ≤ getD (run .tails) q 0
+  pub most : (q : ℕ) → getD (run .tails) q 0 ≤ k
+  pub some : 1 ≤ run .messages
+  pub channel : run .messages ≤ k + 1
+  pub low : (p : ℕ) → p < S .processes → 1 ≤ c .memory .pointer p
+  pub high : (p : ℕ) → p < S .processes → c .memory .pointer p ≤ length (c .memory .channel)
+
+-- ---- tables
+
+pub table-empty : (g : ℕ → ℕ) (h t : ℕ) → leb t h ≡ isEmpty (tableFrom g h (t - h))
+table-empty g h t = elim (decLe t h) [
+  | yes l ↦ let e : t - h ≡ 0 = omega arith in le-leb t h l ∙ ap (λ (n : ℕ). isEmpty (tableFrom g h n)) (sym e)
+  | no l ↦ let e : t - h ≡ suc (t - suc h) = omega arith in lt-leb t h (omega arith) ∙ ap (λ (n : ℕ). isEmpty (tableFrom g h n)) (sym e)
+]
+
+pub table-newest : (g : ℕ → ℕ) (h n : ℕ) → newestWaiting (tableFrom g h (suc n)) ≡ some (g (h + n))
+table-newest g h zero = ap (λ (i : ℕ). some (g i)) (omega arith)
+table-newest g h (suc n) = table-newest g (suc h) n ∙ ap (λ (i : ℕ). some (g i)) (omega arith)
+
+-- ---- at most four
+
+and-true : (a : Bool) → (a && true) ≡ a
+and-true true = refl
+and-true false = refl
+
+and-assoc : (a b c : Bool) → ((a && b) && c) ≡ (a && (b && c))
+and-assoc true b c = refl
+and-assoc false b c = refl
+
+abbrev each : ℕ → (ℕ → Bool) → Bool
+each n g = (leb n 0 || g 0) && ((leb n 1 || g 1) && ((leb n 2 || g 2) && (leb n 3 || g 3)))
+
+pub all-four : (n : ℕ) → n ≤ 4 → (g f : ℕ → Bool) → ((v : ℕ) → v < n → g v ≡ f v) → each n g ≡ allBelow n f
+all-four zero l g f h = refl
+all-four (suc zero) l g f h = rw (h 0 (omega arith)) (and-true (f 0))
+all-four (suc (suc zero)) l g f h = rw (h 0 (omega arith), h 1 (omega arith)) (ap (λ (b : Bool). f 0 && b) (and-true (f 1)))
+all-four (suc (suc (suc zero))) l g f h =
+    rw (h 0 (omega arith), h 1 (omega arith), h 2 (omega arith)) (ap (λ (b : Bool). f 0 && (f 1 && b)) (and-true (f 2)) ∙ sym (and-assoc (f 0) (f 1) (f 2)))
+all-four (suc (suc (suc (suc zero)))) l g f h =
+    rw (h 0 (omega arith), h 1 (omega arith), h 2 (omega arith), h 3 (omega arith))
+    (sym (and-assoc (f 0) (f 1) (f 2 && f 3)) ∙ sym (and-assoc (f 0 && f 1) (f 2) (f 3)))
+all-four (suc (suc (suc (suc (suc n))))) l g f h = absurd (omega arith)
+
+-- ---- numbers
+
+pub queue-is : (p v : ℕ) → p < 4 → v < 4 → queueNumber p v ≡ 4 * p + v
+unfolding queueNumber
+queue-is p v a b = rw (lt-leb 4 p a, lt-leb 4 v b)
+
+pub pointer-is : (rows : List (List ℕ)) (p : ℕ) → p < 4 → pointerOf rows p ≡ getD (getD rows p []) 0 0
+unfolding pointerOf
+pointer-is rows p a = rw (lt-leb 4 p a)
+
+pub last-write-is : (rows : List (List ℕ)) (p v : ℕ) → p < 4 → v < 4 → lastWriteOf rows p v ≡ getD (getD rows p []) (v + 1) 0
+unfolding lastWriteOf
+last-write-is rows p v a b = rw (lt-leb 4 p a, lt-leb 4 v b)
+
+-- ---- the tests
+
+module _ (s : Shape) (pl : s .processes ≤ 4) (vl : s .variables ≤ 4) (k : ℕ) (run : Run) (rows : List (List ℕ)) (a : List ℕ) (c : Configuration)
+    (K : Kept (shapeOf s) k run rows a c) where
+  R : Represents (shapeOf s) run rows a c
+  R = K .represents
+
+  pub empty-is : (p v : ℕ) → p < s .processes → v < s .variables → emptyIn run p v ≡ isEmpty (c .queue p v)
+  unfolding emptyIn
+  empty-is p v pe ve =
+      rw (queue-is p v (omega arith) (omega arith))
+      (table-empty (waitingAt a (4 * p + v)) (getD (run .heads) (4 * p + v) 0) (getD (run .tails) (4 * p + v) 0) ∙ ap isEmpty (R .queues p v pe ve))
+
+  pub none-waiting-is : (p : ℕ) → p < s .processes → noneWaitingIn run s p ≡ noneWaiting (shapeOf s) c p
+  unfolding noneWaitingIn idleIn
+  none-waiting-is p pe = all-four (s .variables) vl (emptyIn run p) (λ v. isEmpty (c .queue p v)) (λ v ve. empty-is p v pe ve)
+
+  pub at-newest-is : (p : ℕ) → p < s .processes → atNewestIn run rows p ≡ atNewest (c .memory) p
+  unfolding atNewestIn
+  at-newest-is p pe = ap₂ eqb (pointer-is rows p (omega arith) ∙ R .pointers p pe) (R .messages)
+
+  -- LastWrite names a message
+  pub last-in : (p v : ℕ) → p < s .processes → (1 ≤ lastWrite (c .memory) p v) × (lastWrite (c .memory) p v ≤ length (c .memory .channel))
+  last-in p v pe =
+      let r = last-is (c .memory .channel) (c .memory .pointer p) p v (K .high p pe) in
+      (omega (arith, r .low, K .low p pe), r .high)
+
+  at-last : (p v : ℕ) → p < s .processes → v < s .variables
+      → getD (snapshotAt a (lastWriteOf rows p v)) v 0 ≡ getD (message (c .memory .channel) (lastWrite (c .memory) p v) .snapshot) v 0
+  at-last p v pe ve =
+      let l = last-in p v pe in
+      ap (λ (i : ℕ). getD (snapshotAt a i) v 0) (last-write-is rows p v (omega arith) (omega arith) ∙ R .lastWrites p v pe ve)
+      ∙ ap (λ (x : List ℕ). getD x v 0) (R .snapshots (lastWrite (c .memory) p v) (l .0) (l .1))
+
+  abbrev old : ℕ → ℕ → ℕ
+  old p v = getD (message (c .memory .channel) (lastWrite (c .memory) p v) .snapshot) v 0
+
+  sees-when : (p v q : ℕ) (e : queueNumber p v ≡ q) → getD (snapshotAt a (lastWriteOf rows p v)) v 0 ≡ old p v → waitingIn run a q ≡ c .queue p v
+      → seesIn run rows a p v ≡ sees c p v
+  unfolding seesIn emptyIn
+  sees-when p v q e l w =
+      let h = getD (run .heads) q 0 in
+      let t = getD (run .tails) q 0 in
+      rw e (elim (decLe t h) [
+        | yes b ↦
+            let z : t - h ≡ 0 = omega arith in
+            rw (le-leb t h b) (l ∙ ap (λ (x : List ℕ). newestOr (newestWaiting x) (old p v)) (ap (tableFrom (waitingAt a q) h) (sym z) ∙ w))
+        | no b ↦
+            let z : t - h ≡ suc (t - suc h) = omega arith in
+            let y : h + (t - suc h) ≡ t - 1 = omega arith in
+            rw (lt-leb t h (omega arith))
+            (ap (waitingAt a q) (sym y)
+            ∙ ap (λ (x : Option ℕ). newestOr x (old p v)) (sym (table-newest (waitingAt a q) h (t - suc h)))
+            ∙ ap (λ (x : List ℕ). newestOr (newestWaiting x) (old p v)) (ap (tableFrom (waitingAt a q) h) (sym z) ∙ w))
+      ])
+
+  pub sees-is : (p v : ℕ) → p < s .processes → v < s .variables → seesIn run rows a p v ≡ sees c p v
+  sees-is p v pe ve = sees-when p v (4 * p + v) (queue-is p v (omega arith) (omega arith)) (at-last p v pe ve) (R .queues p v pe ve)
+
+  pub newest-is : snapshotAt a (run .messages) ≡ newest (c .memory .channel) .snapshot
+  newest-is = ap (snapshotAt a) (R .messages) ∙ R .snapshots (length (c .memory .channel)) (omega (arith, K .some, R .messages)) (omega arith)
+
+  -- ---- the operations
+
+  queue-fits-is : (p : ℕ) (o : Operation) → p < s .processes → pws.OperationOf (shapeOf s) o → queueFitsIn run s p o ≡ queueFits (shapeOf s) c p o
+  queue-fits-is p Nop pe oe = refl
+  queue-fits-is p (Read v x) pe oe = refl
+  queue-fits-is p (Write v x) pe oe = refl
+  queue-fits-is p Mfence pe oe = none-waiting-is p pe
+  queue-fits-is p Sfence pe oe = none-waiting-is p pe
+  queue-fits-is p (Arw v x y) pe oe = empty-is p v pe (oe .0)
+
+  pointer-fits-is : (p : ℕ) (o : Operation) → p < s .processes → pointerFitsIn run rows p o ≡ pointerFits c p o
+  pointer-fits-is p Nop pe = refl
+  pointer-fits-is p (Read v x) pe = refl
+  pointer-fits-is p (Write v x) pe = refl
+  pointer-fits-is p Mfence pe = at-newest-is p pe
+  pointer-fits-is p Sfence pe = refl
+  pointer-fits-is p (Arw v x y) pe = at-newest-is p pe
+
+  value-fits-is : (p : ℕ) (o : Operation) → p < s .processes → pws.OperationOf (shapeOf s) o → valueFitsIn run rows a p o ≡ valueFits c p o
+  unfolding newestHasIn
+  value-fits-is p Nop pe oe = refl
+  value-fits-is p (Read v x) pe oe = ap (λ (y : ℕ). eqb y x) (sees-is p v pe (oe .0))
+  value-fits-is p (Write v x) pe oe = refl
+  value-fits-is p Mfence pe oe = refl
+  value-fits-is p Sfence pe oe = refl
+  value-fits-is p (Arw v x y) pe oe = ap (λ (w : List ℕ). eqb (getD w v 0) x) newest-is
+
+  pub take-is : (t : Transition) → t .process < s .processes → pws.OperationOf (shapeOf s) (t .operation) → takeAnswerIn run rows a s t ≡ takeAnswer (shapeOf s) c t
+  unfolding takeAnswerIn
+  take-is t pe oe =
+      rw (
+        R .states (t .process) pe,
+        queue-fits-is (t .process) (t .operation) pe oe,
+        pointer-fits-is (t .process) (t .operation) pe,
+        value-fits-is (t .process) (t .operation) pe oe,
+      )
+
+  -- ---- the memory's own steps
+
+  exists-then : (x : Bool) (y z : Bool) → (x ≡ true → y ≡ z) → (x && y) ≡ (x && z)
+  exists-then true y z h = h refl
+  exists-then false y z h = refl
+
+  pub serialise-is : (p v : ℕ) → maySerialiseIn run s p v ≡ ((ltb p (s .processes) && ltb v (s .variables)) && not (isEmpty (c .queue p v)))
+  unfolding maySerialiseIn
+  serialise-is p v = exists-then (ltb p (s .processes) && ltb v (s .variables)) (not (emptyIn run p v)) (not (isEmpty (c .queue p v))) (λ e.
+      let b = both-true (ltb p (s .processes)) (ltb v (s .variables)) e in
+      ap not (empty-is p v (ltb-true p (s .processes) (b .0)) (ltb-true v (s .variables) (b .1))))
+    where
+      both-true : (x y : Bool) → (x && y) ≡ true → (x ≡ true) × (y ≡ true)
+      both-true true y e = (refl, e)
+      both-true false y e = absurd (subst (λ (b : Bool). cond b ⊥ (Unit {0})) e tt)
+
+  pub update-is : (p : ℕ) → mayUpdateIn run rows s p ≡ (ltb p (s .processes) && ltb (c .memory .pointer p) (length (c .memory .channel)))
+  unfolding mayUpdateIn
+  update-is p = exists-then (ltb p (s .processes)) (ltb (pointerOf rows p) (run .messages)) (ltb (c .memory .pointer p) (length (c .memory .channel))) (λ e.
+      let pe = ltb-true p (s .processes) e in
+      ap₂ ltb (pointer-is rows p (omega arith) ∙ R .pointers p pe) (R .messages))

@@ -1,0 +1,196 @@
+-- One step: if the bytes and arrays represent a configuration, then the answer is the machine's, and a permitted step leaves them
+-- representing the configuration after it.
+use Prim.Native.Nat.{ℕ, zero, suc, _+_, _*_, _-_, _<_, _≤_}
+use mathlib.Core.Path.{_≡_, refl, sym, ap, ap₂, subst, _∙_}
+use mathlib.Core.Bool.{Bool, true, false, cond, _&&_, not}
+use mathlib.Core.List.{List, [], _∷_, _++_}
+use native.Mathlib.Omega.{arith}
+use native.Mathlib.Decide.{decLe, decLt, ℕ-discrete}
+use lib.ListN.{length, length-set, getD, set}
+use lib.Seq.{getD-set-same, getD-set-other}
+use lib.Dec.{T, eqb, leb, ltb}
+use borrow.Author.Tests.{le-leb, lt-leb, lt-ltb, le-ltb, leb-false, ltb-true}
+use mir.Facts.{and-yes}
+use Rattle.pws.specs.declared.Operation.{Operation}
+use Rattle.pws.specs.declared.Operation.the-variants.{Nop, Read, Write, Mfence, Sfence, Arw}
+use Rattle.pws.specs.declared.Transition.{Transition}
+use Rattle.pws.specs.declared.Step as steps
+use Rattle.pws.specs.declared.Step.the-variants as step
+use Rattle.pws.specs.Program as pws
+use Rattle.pws.specs.Machine.{Configuration, put, isEmpty, queueAfter, memoryAfter, afterTake, afterSerialise, afterUpdate, mayTake, may, after}
+use Rattle.pws.proofs.Facts.{put-same, put-other}
+use Rattle.records.specs.declared.program.Shape.{Shape}
+use Rattle.records.specs.declared.program.Row.{Row}
+use Rattle.records.specs.declared.program.Program.{Program}
+use Rattle.records.specs.Records.{transitionAt}
+use Rattle.records.specs.ProgramPart.{tableFrom, shapeOf, programOf}
+use Rattle.replay.specs.declared.step.Answer.{Answer}
+use Rattle.replay.specs.declared.step.Answer.the-variants.{Permitted, Refused}
+use Rattle.replay.specs.declared.step.Cause.the-variants.{State}
+use Rattle.replay.specs.declared.step.Move.{Move}
+use Rattle.replay.specs.declared.step.Move.the-variants.{Absent, Take, Serialise, Update}
+use Rattle.replay.specs.declared.step.Run.{Run}
+use Rattle.replay.specs.Causes.{firstCause, takeAnswer, stepAnswer}
+use Rattle.replay.specs.Layout.{
+  nextNumber,
+  queueNumber,
+  snapshotAt,
+  waitingAt,
+  putWaiting,
+  appended,
+  moveOf,
+  answerIn,
+  runAfter,
+  rowsTaken,
+  rowsAfter,
+  messagesTaken,
+  tailsTaken,
+  areaTaken,
+  areaAfter,
+}
+use Rattle.replay.specs.Represents.{waitingIn, Represents}
+use Rattle.replay.proofs.AreaLaws.{area-length}
+use Rattle.replay.proofs.ByteLaws.{next-is, waiting-past, snapshot-below}
+use Rattle.replay.proofs.Answering.{Kept, table-empty, queue-is, take-is, serialise-is, update-is}
+use Rattle.replay.proofs.Holding.{
+  MemoryHeld,
+  memory-area,
+  memory-append,
+  memory-update,
+  memory-arw,
+  QueuesHeld,
+  queues-area,
+  queues-push,
+  queues-pop,
+}
+
+-- ---- the parts of what is kept
+
+module _ {S : pws.Shape} {k : ℕ} {run : Run} {rows : List (List ℕ)} {a : List ℕ} {c : Configuration} (K : Kept S k run rows a c) where
+  memory-of : MemoryHeld S (run .messages) rows a (c .memory)
+  memory-of =
+      record {
+        count = K .represents .messages;
+        some = K .some;
+        snapshots = K .represents .snapshots;
+        pointers = K .represents .pointers;
+        lastWrites = K .represents .lastWrites;
+        rowCount = K .rowCount;
+        rowLength = K .rowLength;
+        low = K .low;
+        high = K .high;
+      }
+
+  queues-of : QueuesHeld S (run .heads) (run .tails) a k (c .queue)
+  queues-of =
+      record { values = K .represents .queues; headCount = K .heads; tailCount = K .tails; order = K .order; most = K .most }
+
+pub kept-of : {S : pws.Shape} {k : ℕ} {run : Run} {rows : List (List ℕ)} {a : List ℕ} {c : Configuration}
+    → ((p : ℕ) → p < S .processes → getD (run .states) p 0 ≡ c .state p) → length (run .states) ≡ 4 → MemoryHeld S (run .messages) rows a (c .memory)
+    → QueuesHeld S (run .heads) (run .tails) a k (c .queue) → length a ≡ 16384 → run .messages ≤ k + 1 → Kept S k run rows a c
+kept-of states four M H room few =
+    record {
+      represents =
+          record { states = states; queues = H .values; messages = M .count; snapshots = M .snapshots; pointers = M .pointers; lastWrites = M .lastWrites };
+      area = room;
+      states = four;
+      heads = H .headCount;
+      tails = H .tailCount;
+      rowCount = M .rowCount;
+      rowLength = M .rowLength;
+      order = H .order;
+      most = H .most;
+      some = M .some;
+      channel = few;
+      low = M .low;
+      high = M .high;
+    }
+
+-- ---- a transition
+
+waiting-appended : (a : List ℕ) (n v x : ℕ) → n ≤ 1024 → length a ≡ 16384 → (q j : ℕ) → waitingAt (appended a n v x) q j ≡ waitingAt a q j
+unfolding appended
+waiting-appended a n v x l e q j =
+    rw (next-is n (omega arith)) (waiting-past a (suc n) (set (snapshotAt a n) v x) q j (omega arith) (omega arith))
+
+module _ (s : Shape) (pl : s .processes ≤ 4) (vl : s .variables ≤ 4) (xl : s .values ≤ 4) (k : ℕ) (run : Run) (rows : List (List ℕ)) (a : List ℕ)
+    (c : Configuration) (K : Kept (shapeOf s) k run rows a c) (few : k < 1024) where
+  most-messages : run .messages ≤ 1024
+  most-messages = omega (arith, K .channel)
+
+  memory-taken : (p : ℕ) (o : Operation) → p < s .processes → pws.OperationOf (shapeOf s) o
+      → MemoryHeld (shapeOf s) (messagesTaken (run .messages) o) (rowsTaken rows (run .messages) p o) (areaTaken a run p o) (memoryAfter (c .memory) p o)
+  memory-taken p Nop pe oe = memory-of K
+  memory-taken p (Read v x) pe oe = memory-of K
+  memory-taken p (Write v x) pe oe =
+      let q : queueNumber p v < 16 = omega (arith, queue-is p v (omega arith) (omega (arith, oe .0))) in
+      memory-area (memory-of K) (λ i l.
+      snapshot-below a (queueNumber p v) (getD (run .tails) (queueNumber p v) 0) x q (omega (arith, K .most (queueNumber p v))) (K .area) i (omega (arith, most-messages)))
+  memory-taken p Mfence pe oe = memory-of K
+  memory-taken p Sfence pe oe = memory-of K
+  memory-taken p (Arw v x y) pe oe =
+      memory-arw (shapeOf s) pl vl (run .messages) rows a (c .memory) (memory-of K) (K .area) most-messages p v y pe (oe .0)
+
+  queues-taken : (p : ℕ) (o : Operation) → p < s .processes → pws.OperationOf (shapeOf s) o
+      → QueuesHeld (shapeOf s) (run .heads) (tailsTaken (run .tails) p o) (areaTaken a run p o) (suc k) (queueAfter c p o)
+  queues-taken p Nop pe oe = queues-area (queues-of K) (λ q j. refl)
+  queues-taken p (Read v x) pe oe = queues-area (queues-of K) (λ q j. refl)
+  queues-taken p (Write v x) pe oe =
+      queues-push (shapeOf s) pl vl (run .heads) (run .tails) a k (c .queue) (queues-of K) few p v pe (oe .0) x (omega (arith, oe .1, xl)) (K .area)
+  queues-taken p Mfence pe oe = queues-area (queues-of K) (λ q j. refl)
+  queues-taken p Sfence pe oe = queues-area (queues-of K) (λ q j. refl)
+  queues-taken p (Arw v x y) pe oe = queues-area (queues-of K) (waiting-appended a (run .messages) v y most-messages (K .area))
+
+  messages-taken : (o : Operation) → messagesTaken (run .messages) o ≤ suc k + 1
+  messages-taken Nop = omega (arith, K .channel)
+  messages-taken (Read v x) = omega (arith, K .channel)
+  messages-taken (Write v x) = omega (arith, K .channel)
+  messages-taken Mfence = omega (arith, K .channel)
+  messages-taken Sfence = omega (arith, K .channel)
+  messages-taken (Arw v x y) = omega (arith, K .channel, next-is (run .messages) (omega (arith, most-messages)))
+
+  states-taken : (p x : ℕ) → p < s .processes → (q : ℕ) → q < s .processes → getD (set (run .states) p x) q 0 ≡ put (c .state) p x q
+  states-taken p x pe q qe = elim (ℕ-discrete q p) [
+    | yes e ↦ rw e (getD-set-same (run .states) p x 0 (omega (arith, K .states)) ∙ sym (put-same (c .state) p x))
+    | no e ↦ getD-set-other (run .states) p q x 0 e ∙ K .represents .states q qe ∙ sym (put-other (c .state) p x q e)
+  ]
+
+  kept-taken : (t : Transition) → t .process < s .processes → pws.OperationOf (shapeOf s) (t .operation)
+      → Kept (shapeOf s) (suc k) (runAfter run (Take t)) (rowsAfter rows (run .messages) (Take t)) (areaAfter a run (Take t)) (afterTake c t)
+  kept-taken t pe oe =
+      kept-of (states-taken (t .process) (t .to) pe) (length-set (run .states) (t .process) (t .to) ∙ K .states) (memory-taken (t .process) (t .operation) pe oe)
+      (queues-taken (t .process) (t .operation) pe oe) (area-length a run (Take t) ∙ K .area) (messages-taken (t .operation))
+
+  -- ---- the memory's own steps
+
+  oldest-is : (p v : ℕ) → p < s .processes → v < s .variables → getD (run .heads) (4 * p + v) 0 < getD (run .tails) (4 * p + v) 0
+      → waitingAt a (queueNumber p v) (getD (run .heads) (queueNumber p v) 0) ≡ getD (c .queue p v) 0 0
+  oldest-is p v pe ve l =
+      let h = getD (run .heads) (4 * p + v) 0 in
+      let t = getD (run .tails) (4 * p + v) 0 in
+      let e : t - h ≡ suc (t - suc h) = omega arith in
+      rw (queue-is p v (omega arith) (omega arith))
+      (ap (λ (n : ℕ). getD (tableFrom (waitingAt a (4 * p + v)) h n) 0 0) (sym e) ∙ ap (λ (xs : List ℕ). getD xs 0 0) (K .represents .queues p v pe ve))
+
+  kept-serialised : (p v : ℕ) → p < s .processes → v < s .variables → getD (run .heads) (4 * p + v) 0 < getD (run .tails) (4 * p + v) 0
+      → Kept (shapeOf s) (suc k) (runAfter run (Serialise p v)) (rowsAfter rows (run .messages) (Serialise p v)) (areaAfter a run (Serialise p v)) (afterSerialise c p v)
+  kept-serialised p v pe ve l =
+      rw (oldest-is p v pe ve l)
+      (kept-of (K .represents .states) (K .states)
+      (memory-append (shapeOf s) pl vl (run .messages) rows a (c .memory) (memory-of K) (K .area) most-messages p v x pe ve)
+      (queues-pop (shapeOf s) pl vl (run .heads) (run .tails) a k (c .queue) (queues-of K) few p v pe ve (appended a (run .messages) v x) (waiting-appended a (run .messages) v x most-messages (K .area)) l)
+      (appended-length ∙ K .area)
+      (omega (arith, K .channel, next-is (run .messages) (omega (arith, most-messages)))))
+    where
+      x : ℕ
+      x = getD (c .queue p v) 0 0
+
+      appended-length : length (appended a (run .messages) v x) ≡ length a
+      appended-length = ap (λ (y : ℕ). length (appended a (run .messages) v y)) (sym (oldest-is p v pe ve l)) ∙ area-length a run (Serialise p v)
+
+  kept-updated : (p : ℕ) → p < s .processes → c .memory .pointer p < length (c .memory .channel)
+      → Kept (shapeOf s) (suc k) (runAfter run (Update p)) (rowsAfter rows (run .messages) (Update p)) (areaAfter a run (Update p)) (afterUpdate c p)
+  kept-updated p pe l =
+      kept-of (K .represents .states) (K .states)
+      (memory-update (shapeOf s) pl vl (run .messages) rows a (c .memory) (memory-of K) (K .area) most-messages p pe l)
+      (queues-area (queues-of K) (λ q j. refl)) (K .area) (omega (arith, K .channel))

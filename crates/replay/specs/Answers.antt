@@ -1,0 +1,38 @@
+-- The verdict of a run as the code gives it: with the cause, where a step is refused.
+use Prim.Native.Nat.{ℕ, suc}
+use mathlib.Core.Option.{Option, none, some}
+use mathlib.Core.List.{List, [], _∷_}
+use lib.ListN.{length}
+use Rattle.pws.specs.declared.Step.{Step}
+use Rattle.pws.specs.Program.{Program}
+use Rattle.pws.specs.Machine.{Configuration, after}
+use Rattle.pws.specs.Configurations.{startWith}
+use Rattle.replay.specs.declared.step.Answer.{Answer}
+use Rattle.replay.specs.declared.step.Answer.the-variants.{Permitted, Refused}
+use Rattle.replay.specs.declared.run.RunAnswer.{RunAnswer}
+use Rattle.replay.specs.declared.run.RunAnswer.the-variants.{Reachable, Stopped, Missed}
+use Rattle.replay.specs.Replay.{RunVerdict, reachable, stopped, missed, lowestMet}
+use Rattle.replay.specs.Causes.{stepAnswer}
+
+-- what document 01 says of it
+abbrev pub verdictOfRun : RunAnswer → RunVerdict
+verdictOfRun (Reachable n k) = reachable n k
+verdictOfRun (Stopped k cause) = stopped k
+verdictOfRun (Missed n) = missed n
+
+abbrev pub lastAnswer : ℕ → Option ℕ → RunAnswer
+lastAnswer n none = Missed n
+lastAnswer n (some k) = Reachable n k
+
+abbrev pub answerThen : Answer → ℕ → (Unit {0} → RunAnswer) → RunAnswer
+answerThen Permitted k x = x tt
+answerThen (Refused cause) k x = Stopped k cause
+
+-- the steps from number k on, from c; n is the number of all steps
+abbrev pub answerFrom : Program → List (ℕ → ℕ) → ℕ → ℕ → Configuration → List Step → RunAnswer
+answerFrom P ts n k c [] = lastAnswer n (lowestMet (P .shape) 0 ts c)
+answerFrom P ts n k c (s ∷ ss) = answerThen (stepAnswer P c s) k (λ _. answerFrom P ts n (suc k) (after P c s) ss)
+
+-- `answer-verdict` says that this is the verdict of specs/Replay.antt
+abbrev pub runAnswer : Program → List (ℕ → ℕ) → List Step → RunAnswer
+runAnswer P ts ss = answerFrom P ts (length ss) 0 (startWith P 0 0) ss
