@@ -1,0 +1,278 @@
+-- The theorems of the demands: what each says stands in specs/Demands.
+use Prim.Native.Nat.{ℕ, _<_, _≤_}
+use mathlib.Core.Path.{_≡_, refl, sym, ap, ap₂, subst, _∙_}
+use mathlib.Core.Logic.{_↔_}
+use mathlib.Core.Bool.{cond}
+use mathlib.Core.List.{List}
+use native.Mathlib.Omega.{arith}
+use native.Mathlib.Decide.{decLt}
+use lib.ListN.{length}
+use lib.Dec.{eqb}
+use Rattle.pws.specs.declared.Step.{Step}
+use Rattle.pws.specs.Program.{Program, ProgramInRange}
+use Rattle.pws.specs.Machine.{Configuration}
+use Rattle.pws.proofs.Simulation.{simulation}
+use Rattle.lists.specs.Verdict as lists
+use Rattle.lists.specs.Decision as decision
+use Rattle.lists.proofs.Verdict.{verdict-unique, verdict-judged, safe-visited}
+use Rattle.records.specs.declared.program.Refusal.{Refusal}
+use Rattle.records.specs.Reading as reading
+use Rattle.contents.specs.Contents.{ListRead}
+use Rattle.contents.proofs.Contents.{list-read, run-read}
+use Rattle.replay.specs.Replay as runs
+use Rattle.judge.specs.Judge.{Verdict, safe, reachable, refused, ofList, ofRun, FileJudged, Judged, ofFile, judged}
+use Rattle.judge.specs.Demands.{
+  OfList,
+  OfRun,
+  OneAnswer,
+  Refused8,
+  RefusedReading,
+  Refused9,
+  Refused10,
+  Refused11,
+  Refused12,
+  Refused13,
+  NoOther,
+  AcceptedList,
+  AcceptedRun,
+  Safety,
+  Simulated,
+  Simulation,
+}
+use Rattle.judge.proofs.Numbers.{short-file, refused-low, refused-large}
+use Rattle.judge.proofs.Runs.{RunJudged, run-judged, run-only}
+
+-- ---- verdicts that differ
+
+abbrev kind : Verdict → ℕ
+kind (safe n) = 0
+kind (reachable n k) = 1
+kind (refused n k) = 2
+
+abbrev code : Verdict → ℕ
+code (safe n) = 15
+code (reachable n k) = 14
+code (refused n k) = n
+
+abbrev place : Verdict → ℕ
+place (safe n) = n
+place (reachable n k) = k
+place (refused n k) = k
+
+abbrev toList : Verdict → lists.ListVerdict
+toList (safe n) = lists.safe n
+toList (reachable n k) = lists.safe n
+toList (refused n k) = cond (eqb n 9) (lists.unheld k) (cond (eqb n 10) (lists.started k) (lists.entered k))
+
+abbrev toRun : Verdict → runs.RunVerdict
+toRun (safe n) = runs.missed n
+toRun (reachable n k) = runs.reachable n k
+toRun (refused n k) = cond (eqb n 12) (runs.stopped k) (runs.missed k)
+
+list-back : (v : lists.ListVerdict) → toList (ofList v) ≡ v
+list-back (lists.safe n) = refl
+list-back (lists.unheld k) = refl
+list-back (lists.started k) = refl
+list-back (lists.entered k) = refl
+
+run-back : (v : runs.RunVerdict) → toRun (ofRun v) ≡ v
+run-back (runs.reachable n k) = refl
+run-back (runs.stopped k) = refl
+run-back (runs.missed n) = refl
+
+-- 9, 10, 11 and safe are said of lists alone
+abbrev ListCode : ℕ → Type 0
+ListCode n = (9 ≤ n) × (n ≡ 12 → ⊥) × (n ≡ 13 → ⊥) × (n ≡ 14 → ⊥)
+
+list-code : (v : lists.ListVerdict) → ListCode (code (ofList v))
+list-code (lists.safe n) = (omega arith, (λ e. omega arith), (λ e. omega arith), (λ e. omega arith))
+list-code (lists.unheld k) = (omega arith, (λ e. omega arith), (λ e. omega arith), (λ e. omega arith))
+list-code (lists.started k) = (omega arith, (λ e. omega arith), (λ e. omega arith), (λ e. omega arith))
+list-code (lists.entered k) = (omega arith, (λ e. omega arith), (λ e. omega arith), (λ e. omega arith))
+
+-- 12, 13 and reachable of runs alone
+run-code : (v : runs.RunVerdict) → (12 ≤ code (ofRun v)) × (code (ofRun v) ≤ 14)
+run-code (runs.reachable n k) = (omega arith, omega arith)
+run-code (runs.stopped k) = (omega arith, omega arith)
+run-code (runs.missed n) = (omega arith, omega arith)
+
+never-both : (v : lists.ListVerdict) (w : runs.RunVerdict) → ofList v ≡ ofRun w → ⊥
+never-both v w e =
+    let a = list-code v in
+    let b = run-code w in
+    let c : code (ofList v) ≡ code (ofRun w) = ap code e in
+    elim (decLt (code (ofRun w)) 13) [
+      | yes l ↦ a .1 (omega (arith, b .0, c, l))
+      | no l ↦ elim (decLt (code (ofRun w)) 14) [
+        | yes m ↦ a .2 (omega (arith, b .0, c, m, l))
+        | no m ↦ a .3 (omega (arith, b .1, c, m))
+      ]
+    ]
+
+module _ (f : List ℕ) (area : ℕ) where
+  abbrev Reads : reading.FileRead → Type 0
+  Reads r = reading.readFile f area ≡ r
+
+  judged-as : (r : reading.FileRead) → Reads r → judged f area ≡ ofFile r
+  unfolding judged
+  judged-as r q = ap ofFile q
+
+  module _ (P : Program) (ts : List (ℕ → ℕ)) (es : List Configuration) (q : Reads (reading.list P ts es)) where
+    read : ListRead P ts es area
+    read = list-read f area q
+
+    pub list-range : ProgramInRange P
+    list-range = read .part .program
+
+    pub file-list-judged : lists.ListJudged P ts es (decision.verdictOf P ts es)
+    file-list-judged =
+        verdict-judged P list-range es (λ k l. read .entries k l .of) ts (λ k l. read .part .targets k l) (λ k l. read .entries k l .first)
+
+  run-range : (P : Program) (ts : List (ℕ → ℕ)) (ss : List Step) → Reads (reading.run P ts ss) → ProgramInRange P
+  run-range P ts ss q = run-read f area q .part .program
+
+  file-judged : (r : reading.FileRead) → Reads r → FileJudged r (ofFile r) × ((v : Verdict) → FileJudged r v → v ≡ ofFile r)
+  file-judged (reading.refused r) q = (refl, λ v e. e)
+  file-judged (reading.list P ts es) q =
+      let j = file-list-judged P ts es q in
+      ((decision.verdictOf P ts es, j, refl), λ v x. x .2 ∙ ap ofList (verdict-unique P ts es (x .0) (decision.verdictOf P ts es) (x .1) j))
+  file-judged (reading.run P ts ss) q = (refl, λ v e. e)
+
+  -- what is said of a list, and of a run
+
+  pub list-said : (v : lists.ListVerdict) → (judged f area ≡ ofList v) ↔ OfList f area (λ P ts es. lists.ListJudged P ts es v)
+  list-said v = (
+    λ e. go (reading.readFile f area) refl e,
+    λ x.
+        judged-as _ (x .reads)
+        ∙ ap ofList (verdict-unique (x .program) (x .targets) (x .entries) (decision.verdictOf (x .program) (x .targets) (x .entries)) v (file-list-judged (x .program) (x .targets) (x .entries) (x .reads)) (x .holds)),
+  )
+    where
+      go : (r : reading.FileRead) → Reads r → judged f area ≡ ofList v → OfList f area (λ P ts es. lists.ListJudged P ts es v)
+      go (reading.refused r) q e = absurd (omega (arith, refused-low f area r q .1, list-code v .0, ap code (sym (judged-as _ q) ∙ e)))
+      go (reading.list P ts es) q e =
+          let z = sym (list-back (decision.verdictOf P ts es)) ∙ ap toList (sym (judged-as _ q) ∙ e) ∙ list-back v in
+          record { program = P; targets = ts; entries = es; reads = q; holds = subst (lists.ListJudged P ts es) z (file-list-judged P ts es q) }
+      go (reading.run P ts ss) q e = absurd (never-both v (runs.runVerdict P ts ss) (sym e ∙ judged-as _ q))
+
+  pub run-said : (v : runs.RunVerdict) → (judged f area ≡ ofRun v) ↔ OfRun f area (λ P ts ss. RunJudged P ts ss v)
+  run-said v = (
+    λ e. go (reading.readFile f area) refl e,
+    λ x.
+        judged-as _ (x .reads) ∙ ap ofRun (run-only (x .program) (run-range _ _ _ (x .reads)) (x .targets) (x .steps) v (x .holds)),
+  )
+    where
+      go : (r : reading.FileRead) → Reads r → judged f area ≡ ofRun v → OfRun f area (λ P ts ss. RunJudged P ts ss v)
+      go (reading.refused r) q e = absurd (omega (arith, refused-low f area r q .1, run-code v .0, ap code (sym (judged-as _ q) ∙ e)))
+      go (reading.list P ts es) q e = absurd (never-both (decision.verdictOf P ts es) v (sym (judged-as _ q) ∙ e))
+      go (reading.run P ts ss) q e =
+          let z = sym (run-back (runs.runVerdict P ts ss)) ∙ ap toRun (sym (judged-as _ q) ∙ e) ∙ run-back v in
+          record { program = P; targets = ts; steps = ss; reads = q; holds = subst (RunJudged P ts ss) z (run-judged P (run-range P ts ss q) ts ss) }
+
+  -- and of the reading
+
+  pub reading-said : (n k : ℕ) → n ≤ 8 → (judged f area ≡ refused n k) ↔ Reads (reading.refused (record { number = n; place = k }))
+  reading-said n k l = (λ e. go (reading.readFile f area) refl e, λ q. judged-as _ q)
+    where
+      go : (r : reading.FileRead) → Reads r → judged f area ≡ refused n k → Reads (reading.refused (record { number = n; place = k }))
+      go (reading.refused r) q e =
+          let z = sym (judged-as _ q) ∙ e in
+          q ∙ ap₂ (λ (a b : ℕ). reading.refused (record { number = a; place = b })) (ap code z) (ap place z)
+      go (reading.list P ts es) q e = absurd (omega (arith, l, list-code (decision.verdictOf P ts es) .0, ap code (sym (judged-as _ q) ∙ e)))
+      go (reading.run P ts ss) q e = absurd (omega (arith, l, run-code (runs.runVerdict P ts ss) .0, ap code (sym (judged-as _ q) ∙ e)))
+
+-- ---- demand 1
+
+pub one-answer : OneAnswer
+unfolding Judged judged
+one-answer f area = file-judged f area (reading.readFile f area) refl
+
+pub refused8 : Refused8
+refused8 f area k = (
+  λ e. go (reading-said f area 8 k (omega arith) .0 e),
+  λ x.
+      judged-as f area _ (short-file f area (x .0)) ∙ ap (refused 8) (sym (x .1)),
+)
+  where
+    placed : reading.FileRead → ℕ
+    placed (reading.refused r) = r .place
+    placed (reading.list P ts es) = 0
+    placed (reading.run P ts ss) = 0
+
+    go : reading.readFile f area ≡ reading.refused (record { number = 8; place = k }) → (area < 32768) × (k ≡ 0)
+    go q = elim (decLt area 32768) [
+      | yes l ↦ (l, sym (ap placed q) ∙ ap placed (short-file f area l))
+      | no l ↦ absurd (omega (arith, refused-large f area _ q (omega arith)))
+    ]
+
+pub refused-reading : RefusedReading
+refused-reading f area n k l = reading-said f area n k l
+
+pub refused9 : Refused9
+refused9 f area k = list-said f area (lists.unheld k)
+
+pub refused10 : Refused10
+refused10 f area k = list-said f area (lists.started k)
+
+pub refused11 : Refused11
+refused11 f area k = list-said f area (lists.entered k)
+
+pub refused12 : Refused12
+refused12 f area k = run-said f area (runs.stopped k)
+
+pub refused13 : Refused13
+refused13 f area n = run-said f area (runs.missed n)
+
+pub no-other : NoOther
+no-other f area n k e = go (reading.readFile f area) refl
+  where
+    list-most : (v : lists.ListVerdict) → ofList v ≡ refused n k → (9 ≤ n) × (n ≤ 11)
+    list-most (lists.safe m) e = absurd (let z : _≡_ {A = ℕ} _ 2 = ap kind e in omega arith)
+    list-most (lists.unheld m) e = let z : 9 ≡ n = ap code e in (omega arith, omega arith)
+    list-most (lists.started m) e = let z : 10 ≡ n = ap code e in (omega arith, omega arith)
+    list-most (lists.entered m) e = let z : 11 ≡ n = ap code e in (omega arith, omega arith)
+
+    run-most : (v : runs.RunVerdict) → ofRun v ≡ refused n k → (12 ≤ n) × (n ≤ 13)
+    run-most (runs.reachable m j) e = absurd (let z : _≡_ {A = ℕ} _ 2 = ap kind e in omega arith)
+    run-most (runs.stopped m) e = let z : 12 ≡ n = ap code e in (omega arith, omega arith)
+    run-most (runs.missed m) e = let z : 13 ≡ n = ap code e in (omega arith, omega arith)
+
+    go : (r : reading.FileRead) → reading.readFile f area ≡ r → (1 ≤ n) × (n ≤ 13)
+    go (reading.refused r) q =
+        let w = refused-low f area r q in
+        let z : r .number ≡ n = ap code (sym (judged-as f area _ q) ∙ e) in
+        (omega (arith, w .0), omega (arith, w .1))
+    go (reading.list P ts es) q =
+        let w = list-most (decision.verdictOf P ts es) (sym (judged-as f area _ q) ∙ e) in
+        (omega (arith, w .0), omega (arith, w .1))
+    go (reading.run P ts ss) q =
+        let w = run-most (runs.runVerdict P ts ss) (sym (judged-as f area _ q) ∙ e) in
+        (omega (arith, w .0), omega (arith, w .1))
+
+-- ---- demand 2
+
+pub accepted-list : AcceptedList
+accepted-list f area n = list-said f area (lists.safe n)
+
+pub accepted-run : AcceptedRun
+accepted-run f area n k = run-said f area (runs.reachable n k)
+
+-- ---- demand 3
+
+pub safety : Safety
+safety f area n e =
+    let x = accepted-list f area n .0 e in
+    record {
+      program = x .program;
+      targets = x .targets;
+      entries = x .entries;
+      reads = x .reads;
+      holds = λ c i ss d v.
+          safe-visited (x .program) (list-range f area (x .program) (x .targets) (x .entries) (x .reads)) (x .targets) (x .entries) (x .holds .1) i ss v;
+    }
+
+simulated : (P : Program) → ProgramInRange P → Simulated P
+simulated P R c d e oc od B ss t = simulation P R d oc od B t
+
+pub simulation-holds : Simulation
+simulation-holds f area P ts = (λ es q. simulated P (list-range f area P ts es q), λ ss q. simulated P (run-range f area P ts ss q))

@@ -1,0 +1,283 @@
+-- The reading of the records refuses with a number from 1 to 7, or with 8 where the area is too short.
+use Prim.Native.Nat.{ℕ, zero, suc, _+_, _<_, _≤_}
+use mathlib.Core.Path.{_≡_, refl, sym, ap, subst, _∙_}
+use mathlib.Core.Bool.{Bool, true, false, cond}
+use mathlib.Core.List.{List, [], _∷_}
+use native.Mathlib.Omega.{arith}
+use native.Mathlib.Decide.{decLt, ℕ-discrete}
+use lib.ListN.{length}
+use lib.Dec.{eqb, leb}
+use borrow.Author.Tests.{eq-eqb, ne-eqb}
+use Rattle.pws.specs.Machine.{Configuration}
+use Rattle.records.specs.declared.program.Shape.{Shape}
+use Rattle.records.specs.declared.program.Refusal.{Refusal}
+use Rattle.records.specs.declared.program.Checked.{Checked}
+use Rattle.records.specs.declared.program.Checked.the-variants.{Fine, Refused}
+use Rattle.records.specs.declared.program.Counted.{Counted}
+use Rattle.records.specs.declared.program.Counted.the-variants.{Records, Stopped}
+use Rattle.records.specs.declared.program.Program.{Program}
+use Rattle.records.specs.declared.program.ProgramRead.{ProgramRead}
+use Rattle.records.specs.Bytes.{choose, byte}
+use Rattle.records.specs.Records.{
+  firstNumber,
+  checked,
+  isKind,
+  shapeNumber,
+  statesNumber,
+  transitionNumber,
+  targetNumber,
+  claimNumber,
+  stepNumber,
+  entryNumber,
+  messageNumber,
+  waitingNumber,
+}
+use Rattle.records.specs.ProgramPart.{
+  unlessEnd,
+  andThen,
+  countThen,
+  statesFrom,
+  rowFrom,
+  transitionsFrom,
+  targetsFrom,
+  orRefused,
+  withCount,
+  rowsFrom,
+  restFrom,
+  programFrom,
+}
+use Rattle.records.specs.EvidencePart.{
+  stepsFrom,
+  bodyNumber,
+  EntryRead,
+  whole,
+  bad,
+  atBoundary,
+  complete,
+  finished,
+  bodyThen,
+  entryFrom,
+  entryRead,
+  EntriesRead,
+  headThen,
+  entryThen,
+  entriesFrom,
+}
+use Rattle.records.specs.Reading.{Evidence, refusal, entries, steps, claimThen, evidenceFrom, none, both, partsOf, FileRead, refused, list, run, listRead, partsRead, readFile}
+use Rattle.records.proofs.ReadingLaws.{parts-short, parts-refused, parts-both}
+
+-- ---- what a refusal is
+
+abbrev Low : Refusal → Type 0
+Low r = (1 ≤ r .number) × (r .number ≤ 7)
+
+low : (n place : ℕ) → 1 ≤ n → n ≤ 7 → Low (record { number = n; place = place })
+low n place a b = (a, b)
+
+abbrev LowChecked : Checked → Type 0
+LowChecked Fine = Unit {0}
+LowChecked (Refused r) = Low r
+
+abbrev LowCounted : Counted → Type 0
+LowCounted (Records n) = Unit {0}
+LowCounted (Stopped r) = Low r
+
+abbrev LowEntry : EntryRead → Type 0
+LowEntry (whole e next) = Unit {0}
+LowEntry (bad r) = Low r
+
+abbrev LowEvidence : Evidence → Type 0
+LowEvidence (refusal r) = Low r
+LowEvidence (entries r) = LowChecked (r .answer)
+LowEvidence (steps n) = LowCounted n
+
+abbrev LowFile : FileRead → Type 0
+LowFile (refused r) = Low r
+LowFile (list P ts es) = Unit {0}
+LowFile (run P ts ss) = Unit {0}
+
+-- ---- cases
+
+each-choice : {A : Type 0} (F : A → Type 0) (b : Bool) (x y : Unit {0} → A) → F (x tt) → F (y tt) → F (choose b x y)
+each-choice F true x y p q = p
+each-choice F false x y p q = q
+
+each-cond : {A : Type 0} (F : A → Type 0) (b : Bool) (x y : A) → F x → F y → F (cond b x y)
+each-cond F true x y p q = p
+each-cond F false x y p q = q
+
+-- ---- one record
+
+first-low : (a b c d e : Bool) → firstNumber a b c d e ≤ 5
+unfolding firstNumber
+first-low a b c d e =
+    each-cond Small a _ _ (omega arith) (each-cond Small b _ _ (omega arith) (each-cond Small c _ _ (omega arith)
+    (each-cond Small d _ _ (omega arith) (each-cond Small e _ _ (omega arith) (omega arith)))))
+  where
+    Small : ℕ → Type 0
+    Small n = n ≤ 5
+
+checked-low : (n place : ℕ) → n ≤ 5 → LowChecked (checked n place)
+unfolding checked
+checked-low n place l = elim (ℕ-discrete n 0) [ yes e ↦ rw (eq-eqb n 0 e) tt | no e ↦ rw (ne-eqb n 0 e) (omega arith, omega arith) ]
+
+unless-low : (f : List ℕ) (at : ℕ) (x : Checked) → LowChecked x → LowChecked (unlessEnd f at x)
+unfolding unlessEnd
+unless-low f at x h = each-cond LowChecked (leb (length f) at) (Refused (record { number = 6; place = length f })) x (low 6 (length f) (omega arith) (omega arith)) h
+
+and-low : (x : Checked) (y : Unit {0} → Checked) → LowChecked x → LowChecked (y tt) → LowChecked (andThen x y)
+and-low Fine y h k = k
+and-low (Refused r) y h k = h
+
+count-low : (x : Checked) (y : Unit {0} → Counted) → LowChecked x → LowCounted (y tt) → LowCounted (countThen x y)
+count-low Fine y h k = k
+count-low (Refused r) y h k = h
+
+-- ---- the program part
+
+states-low : (f : List ℕ) (n at : ℕ) → LowChecked (statesFrom f at n)
+unfolding statesFrom statesNumber
+states-low f zero at = tt
+states-low f (suc n) at =
+    and-low (unlessEnd f at (checked (statesNumber f at) at)) (λ _. statesFrom f (at + 3) n)
+    (unless-low f at _ (checked-low (statesNumber f at) at (first-low _ _ _ _ _))) (states-low f n (at + 3))
+
+row-low : (ends : ℕ → ℕ → Bool) (check : ℕ → ℕ → Checked) (size : ℕ → ℕ) → ((at n : ℕ) → LowChecked (check at n)) → (left at n : ℕ)
+    → LowCounted (rowFrom ends check size left at n)
+unfolding rowFrom
+row-low ends check size h zero at n = each-choice LowCounted (ends at n) _ _ tt (count-low (check at n) _ (h at n) tt)
+row-low ends check size h (suc left) at n =
+    each-choice LowCounted (ends at n) _ _ tt (count-low (check at n) _ (h at n) (row-low ends check size h left (at + size at) (suc n)))
+
+or-low : (x : Checked) (y : Unit {0} → ProgramRead) → LowChecked x → LowChecked (y tt .answer) → LowChecked (orRefused x y .answer)
+or-low Fine y h k = k
+or-low (Refused r) y h k = h
+
+with-low : (x : Counted) (y : ℕ → ProgramRead) → LowCounted x → ((n : ℕ) → LowChecked (y n .answer)) → LowChecked (withCount x y .answer)
+with-low (Records n) y h k = k n
+with-low (Stopped r) y h k = h
+
+transitions-low : (s : Shape) (states f : List ℕ) (at : ℕ) → LowCounted (transitionsFrom s states f at)
+unfolding transitionsFrom transitionNumber
+transitions-low s states f at = row-low _ _ _ (λ k n. checked-low (transitionNumber s states f k n) k (first-low _ _ _ _ _)) 256 at 0
+
+targets-low : (s : Shape) (states f : List ℕ) (at : ℕ) → LowCounted (targetsFrom s states f at)
+unfolding targetsFrom targetNumber
+targets-low s states f at = row-low _ _ _ (λ k n. unless-low f k _ (checked-low (targetNumber s states f k n) k (first-low _ _ _ _ _))) 16 at 0
+
+rows-low : (f : List ℕ) (at : ℕ) (s : Shape) (states initial : List ℕ) → LowChecked (rowsFrom f at s states initial .answer)
+unfolding rowsFrom
+rows-low f at s states initial =
+    with-low (transitionsFrom s states f at) _ (transitions-low s states f at) (λ n.
+    with-low (targetsFrom s states f _) _ (targets-low s states f _) (λ m. tt))
+
+rest-low : (f : List ℕ) (at : ℕ) (s : Shape) → LowChecked (restFrom f at s .answer)
+unfolding restFrom
+rest-low f at s = or-low (statesFrom f at (s .processes)) _ (states-low f (s .processes) at) (rows-low f _ s _ _)
+
+program-low : (f : List ℕ) (at : ℕ) → LowChecked (programFrom f at .answer)
+unfolding programFrom shapeNumber
+program-low f at = or-low (unlessEnd f at (checked (shapeNumber f at) at)) _ (unless-low f at _ (checked-low (shapeNumber f at) at (first-low _ _ _ _ _))) (rest-low f _ _)
+
+-- ---- the evidence part
+
+steps-low : (s : Shape) (transitions : ℕ) (f : List ℕ) (at : ℕ) → LowCounted (stepsFrom s transitions f at)
+unfolding stepsFrom stepNumber
+steps-low s transitions f at = row-low _ _ _ (λ k n. checked-low (stepNumber s transitions f k n) k (first-low _ _ _ _ _)) 1024 at 0
+
+finished-low : (s : Shape) (start at : ℕ) (e : Configuration) → LowEntry (finished s start at e)
+unfolding finished
+finished-low s start at e = each-cond LowEntry (complete s (length (e .memory .channel)) (e .memory .pointer)) (whole e at) (bad (record { number = 7; place = start })) tt (low 7 start (omega arith) (omega arith))
+
+body-low : (s : Shape) (f : List ℕ) (at : ℕ) (e : Configuration) → bodyNumber s f at e ≤ 5
+unfolding bodyNumber messageNumber waitingNumber
+body-low s f at e = each-cond Small (isKind f at 17) _ _ (first-low _ _ _ _ _) (each-cond Small (isKind f at 18) _ _ (first-low _ _ _ _ _) (omega arith))
+  where
+    Small : ℕ → Type 0
+    Small n = n ≤ 5
+
+body-then : (x : Checked) (y : Unit {0} → EntryRead) → LowChecked x → LowEntry (y tt) → LowEntry (bodyThen x y)
+body-then Fine y h k = k
+body-then (Refused r) y h k = h
+
+entry-low : (bytes : ℕ) (s : Shape) (f : List ℕ) (start at : ℕ) (e : Configuration) → LowEntry (entryFrom bytes s f start at e)
+unfolding entryFrom
+entry-low zero s f start at e = finished-low s start at e
+entry-low (suc bytes) s f start at e =
+    each-choice LowEntry (atBoundary f at) _ _ (finished-low s start at e)
+    (body-then (checked (bodyNumber s f at e) at) _ (checked-low (bodyNumber s f at e) at (body-low s f at e)) (entry-low bytes s f start _ _))
+
+head-low : (x : Checked) (offsets : List ℕ) (es : List Configuration) (y : Unit {0} → EntriesRead) → LowChecked x → LowChecked (y tt .answer)
+    → LowChecked (headThen x offsets es y .answer)
+head-low Fine offsets es y h k = k
+head-low (Refused r) offsets es y h k = h
+
+entry-then : (x : EntryRead) (offsets : List ℕ) (es : List Configuration) (y : Configuration → ℕ → EntriesRead) → LowEntry x
+    → ((e : Configuration) (n : ℕ) → LowChecked (y e n .answer)) → LowChecked (entryThen x offsets es y .answer)
+entry-then (whole e next) offsets es y h k = k e next
+entry-then (bad r) offsets es y h k = h
+
+abbrev LowEntries : EntriesRead → Type 0
+LowEntries r = LowChecked (r .answer)
+
+entries-low : (left : ℕ) (s : Shape) (states f : List ℕ) (at : ℕ) (offsets : List ℕ) (es : List Configuration) → LowEntries (entriesFrom left s states f at offsets es)
+unfolding entriesFrom entryNumber entryRead
+entries-low zero s states f at offsets es =
+    each-choice LowEntries (leb (length f) at) _ _ tt (head-low (checked (entryNumber s states f at true) at) offsets es _ (checked-low (entryNumber s states f at true) at (first-low _ _ _ _ _)) tt)
+entries-low (suc left) s states f at offsets es =
+    each-choice LowEntries (leb (length f) at) _ _ tt
+    (head-low (checked (entryNumber s states f at false) at) offsets es _ (checked-low (entryNumber s states f at false) at (first-low _ _ _ _ _))
+    (entry-then (entryRead s f at) offsets es _ (entry-low _ s f at _ _) (λ e next. entries-low left s states f next _ _)))
+
+claim-then : (x : Checked) (y : Unit {0} → Evidence) → LowChecked x → LowEvidence (y tt) → LowEvidence (claimThen x y)
+claim-then Fine y h k = k
+claim-then (Refused r) y h k = h
+
+evidence-low : (f : List ℕ) (at : ℕ) (p : Program) (area : ℕ) → LowEvidence (evidenceFrom f at p area)
+unfolding evidenceFrom claimNumber
+evidence-low f at p area =
+    claim-then (unlessEnd f at (checked (claimNumber f at) at)) _ (unless-low f at _ (checked-low (claimNumber f at) at (first-low _ _ _ _ _)))
+    (each-choice LowEvidence (eqb (byte f (at + 1)) 0) _ _ (entries-low _ _ _ f _ [] []) (steps-low _ _ f _))
+
+-- ---- the whole reading
+
+-- 8 in an area that is too short, whatever the file
+pub short-file : (f : List ℕ) (area : ℕ) → area < 32768 → readFile f area ≡ refused (record { number = 8; place = 0 })
+unfolding readFile
+short-file f area l = ap (partsRead f) (parts-short f area l)
+
+evidence-file : (f : List ℕ) (p : Program) (e : Evidence) → LowEvidence e → LowFile (partsRead f (both p e))
+evidence-file f p (refusal r) h = h
+evidence-file f p (entries r) h = go (r .answer) h
+  where
+    go : (x : Checked) → LowChecked x → LowFile (listRead f p x r)
+    go Fine h = tt
+    go (Refused q) h = h
+evidence-file f p (steps (Records n)) h = tt
+evidence-file f p (steps (Stopped r)) h = h
+
+pub file-low : (f : List ℕ) (area : ℕ) → 32768 ≤ area → LowFile (readFile f area)
+unfolding readFile
+file-low f area l = go (programFrom f 0 .answer) refl
+  where
+    p : Program
+    p = programFrom f 0 .program
+
+    go : (x : Checked) → programFrom f 0 .answer ≡ x → LowFile (partsRead f (partsOf f area))
+    go Fine e = subst (λ y. LowFile (partsRead f y)) (sym (parts-both f area l e)) (evidence-file f p (evidenceFrom f (p .claim) p area) (evidence-low f (p .claim) p area))
+    go (Refused r) e = subst (λ y. LowFile (partsRead f y)) (sym (parts-refused f area r l e)) (subst LowChecked e (program-low f 0))
+
+-- the numbers of a refused reading
+pub refused-low : (f : List ℕ) (area : ℕ) (r : Refusal) → readFile f area ≡ refused r → (1 ≤ r .number) × (r .number ≤ 8)
+refused-low f area r e = elim (decLt area 32768) [
+  | yes l ↦ let z : r .number ≡ 8 = ap numberOf (sym e ∙ short-file f area l) in (omega arith, omega arith)
+  | no l ↦ let z : Low r = subst LowFile e (file-low f area (omega arith)) in (omega arith, omega arith)
+]
+  where
+    numberOf : FileRead → ℕ
+    numberOf (refused r) = r .number
+    numberOf (list P ts es) = 0
+    numberOf (run P ts ss) = 0
+
+pub refused-large : (f : List ℕ) (area : ℕ) (r : Refusal) → readFile f area ≡ refused r → 32768 ≤ area → r .number ≤ 7
+refused-large f area r e l = let z : Low r = subst LowFile e (file-low f area l) in z .1

@@ -1,0 +1,136 @@
+-- The demands, as statements about the verdict of a file. The theorems are in proofs/Demands, under the same names in small letters. A
+-- configuration, a step and a sequence of steps are the machine's (pws/specs), with no bound of any kind; `area` is the length of any work area.
+use Prim.Native.Nat.{ℕ, _<_, _≤_}
+use mathlib.Core.Path.{_≡_}
+use mathlib.Core.Logic.{_↔_}
+use mathlib.Core.Bool.{false}
+use mathlib.Core.List.{List}
+use lib.ListN.{length, getD, take}
+use Rattle.pws.specs.declared.Step.{Step}
+use Rattle.pws.specs.declared.Step.the-variants.{Update}
+use Rattle.pws.specs.Program.{Program}
+use Rattle.pws.specs.Machine.{Configuration, may}
+use Rattle.pws.specs.Configurations.{ConfigurationOf, Start, InTarget}
+use Rattle.pws.specs.Order.{Below}
+use Rattle.pws.specs.Entries.{AboveList}
+use Rattle.pws.specs.Sequences.{Takes, Visited, Answers}
+use Rattle.lists.specs.Verdict.{target, SafeList, Unheld, Started, Entered}
+use Rattle.records.specs.Reading as reading
+use Rattle.judge.specs.Judge.{Verdict, safe, reachable, refused, Judged, judged}
+
+-- ---- what the bytes of a file give
+
+-- they give a program, targets and entries, of which F holds
+pub record OfList (f : List ℕ) (area : ℕ) (F : Program → List (ℕ → ℕ) → List Configuration → Type 0) : Type 0 where
+  pub program : Program
+  pub targets : List (ℕ → ℕ)
+  pub entries : List Configuration
+  pub reads : reading.readFile f area ≡ reading.list program targets entries
+  pub holds : F program targets entries
+
+-- they give a program, targets and steps, of which F holds
+pub record OfRun (f : List ℕ) (area : ℕ) (F : Program → List (ℕ → ℕ) → List Step → Type 0) : Type 0 where
+  pub program : Program
+  pub targets : List (ℕ → ℕ)
+  pub steps : List Step
+  pub reads : reading.readFile f area ≡ reading.run program targets steps
+  pub holds : F program targets steps
+
+-- ---- what the machine does with a run's steps
+
+-- reachable: it takes every step in turn from a permitted start and ends in the target of number k, and in no lower one; n is the number of steps
+pub record Reaches (P : Program) (ts : List (ℕ → ℕ)) (ss : List Step) (n k : ℕ) : Type 0 where
+  pub count : n ≡ length ss
+  pub start : Configuration
+  pub permitted : Start P start
+  pub end : Configuration
+  pub takes : Takes P start ss end
+  pub exists : k < length ts
+  pub met : InTarget (P .shape) (target ts k) end
+  pub lower : (j : ℕ) → j < k → InTarget (P .shape) (target ts j) end → ⊥
+
+-- 12: from a permitted start it takes the steps before that of number k, and cannot take that one
+pub record Stops (P : Program) (ss : List Step) (k : ℕ) : Type 0 where
+  pub exists : k < length ss
+  pub start : Configuration
+  pub permitted : Start P start
+  pub before : Configuration
+  pub takes : Takes P start (take k ss) before
+  pub cannot : may P before (getD ss k (Update 0)) ≡ false
+
+-- 13: it takes every step in turn from a permitted start, and ends in no target; n is the number of steps
+pub record Misses (P : Program) (ts : List (ℕ → ℕ)) (ss : List Step) (n : ℕ) : Type 0 where
+  pub count : n ≡ length ss
+  pub start : Configuration
+  pub permitted : Start P start
+  pub end : Configuration
+  pub takes : Takes P start ss end
+  pub none : (j : ℕ) → j < length ts → InTarget (P .shape) (target ts j) end → ⊥
+
+-- ---- demand 1: every file has exactly one answer, and each refusal is said exactly when the table says so
+
+-- `judged` computes a verdict of the file, and there is no other
+abbrev pub OneAnswer : Type 0
+OneAnswer = (f : List ℕ) (area : ℕ) → Judged f area (judged f area) × ((v : Verdict) → Judged f area v → v ≡ judged f area)
+
+-- 8
+abbrev pub Refused8 : Type 0
+Refused8 = (f : List ℕ) (area k : ℕ) → (judged f area ≡ refused 8 k) ↔ ((area < 32768) × (k ≡ 0))
+
+-- 1 to 7: the reading of the records says so, in an area that is large enough
+abbrev pub RefusedReading : Type 0
+RefusedReading = (f : List ℕ) (area n k : ℕ) → n ≤ 8 → (judged f area ≡ refused n k) ↔ (reading.readFile f area ≡ reading.refused (record { number = n; place = k }))
+
+-- 9: k is the lowest target with a configuration, in hand, that is not above the list
+abbrev pub Refused9 : Type 0
+Refused9 = (f : List ℕ) (area k : ℕ) → (judged f area ≡ refused 9 k) ↔ OfList f area (λ P ts es. Unheld P ts es k)
+
+-- 10: k is the lowest entry that a start, in hand, is above; every target is held
+abbrev pub Refused10 : Type 0
+Refused10 = (f : List ℕ) (area k : ℕ) → (judged f area ≡ refused 10 k) ↔ OfList f area (λ P ts es. Started P ts es k)
+
+-- 11: k is the lowest entry with a configuration and a step, in hand, that lead above it from outside the list; every target is held and
+-- no start is above an entry
+abbrev pub Refused11 : Type 0
+Refused11 = (f : List ℕ) (area k : ℕ) → (judged f area ≡ refused 11 k) ↔ OfList f area (λ P ts es. Entered P ts es k)
+
+-- 12 and 13
+abbrev pub Refused12 : Type 0
+Refused12 = (f : List ℕ) (area k : ℕ) → (judged f area ≡ refused 12 k) ↔ OfRun f area (λ P ts ss. Stops P ss k)
+
+abbrev pub Refused13 : Type 0
+Refused13 = (f : List ℕ) (area n : ℕ) → (judged f area ≡ refused 13 n) ↔ OfRun f area (λ P ts ss. Misses P ts ss n)
+
+-- and there is no other number
+abbrev pub NoOther : Type 0
+NoOther = (f : List ℕ) (area n k : ℕ) → judged f area ≡ refused n k → (1 ≤ n) × (n ≤ 13)
+
+-- ---- demand 2: what is accepted
+
+-- a list, if and only if the configurations above it hold every target one, no starting one, and every one a single step before them
+abbrev pub AcceptedList : Type 0
+AcceptedList = (f : List ℕ) (area n : ℕ) → (judged f area ≡ safe n) ↔ OfList f area (λ P ts es. (n ≡ length es) × SafeList P ts es)
+
+-- a run, if and only if the machine can take every step in turn and stops in a target
+abbrev pub AcceptedRun : Type 0
+AcceptedRun = (f : List ℕ) (area n k : ℕ) → (judged f area ≡ reachable n k) ↔ OfRun f area (λ P ts ss. Reaches P ts ss n k)
+
+-- ---- demand 3
+
+-- In a file that is accepted as safe, with whatever work area, no sequence of steps, of any length and from any permitted start, visits a
+-- configuration in a target, or one above the list: not at its start and not after any step that the machine takes.
+abbrev pub Safety : Type 0
+Safety = (f : List ℕ) (area n : ℕ) → judged f area ≡ safe n → OfList f area (λ P ts es.
+    (c : Configuration) → Start P c → (ss : List Step) (d : Configuration) → Visited P c ss d
+    → ((k : ℕ) → k < length ts → InTarget (P .shape) (target ts k) d → ⊥) × (AboveList (P .shape) es d → ⊥))
+
+-- Of two configurations, one above the other, the upper answers each of any number of steps that the lower takes, in turn, with one or more
+-- of its own, and is above it again after each. So for the program of every file that is read as a list, accepted or not, and as a run.
+abbrev pub Simulated : Program → Type 0
+Simulated P = (c d e : Configuration) → ConfigurationOf P c → ConfigurationOf P d → Below (P .shape) c d → (ss : List Step) → Takes P c ss e → Answers P c d ss
+
+abbrev pub Simulation : Type 0
+Simulation =
+    (f : List ℕ) (area : ℕ) (P : Program) (ts : List (ℕ → ℕ))
+    → ((es : List Configuration) → reading.readFile f area ≡ reading.list P ts es → Simulated P)
+    × ((ss : List Step) → reading.readFile f area ≡ reading.run P ts ss → Simulated P)

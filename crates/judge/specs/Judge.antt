@@ -1,0 +1,65 @@
+-- The whole judgement (document 01, "Verdicts and refusal table"): what is said of a file, and what is left in the work area.
+use Prim.Native.Nat.{ℕ, _+_, _*_}
+use mathlib.Core.Path.{_≡_}
+use mathlib.Core.List.{List, _++_}
+use lib.ListN.{length, drop, replicate}
+use lib.Dec.{ltb}
+use Rattle.lists.specs.Verdict as lists
+use Rattle.lists.specs.Decision as decision
+use Rattle.records.specs.Bytes.{choose}
+use Rattle.records.specs.EvidencePart.{allowed}
+use Rattle.records.specs.Reading as reading
+use Rattle.replay.specs.Replay as runs
+
+pub data Verdict : Type 0 where
+  -- the number of entries
+  safe : ℕ → Verdict
+  -- the number of steps, and the lowest number of a target met by the last local states
+  reachable : ℕ → ℕ → Verdict
+  -- number and place
+  refused : ℕ → ℕ → Verdict
+
+-- ---- the refusal table's numbers of what is said of a list, and of a run
+
+abbrev pub ofList : lists.ListVerdict → Verdict
+ofList (lists.safe n) = safe n
+ofList (lists.unheld k) = refused 9 k
+ofList (lists.started k) = refused 10 k
+ofList (lists.entered k) = refused 11 k
+
+abbrev pub ofRun : runs.RunVerdict → Verdict
+ofRun (runs.reachable n k) = reachable n k
+ofRun (runs.stopped k) = refused 12 k
+ofRun (runs.missed n) = refused 13 n
+
+-- ---- the verdict
+
+-- A refused reading ends the judgement with its number and place. Of a list is said what is true of it over all configurations; a run is
+-- replayed.
+abbrev pub FileJudged : reading.FileRead → Verdict → Type 0
+FileJudged (reading.refused r) v = v ≡ refused (r .number) (r .place)
+FileJudged (reading.list P ts es) v = (l : lists.ListVerdict) × lists.ListJudged P ts es l × (v ≡ ofList l)
+FileJudged (reading.run P ts ss) v = v ≡ ofRun (runs.runVerdict P ts ss)
+
+-- v is the verdict of the file f, with a work area of so many bytes
+unfoldable pub Judged : List ℕ → ℕ → Verdict → Type 0
+Judged f area v = FileJudged (reading.readFile f area) v
+
+-- the same by computation: `judged-is` says that it is the verdict, and the only one
+abbrev pub ofFile : reading.FileRead → Verdict
+ofFile (reading.refused r) = refused (r .number) (r .place)
+ofFile (reading.list P ts es) = ofList (decision.verdictOf P ts es)
+ofFile (reading.run P ts ss) = ofRun (runs.runVerdict P ts ss)
+
+unfoldable pub judged : List ℕ → ℕ → Verdict
+judged f area = ofFile (reading.readFile f area)
+
+-- ---- the work area afterwards
+
+-- the first 16,384 bytes, and four for each entry allowed
+unfoldable pub usedOf : ℕ → ℕ
+usedOf area = 16384 + 4 * allowed area
+
+-- these are 0 and the rest is untouched; after 8 all of it is
+unfoldable pub areaAfter : List ℕ → List ℕ
+areaAfter w = choose (ltb (length w) 32768) (λ _. w) (λ _. replicate (usedOf (length w)) 0 ++ drop (usedOf (length w)) w)
