@@ -6,3 +6,4 @@ pub mod CauseLaws
 pub mod Answering
 pub mod Holding
 pub mod Stepping
+pub mod Replaying

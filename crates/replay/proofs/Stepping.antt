@@ -194,3 +194,95 @@ module _ (s : Shape) (pl : s .processes ≤ 4) (vl : s .variables ≤ 4) (xl : s
       kept-of (K .represents .states) (K .states)
       (memory-update (shapeOf s) pl vl (run .messages) rows a (c .memory) (memory-of K) (K .area) most-messages p pe l)
       (queues-area (queues-of K) (λ q j. refl)) (K .area) (omega (arith, K .channel))
+
+-- ---- the steps of a program
+
+table-length {ℓ} : {A : Type ℓ} (g : ℕ → A) (i n : ℕ) → length (tableFrom g i n) ≡ n
+table-length g i zero = refl
+table-length g i (suc n) = ap suc (table-length g (suc i) n)
+
+table-at {ℓ} : {A : Type ℓ} (g : ℕ → A) (i n k : ℕ) (d : A) → k < n → getD (tableFrom g i n) k d ≡ g (i + k)
+table-at g i zero k d l = absurd (omega arith)
+table-at g i (suc n) zero d l = ap g (omega arith)
+table-at g i (suc n) (suc k) d l = table-at g (suc i) n k d (omega arith) ∙ ap g (omega arith)
+
+module _ (f : List ℕ) (p : Program) where
+  transition-count : length (programOf f p .transitions) ≡ p .transitions .count
+  transition-count = table-length (λ i. transitionAt f (p .transitions .at + 8 * i)) 0 (p .transitions .count)
+
+  transition-is : (n : ℕ) → n < p .transitions .count → pws.transition (programOf f p) n ≡ transitionAt f (p .transitions .at + 8 * n)
+  transition-is n l =
+      table-at (λ i. transitionAt f (p .transitions .at + 8 * i)) 0 (p .transitions .count) n pws.noTransition l
+      ∙ ap (λ (i : ℕ). transitionAt f (p .transitions .at + 8 * i)) (omega arith)
+
+  move-take : (n : ℕ) → n < p .transitions .count → moveOf f (p .transitions) (step.Take n) ≡ Take (pws.transition (programOf f p) n)
+  move-take n l = rw (lt-leb (p .transitions .count) n l) (ap Take (sym (transition-is n l)))
+
+  move-absent : (n : ℕ) → p .transitions .count ≤ n → moveOf f (p .transitions) (step.Take n) ≡ Absent
+  move-absent n l = rw (le-leb (p .transitions .count) n l)
+
+  exists-is : (n : ℕ) → n < p .transitions .count → ltb n (length (programOf f p .transitions)) ≡ true
+  exists-is n l = lt-ltb n (length (programOf f p .transitions)) (omega (arith, transition-count))
+
+  exists-not : (n : ℕ) → p .transitions .count ≤ n → ltb n (length (programOf f p .transitions)) ≡ false
+  exists-not n l = le-ltb n (length (programOf f p .transitions)) (omega (arith, transition-count))
+
+  module _ (R : pws.ProgramInRange (programOf f p)) (k : ℕ) (run : Run) (rows : List (List ℕ)) (a : List ℕ) (c : Configuration)
+      (K : Kept (shapeOf (p .shape)) k run rows a c) where
+    -- the step's answer is the machine's
+    pub answer-is : (s : steps.Step) → answerIn run rows a (p .shape) (moveOf f (p .transitions) s) ≡ stepAnswer (programOf f p) c s
+    answer-is (step.Take n) = elim (decLt n (p .transitions .count)) [
+      | yes l ↦
+          let t = R .transitions n (omega (arith, transition-count)) in
+          ap (answerIn run rows a (p .shape)) (move-take n l)
+          ∙ take-is (p .shape) (R .shape .processes) (R .shape .variables) k run rows a c K (pws.transition (programOf f p) n) (t .process) (t .operation)
+          ∙ ap (λ (b : Bool). cond b (takeAnswer (shapeOf (p .shape)) c (pws.transition (programOf f p) n)) (Refused State)) (sym (exists-is n l))
+      | no l ↦
+          ap (answerIn run rows a (p .shape)) (move-absent n (omega arith))
+          ∙ ap (λ (b : Bool). cond b (takeAnswer (shapeOf (p .shape)) c (pws.transition (programOf f p) n)) (Refused State)) (sym (exists-not n (omega arith)))
+    ]
+    answer-is (step.Serialise q v) = ap (firstCause true true true true) (serialise-is (p .shape) (R .shape .processes) (R .shape .variables) k run rows a c K q v)
+    answer-is (step.Update q) = ap (firstCause true true true true) (update-is (p .shape) (R .shape .processes) (R .shape .variables) k run rows a c K q)
+
+    -- the number of values of a variable is the same for all
+    values-most : p .shape .values ≤ 4
+    values-most = R .shape .values 0 (R .shape .someVariable)
+
+    some-waits : (q v : ℕ) → q < p .shape .processes → v < p .shape .variables → T (not (isEmpty (c .queue q v)))
+        → getD (run .heads) (4 * q + v) 0 < getD (run .tails) (4 * q + v) 0
+    some-waits q v qe ve t =
+        let h = getD (run .heads) (4 * q + v) 0 in
+        let z = getD (run .tails) (4 * q + v) 0 in
+        leb-false z h (table-empty (waitingAt a (4 * q + v)) h z ∙ ap isEmpty (K .represents .queues q v qe ve) ∙ not-T (isEmpty (c .queue q v)) t)
+      where
+        not-T : (b : Bool) → T (not b) → b ≡ false
+        not-T true t = absurd t
+        not-T false t = refl
+
+    T-true : (b : Bool) → T b → b ≡ true
+    T-true true t = refl
+    T-true false t = absurd t
+
+    -- a permitted step leaves a representation of the configuration after it
+    pub step-kept : k < 1024 → (s : steps.Step) → T (may (programOf f p) c s)
+        → Kept (shapeOf (p .shape)) (suc k) (runAfter run (moveOf f (p .transitions) s)) (rowsAfter rows (run .messages) (moveOf f (p .transitions) s))
+        (areaAfter a run (moveOf f (p .transitions) s)) (after (programOf f p) c s)
+    step-kept few (step.Take n) t =
+        let y = and-yes (ltb n (length (programOf f p .transitions))) (mayTake (shapeOf (p .shape)) c (pws.transition (programOf f p) n)) t in
+        let l : n < length (programOf f p .transitions) = ltb-true n (length (programOf f p .transitions)) (T-true (ltb n (length (programOf f p .transitions))) (y .0)) in
+        let o = R .transitions n l in
+        let w = pws.transition (programOf f p) n in
+        subst (λ (m : Move). Kept (shapeOf (p .shape)) (suc k) (runAfter run m) (rowsAfter rows (run .messages) m) (areaAfter a run m) (afterTake c w))
+        (sym (move-take n (omega (arith, transition-count))))
+        (kept-taken (p .shape) (R .shape .processes) (R .shape .variables) values-most k run rows a c K few w (o .process) (o .operation))
+    step-kept few (step.Serialise q v) t =
+        let y = and-yes (ltb q (p .shape .processes) && ltb v (p .shape .variables)) (not (isEmpty (c .queue q v))) t in
+        let z = and-yes (ltb q (p .shape .processes)) (ltb v (p .shape .variables)) (y .0) in
+        let qe = ltb-true q (p .shape .processes) (T-true (ltb q (p .shape .processes)) (z .0)) in
+        let ve = ltb-true v (p .shape .variables) (T-true (ltb v (p .shape .variables)) (z .1)) in
+        kept-serialised (p .shape) (R .shape .processes) (R .shape .variables) values-most k run rows a c K few q v qe ve (some-waits q v qe ve (y .1))
+    step-kept few (step.Update q) t =
+        let y = and-yes (ltb q (p .shape .processes)) (ltb (c .memory .pointer q) (length (c .memory .channel))) t in
+        let qe = ltb-true q (p .shape .processes) (T-true (ltb q (p .shape .processes)) (y .0)) in
+        let l = ltb-true (c .memory .pointer q) (length (c .memory .channel)) (T-true (ltb (c .memory .pointer q) (length (c .memory .channel))) (y .1)) in
+        kept-updated (p .shape) (R .shape .processes) (R .shape .variables) values-most k run rows a c K few q qe l
