@@ -2,6 +2,10 @@
 ghost use mathlib.Core.Path.{_≡_};
 ghost use Prim.Native.Nat.{ℕ, _+_, _*_, _≤_, _<_};
 ghost use lib.ListN.{length, getD, replicate};
+ghost use Rattle.pws.specs.Program.{ProgramInRange};
+ghost use Rattle.records.specs.ProgramPart.{programOf, targetsOf};
+ghost use Rattle.records.specs.EvidencePart.{stepsOf};
+ghost use Rattle.replay.specs.Answers.{runAnswer};
 ghost use Rattle.replay.specs.Loop.{agreesIn, inTargetIn, nextTarget, nextStep, lastFrom, lastIn, stoppedBy, firstRun, firstRows, replayIn};
 use crate::area::clear;
 use crate::area::put_snapshot;
@@ -138,6 +142,7 @@ pub fn replay_steps(
 ) -> RunAnswer
     ensures { λ r. ⌜ r ≡ replayIn (now (file .entry)) program at count (now (lower .entry)) ⌝ }
     ensures { λ r. ⌜ now (lower .exit) ≡ replicate (length (now (lower .entry))) 0 ⌝ }
+    ensures { λ r. ⌜ (ProgramInRange (programOf (now (file .entry)) program) → count ≤ 1024 → length (now (lower .entry)) ≡ 16384 → r ≡ runAnswer (programOf (now (file .entry)) program) (targetsOf (now (file .entry)) program) (stepsOf (now (file .entry)) at count)) ⌝ }
 {
     let shape = program.shape;
     let transitions = program.transitions;

@@ -1,8 +1,9 @@
 use mathlib.Core.Logic.{⊎-elim}
 use lib.ListN.{length, length-replicate, replicate}
 use Rattle.replay.specs.Layout.{moveOf, answerIn}
-use Rattle.replay.specs.Loop.{runFrom}
+use Rattle.replay.specs.Loop.{runFrom, replayIn}
 use Rattle.replay.proofs.AreaLaws.{snapshot-length}
+use Rattle.replay.proofs.Replaying.{replay-right}
 use Prim.Native.Nat.{ℕ, _-_}
 use mathlib.Core.Path.{_≡_, sym, ap, _∙_}
 use native.Mathlib.Omega.{arith}
@@ -20,6 +21,24 @@ abbrev μ-loop : tie.MeasureT-loop
 kept : (c : tie.After-slice-known4 Inv-loop μ-loop) → length (c .before .before .clear .last .0) ≡ length (c .before .before .before .before .before .before .before .before .before .before .before .before .before .before .before .before .before .before .args .lower .now)
 kept c =
     ap length (c .before .before .clear .ensures) ∙ length-replicate _ _ ∙ c .before .before .before .before .before .loop .inv .same ∙ ap length (c .before .before .before .before .before .before .before .before .before .before .put-snapshot .ensures) ∙ snapshot-length _ _ _
+
+four : (c : tie.Start Inv-loop μ-loop) → length (c .args .program .initial) ≡ 4
+four c = search needs
+
+said : (c : tie.After-slice-known4 Inv-loop μ-loop)
+    → c .before .before .before .before .if1 .verdict ≡ replayIn (c .before .before .before .before .before .before .before .before .before .before .before .before .before .before .before .before .before .before .args .file .now) (c .before .before .before .before .before .before .before .before .before .before .before .before .before .before .before .before .before .before .args .program) (c .before .before .before .before .before .before .before .before .before .before .before .before .before .before .before .before .before .before .args .at) (c .before .before .before .before .before .before .before .before .before .before .before .before .before .before .before .before .before .before .args .count) (c .before .before .before .before .before .before .before .before .before .before .before .before .before .before .before .before .before .before .args .lower .now)
+said c =
+    let f = c .before .before .before .before .before .before .before .before .before .before .before .before .before .before .before .before .before .before .args .file .now in
+    let s = c .before .before .before .before .before .before .before .before .before .before .before .before .before .before .before .before .before .before .args .program .shape in
+    let transitions = c .before .before .before .before .before .before .before .before .before .before .before .before .before .before .before .before .before .before .args .program .transitions in
+    let targets = c .before .before .before .before .before .before .before .before .before .before .before .before .before .before .before .before .before .before .args .program .targets in
+    let n = c .before .before .before .before .before .before .before .before .before .before .before .before .before .before .before .before .before .before .args .count in
+    let I = c .before .before .before .before .before .loop .inv in
+    ⊎-elim
+    (λ w. w .3 ∙ w .2 .ensures ∙ replaying-done I (w .0 .taken))
+    (λ w. w .8 ∙ w .7 .ensures ∙ replaying-stopped I (w .4 .result) (w .6 .given .0 .0) (w .0 .left) (w .4 .ensures ∙ ap (answerIn (c .before .before .before .before .before .loop .run) (c .before .before .before .before .before .loop .rows) (c .before .before .before .before .before .loop .lower) s) (w .2 .ensures ∙ ap (moveOf f transitions) (w .1 .ensures))) (w .6 .given .1))
+    (c .before .before .before .before .if1 .came)
+    ∙ (λ i. runFrom f s transitions targets n 0 (c .before .before .before .before .before .before .before .before .before .before .before .before .before .before .before .before .before .before .args .at) (c .before .before .before .before .before .before .before .first-run .ensures i) (c .before .before .before .before .before .before .first-rows .ensures i) (c .before .before .before .before .before .before .before .before .before .before .put-snapshot .ensures i) n)
 
 pub replay-steps-spec : {M : Type 1} → statement M
 replay-steps-spec = tie.close (tie.spec
@@ -69,17 +88,12 @@ replay-steps-spec = tie.close (tie.spec
     (λ c κs. search needs)
     -- same-length 132:1
     (λ c. kept c)
-    -- returns 132:1
-    (λ c. let f = c .before .before .before .before .before .before .before .before .before .before .before .before .before .before .before .before .before .before .args .file .now in
-    let s = c .before .before .before .before .before .before .before .before .before .before .before .before .before .before .before .before .before .before .args .program .shape in
-    let transitions = c .before .before .before .before .before .before .before .before .before .before .before .before .before .before .before .before .before .before .args .program .transitions in
-    let targets = c .before .before .before .before .before .before .before .before .before .before .before .before .before .before .before .before .before .before .args .program .targets in
-    let n = c .before .before .before .before .before .before .before .before .before .before .before .before .before .before .before .before .before .before .args .count in
-    let I = c .before .before .before .before .before .loop .inv in (
-      ⊎-elim
-          (λ w. w .3 ∙ w .2 .ensures ∙ replaying-done I (w .0 .taken))
-          (λ w. w .8 ∙ w .7 .ensures ∙ replaying-stopped I (w .4 .result) (w .6 .given .0 .0) (w .0 .left) (w .4 .ensures ∙ ap (answerIn (c .before .before .before .before .before .loop .run) (c .before .before .before .before .before .loop .rows) (c .before .before .before .before .before .loop .lower) s) (w .2 .ensures ∙ ap (moveOf f transitions) (w .1 .ensures))) (w .6 .given .1))
-          (c .before .before .before .before .if1 .came)
-          ∙ (λ i. runFrom f s transitions targets n 0 (c .before .before .before .before .before .before .before .before .before .before .before .before .before .before .before .before .before .before .args .at) (c .before .before .before .before .before .before .before .first-run .ensures i) (c .before .before .before .before .before .before .first-rows .ensures i) (c .before .before .before .before .before .before .before .before .before .before .put-snapshot .ensures i) n),
-      c .before .before .clear .ensures ∙ ap (λ (k : ℕ). replicate k 0) (I .same ∙ ap length (c .before .before .before .before .before .before .before .before .before .before .put-snapshot .ensures) ∙ snapshot-length _ _ _),
+    -- returns
+    (λ c.
+    let a = c .before .before .before .before .before .before .before .before .before .before .before .before .before .before .before .before .before .before .args in (
+      said c,
+      (
+        c .before .before .clear .ensures ∙ ap (λ (k : ℕ). replicate k 0) (c .before .before .before .before .before .loop .inv .same ∙ ap length (c .before .before .before .before .before .before .before .before .before .before .put-snapshot .ensures) ∙ snapshot-length _ _ _),
+        (λ R few room. said c ∙ replay-right (a .file .now) (a .program) R (four (c .before .before .before .before .before .before .before .before .before .before .before .before .before .before .before .before .before .before)) (a .at) (a .count) few (a .lower .now) room),
+      ),
     )))
