@@ -16,7 +16,7 @@ use Rattle.records.specs.declared.entry.Cube.{Cube}
 use Rattle.records.specs.Cube.{noQueue, waitingOf, channelOf, configurationOf}
 use Rattle.records.proofs.CubeParts.{queue-put, four-put}
 use Rattle.before.specs.Kinds.{Sound}
-use Rattle.before.specs.Changes.{withMemory, withQueues, withStates, Changed, CubeFor, byNumber, allUp, Low, Room, Sizes, Some}
+use Rattle.before.specs.Changes.{withMemory, withQueues, withStates, Changed, CubeFor, Remade, byNumber, allUp, Low, Room, Sizes, Some}
 
 pub all-up : (zs : List ℕ) (k a b c d : ℕ) → length zs ≡ 4 → 1 ≤ k → a ≡ up k (getD zs 0 0) → b ≡ up k (getD zs 1 0) → c ≡ up k (getD zs 2 0) → d ≡ up k (getD zs 3 0)
     → byNumber (a ∷ b ∷ c ∷ d ∷ []) ≡ allUp k (byNumber zs)
@@ -58,6 +58,12 @@ cube-equal {r} f w = subst (CubeFor r) f w
 -- one change after another
 pub changed-then : {b c : Cube} {e : Configuration} {n : ℕ} {qs : List Queue} (f : Configuration → Configuration) → Changed c e n qs → Changed b (f (configurationOf c)) (c .count) (c .queues) → Changed b (f e) n qs
 changed-then f w h = record { configuration = h .configuration ∙ ap f (w .configuration); count = h .count ∙ w .count; queues = h .queues ∙ w .queues }
+
+pub changed-more : {b c : Cube} {e : Configuration} {n : ℕ} {qs : List Queue} (f : Configuration → Configuration) → Changed c e n qs → Changed b (f (configurationOf c)) (c .count + 1) (c .queues) → Changed b (f e) (n + 1) qs
+changed-more f w h = record { configuration = h .configuration ∙ ap f (w .configuration); count = h .count ∙ ap (λ (k : ℕ). k + 1) (w .count); queues = h .queues ∙ w .queues }
+
+pub changed-remade : {r : Cube} {e : Configuration} {n : ℕ} {qs : List Queue} → Changed r e n qs → n ≤ 20 → Remade r e qs
+changed-remade w l = record { configuration = w .configuration; count = omega (arith, w .count); queues = w .queues }
 
 pub changed-cube : {r : Cube} {e : Configuration} {n : ℕ} {qs : List Queue} → Changed r e n qs → n ≤ 20 → ((i : ℕ) → i < 16 → getD qs i noQueue .count ≤ 9) → CubeFor r e
 changed-cube {r} w l q =

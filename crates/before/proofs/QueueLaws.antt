@@ -7,7 +7,7 @@ use mathlib.Core.List.{List, [], _∷_, map}
 use native.Mathlib.Omega.{arith}
 use native.Mathlib.Decide.{ℕ-discrete}
 use lib.ListN.{length, getD, set, take, length-map}
-use lib.Seq.{getD-set-same, getD-set-other}
+use lib.Seq.{getD-set-same, getD-set-other, take-take}
 use lib.Dec.{T, eqb, ltb}
 use borrow.Author.Tests.{ne-eqb, lt-ltb}
 use Rattle.pws.specs.Machine.{isEmpty, newestWaiting, newestOr}
@@ -93,6 +93,29 @@ module _ (q : Queue) where
             ∙ ap (λ (n : ℕ). withLast (take n (q .values)) x) (suc-less d);
         most = l;
       }
+
+-- ---- before a serialise
+
+eight : (xs : List ℕ) → length xs ≡ 9 → getD xs 0 0 ∷ getD xs 1 0 ∷ getD xs 2 0 ∷ getD xs 3 0 ∷ getD xs 4 0 ∷ getD xs 5 0 ∷ getD xs 6 0 ∷ getD xs 7 0 ∷ [] ≡ take 8 xs
+eight [] r = absurd (omega arith)
+eight (a ∷ []) r = absurd (omega arith)
+eight (a ∷ b ∷ []) r = absurd (omega arith)
+eight (a ∷ b ∷ c ∷ []) r = absurd (omega arith)
+eight (a ∷ b ∷ c ∷ d ∷ []) r = absurd (omega arith)
+eight (a ∷ b ∷ c ∷ d ∷ e ∷ []) r = absurd (omega arith)
+eight (a ∷ b ∷ c ∷ d ∷ e ∷ f ∷ []) r = absurd (omega arith)
+eight (a ∷ b ∷ c ∷ d ∷ e ∷ f ∷ g ∷ []) r = absurd (omega arith)
+eight (a ∷ b ∷ c ∷ d ∷ e ∷ f ∷ g ∷ h ∷ []) r = absurd (omega arith)
+eight (a ∷ b ∷ c ∷ d ∷ e ∷ f ∷ g ∷ h ∷ i ∷ []) r = refl
+eight (a ∷ b ∷ c ∷ d ∷ e ∷ f ∷ g ∷ h ∷ i ∷ x ∷ xs) r = absurd (omega arith)
+
+pub first-waits : (q : Queue) (x : ℕ) → length (q .values) ≡ 9 → q .count ≤ 8 → Waits (record { values = x ∷ getD (q .values) 0 0 ∷ getD (q .values) 1 0 ∷ getD (q .values) 2 0 ∷ getD (q .values) 3 0 ∷ getD (q .values) 4 0 ∷ getD (q .values) 5 0 ∷ getD (q .values) 6 0 ∷ getD (q .values) 7 0 ∷ []; count = q .count + 1 }) (x ∷ waitingOf q)
+first-waits q x e l =
+    let z : q .count + 1 ≡ suc (q .count) = omega arith in
+    record {
+      waiting = ap (λ (n : ℕ). take n (x ∷ getD (q .values) 0 0 ∷ getD (q .values) 1 0 ∷ getD (q .values) 2 0 ∷ getD (q .values) 3 0 ∷ getD (q .values) 4 0 ∷ getD (q .values) 5 0 ∷ getD (q .values) 6 0 ∷ getD (q .values) 7 0 ∷ [])) z ∙ ap (λ (ys : List ℕ). x ∷ ys) (ap (take (q .count)) (eight (q .values) e) ∙ take-take (q .count) 8 (q .values) l);
+      most = omega arith;
+    }
 
 -- ---- the room of all
 

@@ -15,6 +15,9 @@ use Rattle.before.specs.Changes.{withMemory, withQueues, withParts, Chan
 use Rattle.before.proofs.QueueLaws.{put-sizes}
 use Rattle.before.proofs.ChangeLaws.{cube-equal, changed-then, changed-cube}
 
+pub few-wait : (c : Cube) → Sizes c 8 → (p v : ℕ) → p < 4 → v < 4 → {q : Queue} → q ≡ getD (c .queues) (4 * p + v) noQueue → q .count ≤ 8
+few-wait c w p v a b e = omega (arith, ap (λ (q : Queue). q .count) e, w .queues (4 * p + v) (omega arith))
+
 pub small : (c : Cube) → Sizes c 8 → (p v : ℕ) → p < 4 → v < 4 → {q : Queue} → q ≡ getD (c .queues) (4 * p + v) noQueue → q .count ≤ 9
 small c w p v a b e = omega (arith, ap (λ (q : Queue). q .count) e, w .queues (4 * p + v) (omega arith))
 

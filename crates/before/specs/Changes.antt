@@ -31,6 +31,12 @@ pub record Changed (r : Cube) (e : Configuration) (n : ℕ) (qs : List Queue) : 
   pub count : r .count ≡ n
   pub queues : r .queues ≡ qs
 
+-- the same, and there is room for its messages
+pub record Remade (r : Cube) (e : Configuration) (qs : List Queue) : Type 0 where
+  pub configuration : configurationOf r ≡ e
+  pub count : r .count ≤ 20
+  pub queues : r .queues ≡ qs
+
 -- r stands for e, and there is room for it in a cube
 pub record CubeFor (r : Cube) (e : Configuration) : Type 0 where
   pub configuration : configurationOf r ≡ e

@@ -1,13 +1,14 @@
 -- Kinds of predecessor cubes as the code holds them, and the cubes that it takes them of.
 use Prim.Native.Nat.{ℕ, _<_, _≤_}
-use mathlib.Core.List.{List}
+use mathlib.Core.List.{List, _∷_}
 use mathlib.Core.Bool.{Bool, _&&_}
 use lib.ListN.{getD}
 use lib.Dec.{eqb}
 use Rattle.pws.specs.declared.Transition.{Transition}
 use Rattle.pws.specs.Program as pws
 use Rattle.pws.specs.Program.{OperationOf}
-use Rattle.pws.specs.Machine.{Configuration, put}
+use Rattle.pws.specs.Machine.{Configuration, put, putQueue}
+use Rattle.lists.specs.Cubes.{topmost}
 use Rattle.lists.specs.Predecessors as lists
 use Rattle.records.specs.declared.program.Shape.{Shape}
 use Rattle.records.specs.declared.entry.Cube.{Cube}
@@ -48,4 +49,17 @@ takeBefore e t k =
       state = put (e .state) (t .process) (t .from);
       queue = lists.queueBefore e (t .process) (t .operation) k;
       memory = lists.memoryBefore e (t .process) (t .operation) k;
+    }
+
+-- ---- a serialise of a process and a variable that exist
+
+abbrev pub hasSerialise : pws.Shape → Configuration → ℕ → ℕ → lists.Kind → Bool
+hasSerialise S e p v k = lists.serialised S (e .memory) p v && lists.serialiseKind (e .memory) p v k
+
+abbrev pub serialiseBefore : pws.Shape → Configuration → ℕ → ℕ → lists.Kind → Configuration
+serialiseBefore S e p v k =
+    record {
+      state = e .state;
+      queue = putQueue (e .queue) p v (getD (topmost (e .memory .channel) .snapshot) v 0 ∷ e .queue p v);
+      memory = lists.serialiseMemory S (e .memory) p v k;
     }

@@ -2,22 +2,23 @@
 // the theory of lists.
 ghost use mathlib.Core.Path.{_≡_};
 ghost use Prim.Native.Nat.{ℕ, _+_, _*_, _-_, _≤_, _<_, min, max};
-ghost use mathlib.Core.Bool.{cond, _&&_, _||_, not};
+ghost use mathlib.Core.Bool.{true, cond, _&&_, _||_, not};
 ghost use mathlib.Core.List.{[], _∷_};
 ghost use lib.ListN.{length, getD, set};
 ghost use lib.Dec.{eqb, ltb, leb};
 ghost use Rattle.pws.specs.Machine.{put, putQueue, message, labelled, lastLabelled, lastWrite, point, isEmpty, newestWaiting, newestOr, noneWaiting, allBelow, atNewest, sees};
 ghost use Rattle.pws.specs.Program.{OperationOf};
 ghost use Rattle.pws.specs.Insertion.{insert, up, insertInto};
+ghost use Rattle.pws.specs.Entries.{FF};
 ghost use Rattle.lists.specs.Values.{alike, meet, meetAll};
 ghost use Rattle.lists.specs.Cubes.{memoryOf, withValues, anyValue, anyMessage, setValue, withoutLast, withLast, topmost, older, alikeNewest};
 ghost use Rattle.lists.specs.Predecessors as lists;
-ghost use Rattle.lists.specs.Predecessors.{before, joined, replaced, arwMemory, swapped, arwKind, isUndone, writeKind, endsAlike, hasOperation, unwritten, queueBefore, readMemory, memoryBefore, updateKind, updateMemory};
+ghost use Rattle.lists.specs.Predecessors.{before, withoutNewest, joined, replaced, serialiseMemory, serialised, serialiseKind, arwMemory, swapped, arwKind, isUndone, writeKind, endsAlike, hasOperation, unwritten, queueBefore, readMemory, memoryBefore, updateKind, updateMemory};
 ghost use Rattle.records.specs.ProgramPart.{shapeOf};
 ghost use Rattle.records.specs.declared.program.Shape.{Shape};
 ghost use Rattle.records.specs.Cube.{noQueue, waitingOf, channelOf, configurationOf};
-ghost use Rattle.before.specs.Kinds.{kindOf, Sound, Named, hasTake, takeBefore};
-ghost use Rattle.before.specs.Changes.{withMemory, withQueues, withStates, withParts, withMessages, Changed, CubeFor, byNumber, allUp, Low, Room, Small, Waits, Sizes, Some, LastWrite};
+ghost use Rattle.before.specs.Kinds.{kindOf, Sound, Named, hasTake, takeBefore, hasSerialise, serialiseBefore};
+ghost use Rattle.before.specs.Changes.{withMemory, withQueues, withStates, withParts, withMessages, Changed, CubeFor, Remade, byNumber, allUp, Low, Room, Small, Waits, Sizes, Some, LastWrite};
 use matching::least;
 use matching::related;
 use matching::values_related;
@@ -721,6 +722,154 @@ pub fn before_take(shape: Shape, cube: Cube, transition: Transition, kind: Kind)
     let operation = transition.operation;
     let next = before_operation(cube, p, operation, kind);
     put_state(next, p, transition.from)
+}
+
+// ---- serialise
+
+// With one waiting value more, the oldest.
+pub fn with_first(queue: Queue, x: u8) -> Queue
+    ensures { λ r. ⌜ (Small queue 8 → Waits r (x ∷ waitingOf queue)) ⌝ }
+{
+    let n = queue.count;
+    if 9 <= n {
+        return queue;
+    }
+    let old = queue.values;
+    let values = [
+        x,
+        old[0],
+        old[1],
+        old[2],
+        old[3],
+        old[4],
+        old[5],
+        old[6],
+        old[7],
+    ];
+    Queue {
+        values: values,
+        count: n + 1,
+    }
+}
+
+// No process points at the newest message.
+pub fn none_at_newest(shape: Shape, cube: Cube) -> bool
+    ensures { λ r. ⌜ r ≡ allBelow (shape .processes) (λ q. not (atNewest (configurationOf cube .memory) q)) ⌝ }
+{
+    let n = shape.processes;
+    for q in 0..n {
+        if at_newest(cube, q) {
+            return false;
+        }
+    }
+    true
+}
+
+// The newest message is what a serialise of p and v made.
+pub fn serialised(shape: Shape, cube: Cube, p: usize, v: usize) -> bool
+    ensures { λ r. ⌜ (Some cube → r ≡ serialised (shapeOf shape) (configurationOf cube .memory) p v) ⌝ }
+{
+    let message = newest(cube);
+    let made = both(1 < cube.count, carries(message, p, v));
+    both(made, none_at_newest(shape, cube))
+}
+
+pub fn one_fewer(n: usize) -> usize
+    ensures { λ r. ⌜ r ≡ n - 1 ⌝ }
+{
+    if n == 0 {
+        return 0;
+    }
+    n - 1
+}
+
+// LastWrite without the newest message.
+pub fn older_write(cube: Cube, p: usize, v: usize) -> usize
+    ensures { λ r. ⌜ (cube .count ≤ 20 → r ≡ lastWrite (withoutNewest (configurationOf cube .memory)) p v) ⌝ }
+{
+    let pointers = cube.pointers;
+    let messages = cube.messages;
+    let pointer = of_four(pointers, p) as usize;
+    greatest(
+        pointer,
+        last_labelled(messages, one_fewer(cube.count), p, v),
+    )
+}
+
+pub fn has_inside(cube: Cube, p: usize, v: usize, k: u8) -> bool
+    ensures { λ r. ⌜ (Some cube → r ≡ serialiseKind (configurationOf cube .memory) p v (lists.inside k)) ⌝ }
+{
+    let number = k as usize;
+    let same = alike_older(cube, newest_with(cube, v, 255));
+    let past = both(
+        older_write(cube, p, v) < number,
+        number <= one_fewer(cube.count),
+    );
+    both(same, past)
+}
+
+pub fn serialise_kind(cube: Cube, p: usize, v: usize, kind: Kind) -> bool
+    ensures { λ r. ⌜ (Some cube → r ≡ serialiseKind (configurationOf cube .memory) p v (kindOf kind)) ⌝ }
+{
+    match kind {
+        Kind::Undone => alike_older(cube, newest_with(cube, v, 255)),
+        Kind::Waited => false,
+        Kind::Inside(k) => has_inside(cube, p, v, k),
+        Kind::OnTop(u) => (u as usize) == v,
+        Kind::Pointed(_, _) => false,
+    }
+}
+
+// Is there a cube of this kind before a serialise of p and v?
+pub fn has_serialise(shape: Shape, cube: Cube, p: u8, v: u8, kind: Kind) -> bool
+    ensures { λ r. ⌜ (Sound shape cube → r ≡ hasSerialise (shapeOf shape) (configurationOf cube) p v (kindOf kind)) ⌝ }
+{
+    let q = p as usize;
+    let w = v as usize;
+    both(
+        serialised(shape, cube, q, w),
+        serialise_kind(cube, q, w, kind),
+    )
+}
+
+fn unserialised(cube: Cube, v: usize) -> Cube
+    ensures { λ r. ⌜ (Some cube → Changed r (withMemory (configurationOf cube) (joined (configurationOf cube .memory) (before (configurationOf cube .memory) v FF))) (cube .count - 1) (cube .queues)) ⌝ }
+{
+    joined(cube, newest_with(cube, v, 255))
+}
+
+fn inside_before(shape: Shape, cube: Cube, p: u8, v: u8, k: u8) -> Cube
+    ensures { λ r. ⌜ (Sound shape cube → 1 ≤ k → k ≤ cube .count → Changed r (withMemory (configurationOf cube) (serialiseMemory (shapeOf shape) (configurationOf cube .memory) p v (lists.inside k))) (cube .count - 1 + 1) (cube .queues)) ⌝ }
+{
+    let next = unserialised(cube, v as usize);
+    inserted(next, k, any_message(shape, p, v))
+}
+
+fn serialise_memory(shape: Shape, cube: Cube, p: u8, v: u8, kind: Kind) -> Cube
+    ensures { λ r. ⌜ (Sound shape cube → serialiseKind (configurationOf cube .memory) p v (kindOf kind) ≡ true → Remade r (withMemory (configurationOf cube) (serialiseMemory (shapeOf shape) (configurationOf cube .memory) p v (kindOf kind))) (cube .queues)) ⌝ }
+{
+    match kind {
+        Kind::Undone => unserialised(cube, v as usize),
+        Kind::Waited => cube,
+        Kind::Inside(k) => inside_before(shape, cube, p, v, k),
+        Kind::OnTop(u) => replaced(cube, p, u, newest_with(cube, v as usize, 255)),
+        Kind::Pointed(_, _) => cube,
+    }
+}
+
+// That cube: the value is the oldest that waits, again.
+pub fn before_serialise(shape: Shape, cube: Cube, p: u8, v: u8, kind: Kind) -> Cube
+    ensures { λ r. ⌜ (Sound shape cube → p < shape .processes → v < shape .variables → serialiseKind (configurationOf cube .memory) p v (kindOf kind) ≡ true → CubeFor r (serialiseBefore (shapeOf shape) (configurationOf cube) p v (kindOf kind))) ⌝ }
+{
+    let q = p as usize;
+    let w = v as usize;
+    let message = newest(cube);
+    let snapshot = message.snapshot;
+    let value = of_four(snapshot, w);
+    let queues = cube.queues;
+    let queue = queue_at(queues, q, w);
+    let next = serialise_memory(shape, cube, p, v, kind);
+    put_queue(next, q, w, with_first(queue, value))
 }
 
 // ---- update
