@@ -1,0 +1,127 @@
+-- Each row of the table of worked cases holds.
+use Prim.Native.Nat.{ℕ, suc, _+_, _-_, _≤_}
+use mathlib.Core.Path.{_≡_, refl, ap, _∙_}
+use mathlib.Core.List.{List, [], _∷_}
+use native.Mathlib.Omega.{arith}
+use lib.ListN.{length}
+use lib.Dec.{eqb}
+use borrow.Author.Tests.{le-ltb}
+use Rattle.pws.specs.Order.{QueueBelow}
+use Rattle.pws.proofs.Queues.{keep, skip, nothing, queue-of}
+use Rattle.records.specs.declared.program.Program.{Program}
+use Rattle.records.specs.Bytes.{choose, byte, cut}
+use Rattle.records.specs.Records.{
+  firstNumber,
+  checked,
+  isKind,
+  inRange,
+  shapeNumber,
+  statesNumber,
+  valueExists,
+  allZero,
+  operationNames,
+  operationOf,
+  transitionNames,
+  transitionNumber,
+  stateName,
+  stateNames,
+  targetNumber,
+  claimNumber,
+  stepBody,
+  stepNames,
+  stepNumber,
+  stepAt,
+  pointerName,
+  pointerNames,
+  entryNumber,
+  valueName,
+  valueNames,
+  messageNames,
+  waitingNames,
+  messageNumber,
+  waitingNumber,
+}
+use Rattle.records.specs.ProgramPart.{unlessEnd, statesFrom, rowFrom, transitionsFrom, atClaim, targetsFrom, rowsFrom, restFrom, programFrom}
+use Rattle.records.specs.EvidencePart.{
+  stepsFrom,
+  stepsOf,
+  extended,
+  bodySize,
+  bodyNumber,
+  pointerFits,
+  pointsFirst,
+  pointersFit,
+  someFirst,
+  complete,
+  atBoundary,
+  finished,
+  entryFrom,
+  entryRead,
+  entriesFrom,
+  allowed,
+}
+use Rattle.records.specs.Reading.{Evidence, entries, steps, claimThen, evidenceFrom, programThen, partsOf, partsRead, readFile}
+use Rattle.judge.specs.Judge.{Verdict, ofFile, judged}
+use Rattle.judge.specs.Cases.{Row, file, below, notBelow, Holds, caseA, Each, no-row, row, cases}
+
+-- case A has 100 bytes
+pub A-length : length caseA ≡ 100
+A-length = refl
+
+-- ---- with any number of entries allowed
+
+abbrev evidenceWith : List ℕ → ℕ → Program → ℕ → Evidence
+evidenceWith f at p n =
+    claimThen (unlessEnd f at (checked (claimNumber f at) at)) (λ _.
+    choose (eqb (byte f (at + 1)) 0)
+    (λ _. entries (entriesFrom n (p .shape) (p .states) f (at + 2) [] []))
+    (λ _. steps (stepsFrom (p .shape) (p .transitions .count) f (at + 2))))
+
+abbrev judgedWith : List ℕ → ℕ → Verdict
+judgedWith f n = ofFile (partsRead f (programThen (programFrom f 0) (λ p. evidenceWith f (p .claim) p n)))
+
+judged-with : (f : List ℕ) (area : ℕ) → 32768 ≤ area → judged f area ≡ judgedWith f (allowed area)
+unfolding judged readFile partsOf evidenceFrom
+judged-with f area l = rw (le-ltb area 32768 l)
+
+-- six are allowed at least, and no row has more
+many : (area : ℕ) → 32768 ≤ area → (k : ℕ) × (allowed area ≡ suc (suc (suc (suc (suc (suc k))))))
+unfolding allowed
+many area l = (allowed area - 6, omega arith)
+
+-- ---- what is computed
+
+abbrev Right : ℕ → Row → Type 0
+Right k (file f v) = judgedWith f (suc (suc (suc (suc (suc (suc k)))))) ≡ v
+Right k (below xs ys) = QueueBelow xs ys
+Right k (notBelow xs ys) = QueueBelow xs ys → ⊥
+
+abbrev AllRight : ℕ → List Row → Type 0
+AllRight k [] = Unit {0}
+AllRight k (r ∷ rs) = Right k r × AllRight k rs
+
+K-below : QueueBelow (1 ∷ []) (0 ∷ 1 ∷ [])
+K-below = queue-of (skip (keep refl nothing))
+
+K-not-below : QueueBelow (1 ∷ []) (1 ∷ 0 ∷ []) → ⊥
+K-not-below q = let e = q .end in let z : _≡_ {A = ℕ} 0 1 = cc in omega arith
+
+rows-computed : (k : ℕ) → AllRight k cases
+unfolding firstNumber checked isKind inRange shapeNumber statesNumber valueExists allZero operationNames operationOf transitionNames transitionNumber stateName stateNames targetNumber claimNumber stepBody stepNames stepNumber stepAt pointerName pointerNames entryNumber valueName valueNames messageNames waitingNames messageNumber waitingNumber unlessEnd statesFrom rowFrom transitionsFrom atClaim targetsFrom rowsFrom restFrom programFrom stepsFrom stepsOf extended bodySize bodyNumber pointerFits pointsFirst pointersFit someFirst complete atBoundary finished entryFrom entryRead entriesFrom cut
+rows-computed k =
+    (refl, (refl, (refl, (refl, (refl, (refl, (refl, (refl, (refl, (refl, (refl, (refl, (refl, (refl, (refl, (K-below, (K-not-below, (refl, (refl, (refl, (refl, (refl, (refl, (refl, (refl, (refl, tt))))))))))))))))))))))))))
+
+-- ---- the table
+
+holds : (r : Row) → ((k : ℕ) → Right k r) → Holds r
+unfolding Holds
+holds (file f v) h = λ area l. let m = many area l in judged-with f area l ∙ ap (judgedWith f) (m .1) ∙ h (m .0)
+holds (below xs ys) h = h 0
+holds (notBelow xs ys) h = h 0
+
+each-holds : (rs : List Row) → ((k : ℕ) → AllRight k rs) → Each Holds rs
+each-holds [] h = no-row
+each-holds (r ∷ rs) h = row (holds r (λ k. h k .0)) (each-holds rs (λ k. h k .1))
+
+pub cases-hold : Each Holds cases
+cases-hold = each-holds cases rows-computed

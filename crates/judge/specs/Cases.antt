@@ -1,0 +1,153 @@
+-- The worked cases A to K of document 01 ("Judged files") and small examples of its refusal table, as one table with one statement. Files are
+-- rows of bytes, K is two facts about queues. Bytes are in decimal: 15 is 0F, 16 to 18 are 10 to 12, 32 to 34 are 20 to 22, 255 is FF.
+use Prim.Native.Nat.{ℕ, zero, suc, _≤_}
+use mathlib.Core.Path.{_≡_}
+use mathlib.Core.List.{List, [], _∷_, _++_}
+use Rattle.pws.specs.Order.{QueueBelow}
+use Rattle.judge.specs.Judge.{Verdict, safe, reachable, refused, judged}
+
+-- ---- rows and what they say
+
+pub data Row : Type 0 where
+  -- a file and its verdict
+  file : List ℕ → Verdict → Row
+  -- the first queue is below the second, or is not
+  below : List ℕ → List ℕ → Row
+  notBelow : List ℕ → List ℕ → Row
+
+-- with every work area that is not refused
+unfoldable pub Holds : Row → Type 0
+Holds (file f v) = (area : ℕ) → 32768 ≤ area → judged f area ≡ v
+Holds (below xs ys) = QueueBelow xs ys
+Holds (notBelow xs ys) = QueueBelow xs ys → ⊥
+
+-- ---- records
+
+-- one process with two states, one variable with two values
+abbrev pub small : List ℕ
+small = 1 ∷ 1 ∷ 1 ∷ 2 ∷ 2 ∷ 2 ∷ 0 ∷ []
+
+-- two processes with three states, two variables with two values
+abbrev pub double : List ℕ
+double = 1 ∷ 2 ∷ 2 ∷ 2 ∷ 2 ∷ 3 ∷ 0 ∷ 2 ∷ 3 ∷ 0 ∷ []
+
+-- one process with three states, one variable with two values
+abbrev pub single : List ℕ
+single = 1 ∷ 1 ∷ 1 ∷ 2 ∷ 2 ∷ 3 ∷ 0 ∷ []
+
+-- process, from, operation, variable, value, to; the new value is 0
+abbrev pub goes : ℕ → ℕ → ℕ → ℕ → ℕ → ℕ → List ℕ
+goes p from operation v x to = 3 ∷ p ∷ from ∷ operation ∷ v ∷ x ∷ 0 ∷ to ∷ []
+
+abbrev pub target : ℕ → ℕ → List ℕ
+target q r = 4 ∷ q ∷ r ∷ 0 ∷ 0 ∷ []
+
+abbrev pub claim : ℕ → List ℕ
+claim x = 15 ∷ x ∷ []
+
+-- an entry of one process, whose pointer is 1
+abbrev pub entry : ℕ → List ℕ
+entry q = 16 ∷ q ∷ 0 ∷ 0 ∷ 0 ∷ 1 ∷ 0 ∷ 0 ∷ 0 ∷ []
+
+abbrev pub message : List ℕ
+message = 17 ∷ 0 ∷ 0 ∷ 255 ∷ 0 ∷ 0 ∷ 0 ∷ []
+
+abbrev pub waiting : ℕ → List ℕ
+waiting x = 18 ∷ 0 ∷ 0 ∷ x ∷ []
+
+abbrev pub take : ℕ → List ℕ
+take n = 32 ∷ n ∷ []
+
+abbrev pub serialise : ℕ → ℕ → List ℕ
+serialise p v = 33 ∷ p ∷ v ∷ []
+
+abbrev pub update : ℕ → List ℕ
+update p = 34 ∷ p ∷ []
+
+-- ---- files
+
+-- the four entries of A, in state q
+abbrev pub first : ℕ → List ℕ
+first q = entry q ++ message
+
+abbrev pub second : ℕ → ℕ → List ℕ
+second q x = entry q ++ message ++ waiting x
+
+abbrev pub others : ℕ → List ℕ
+others q = entry q ++ message ++ message ++ entry q ++ message ++ message ++ waiting 255
+
+abbrev pub four : ℕ → List ℕ
+four q = first q ++ second q 255 ++ others q
+
+abbrev pub caseA : List ℕ
+caseA = small ++ target 1 0 ++ claim 0 ++ four 1
+
+-- E's transition
+abbrev pub nop : List ℕ
+nop = goes 0 0 0 0 0 1
+
+-- process 0 writes variable 0 := 1, then variable 1 := 1; process 1 reads variable 1 as 1, then variable 0 as 0
+abbrev pub programG : List ℕ
+programG = double ++ goes 0 0 2 0 1 1 ++ goes 0 1 2 1 1 2 ++ goes 1 0 1 1 1 1 ++ goes 1 1 1 0 0 2 ++ target 2 2
+
+-- an sfence between the writes
+abbrev pub programJ : List ℕ
+programJ =
+    1 ∷ 2 ∷ 2 ∷ 2 ∷ 2 ∷ 4 ∷ 0 ∷ 2 ∷ 3 ∷ 0 ∷ []
+    ++ goes 0 0 2 0 1 1 ++ goes 0 1 4 0 0 2 ++ goes 0 2 2 1 1 3 ++ goes 1 0 1 1 1 1 ++ goes 1 1 1 0 0 2 ++ target 3 2
+
+-- one process writes 1; then it may read 1, read 0, or pass an sfence or an mfence
+abbrev pub programH : List ℕ
+programH = single ++ goes 0 0 2 0 1 1 ++ goes 0 1 1 0 1 2 ++ goes 0 1 1 0 0 2 ++ goes 0 1 4 0 0 2 ++ goes 0 1 3 0 0 2 ++ target 2 0
+
+abbrev pub targets : ℕ → List ℕ
+targets zero = []
+targets (suc n) = target 1 0 ++ targets n
+
+-- ---- the table
+
+pub data Each (F : Row → Type 0) : List Row → Type 0 where
+  no-row : Each F []
+  row : {r : Row} {rs : List Row} → F r → Each F rs → Each F (r ∷ rs)
+
+abbrev pub cases : List Row
+cases =
+    -- A
+    file caseA (safe 4)
+    -- B: without its second entry
+    ∷ file (small ++ target 1 0 ++ claim 0 ++ first 1 ++ others 1) (refused 9 0)
+    -- C: the second entry's waiting value is 0
+    ∷ file (small ++ target 1 0 ++ claim 0 ++ first 1 ++ second 1 0 ++ others 1) (refused 9 0)
+    -- D: the second entry twice, with 0 and with 1
+    ∷ file (small ++ target 1 0 ++ claim 0 ++ first 1 ++ second 1 0 ++ second 1 1 ++ others 1) (safe 5)
+    -- E: with a transition; and as a run
+    ∷ file (small ++ nop ++ target 1 0 ++ claim 0 ++ four 1) (refused 11 0)
+    ∷ file (small ++ nop ++ target 1 0 ++ claim 1 ++ take 0) (reachable 1 0)
+    -- F: target and entries in state 0; and as a run
+    ∷ file (small ++ target 0 0 ++ claim 0 ++ four 0) (refused 10 0)
+    ∷ file (small ++ target 0 0 ++ claim 1) (reachable 0 0)
+    -- G
+    ∷ file (programG ++ claim 1 ++ take 0 ++ take 1 ++ serialise 0 1 ++ update 1 ++ take 2 ++ take 3) (reachable 6 0)
+    -- H: read 1 with the pointer still at 1; reading 0 there is not permitted
+    ∷ file (programH ++ claim 1 ++ take 0 ++ serialise 0 0 ++ take 1) (reachable 3 0)
+    ∷ file (programH ++ claim 1 ++ take 0 ++ serialise 0 0 ++ take 2) (refused 12 2)
+    -- I: after that serialise sfence is permitted and mfence is not; after one update mfence is
+    ∷ file (programH ++ claim 1 ++ take 0 ++ serialise 0 0 ++ take 3) (reachable 3 0)
+    ∷ file (programH ++ claim 1 ++ take 0 ++ serialise 0 0 ++ take 4) (refused 12 2)
+    ∷ file (programH ++ claim 1 ++ take 0 ++ serialise 0 0 ++ update 0 ++ take 4) (reachable 4 0)
+    -- J
+    ∷ file (programJ ++ claim 1 ++ take 0 ++ take 1) (refused 12 1)
+    -- K
+    ∷ below (1 ∷ []) (0 ∷ 1 ∷ [])
+    ∷ notBelow (1 ∷ []) (1 ∷ 0 ∷ [])
+    -- the refusal table's small examples of 2, 1, 5, 3, 4, 7, 6, 9 and 13
+    ∷ file (7 ∷ []) (refused 2 0)
+    ∷ file (1 ∷ 1 ∷ []) (refused 1 0)
+    ∷ file (small ++ targets 17) (refused 5 87)
+    ∷ file (1 ∷ 0 ∷ 1 ∷ 2 ∷ []) (refused 3 0)
+    ∷ file (1 ∷ 1 ∷ 1 ∷ 2 ∷ 2 ∷ 2 ∷ 0 ∷ 4 ∷ 2 ∷ 0 ∷ 0 ∷ 0 ∷ []) (refused 4 7)
+    ∷ file (small ++ target 1 0 ++ claim 0 ++ (16 ∷ 1 ∷ 0 ∷ 0 ∷ 0 ∷ 0 ∷ 0 ∷ 0 ∷ 0 ∷ []) ++ message) (refused 7 14)
+    ∷ file [] (refused 6 0)
+    ∷ file (small ++ target 1 0 ++ claim 0) (refused 9 0)
+    ∷ file (small ++ target 1 0 ++ claim 1) (refused 13 0)
+    ∷ []
