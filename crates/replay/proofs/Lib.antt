@@ -7,3 +7,4 @@ pub mod Answering
 pub mod Holding
 pub mod Stepping
 pub mod Replaying
+pub mod Cases

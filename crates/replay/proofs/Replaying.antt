@@ -30,7 +30,7 @@ use Rattle.replay.specs.declared.run.RunAnswer.{RunAnswer}
 use Rattle.replay.specs.declared.run.RunAnswer.the-variants.{Reachable, Stopped, Missed}
 use Rattle.replay.specs.Replay as run
 use Rattle.replay.specs.Causes.{stepAnswer, isPermitted}
-use Rattle.replay.specs.Answers.{verdictOfRun, lastAnswer, answerThen, answerFrom, runAnswer}
+use Rattle.replay.specs.Answers.{verdictOfRun, lastAnswer, answerThen, answerFrom, runAnswer, RunOf}
 use Rattle.replay.specs.Layout.{snapshotAt, putSnapshot, waitingAt, moveOf, answerIn, runAfter, rowsAfter, areaAfter}
 use Rattle.replay.specs.Loop.{agreesIn, inTargetIn, nextTarget, nextStep, lastFrom, lastIn, firstRun, firstRows, runFrom, replayIn}
 use Rattle.replay.proofs.AreaLaws.{snapshot-length}
@@ -90,7 +90,7 @@ steps-next f n at = elim (decLe (length f) at) [
   | no l ↦ rw (lt-leb (length f) at (omega arith))
 ]
 
-steps-length : (f : List ℕ) (n at : ℕ) → length (stepsOf f at n) ≡ n
+pub steps-length : (f : List ℕ) (n at : ℕ) → length (stepsOf f at n) ≡ n
 unfolding stepsOf
 steps-length f zero at = refl
 steps-length f (suc n) at = ap suc (steps-length f n (at + (1 + stepBody f at)))
@@ -253,3 +253,6 @@ pub replay-right : (f : List ℕ) (p : Program) → pws.ProgramInRange (programO
 replay-right f p R four at count few a room =
     all-steps f p R count count 0 at (firstRun (p .initial)) firstRows (putSnapshot a 1 (replicate 4 0)) (startWith (programOf f p) 0 0) (first-kept f p R four a room) (omega arith)
     ∙ ap (λ (n : ℕ). answerFrom (programOf f p) (targetsOf f p) n 0 (startWith (programOf f p) 0 0) (stepsOf f at count)) (sym (steps-length f count at))
+
+pub run-of : {r : RunAnswer} (P : pws.Program) (ts : List (ℕ → ℕ)) (ss : List Step) → r ≡ runAnswer P ts ss → RunOf r P ts ss
+run-of P ts ss e = record { answer = e; verdict = ap verdictOfRun e ∙ answer-verdict P ts ss }

@@ -1,5 +1,6 @@
 -- The verdict of a run as the code gives it: with the cause, where a step is refused.
 use Prim.Native.Nat.{ℕ, suc}
+use mathlib.Core.Path.{_≡_}
 use mathlib.Core.Option.{Option, none, some}
 use mathlib.Core.List.{List, [], _∷_}
 use lib.ListN.{length}
@@ -11,7 +12,7 @@ use Rattle.replay.specs.declared.step.Answer.{Answer}
 use Rattle.replay.specs.declared.step.Answer.the-variants.{Permitted, Refused}
 use Rattle.replay.specs.declared.run.RunAnswer.{RunAnswer}
 use Rattle.replay.specs.declared.run.RunAnswer.the-variants.{Reachable, Stopped, Missed}
-use Rattle.replay.specs.Replay.{RunVerdict, reachable, stopped, missed, lowestMet}
+use Rattle.replay.specs.Replay.{RunVerdict, reachable, stopped, missed, lowestMet, runVerdict}
 use Rattle.replay.specs.Causes.{stepAnswer}
 
 -- what document 01 says of it
@@ -36,3 +37,8 @@ answerFrom P ts n k c (s ∷ ss) = answerThen (stepAnswer P c s) k (λ _. answer
 -- `answer-verdict` says that this is the verdict of specs/Replay.antt
 abbrev pub runAnswer : Program → List (ℕ → ℕ) → List Step → RunAnswer
 runAnswer P ts ss = answerFrom P ts (length ss) 0 (startWith P 0 0) ss
+
+-- the answer to a run: with the cause, and document 01's verdict
+pub record RunOf (r : RunAnswer) (P : Program) (ts : List (ℕ → ℕ)) (ss : List Step) : Type 0 where
+  pub answer : r ≡ runAnswer P ts ss
+  pub verdict : verdictOfRun r ≡ runVerdict P ts ss

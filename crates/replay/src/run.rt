@@ -5,7 +5,7 @@ ghost use lib.ListN.{length, getD, replicate};
 ghost use Rattle.pws.specs.Program.{ProgramInRange};
 ghost use Rattle.records.specs.ProgramPart.{programOf, targetsOf};
 ghost use Rattle.records.specs.EvidencePart.{stepsOf};
-ghost use Rattle.replay.specs.Answers.{runAnswer};
+ghost use Rattle.replay.specs.Answers.{runAnswer, RunOf};
 ghost use Rattle.replay.specs.Loop.{agreesIn, inTargetIn, nextTarget, nextStep, lastFrom, lastIn, stoppedBy, firstRun, firstRows, replayIn};
 use crate::area::clear;
 use crate::area::put_snapshot;
@@ -18,6 +18,7 @@ use crate::step::step_answer;
 use crate::step::store;
 use records::bytes::both;
 use records::bytes::field;
+use records::evidence::Contents;
 use records::evidence::either;
 use records::evidence::step_at;
 use records::evidence::step_body;
@@ -173,4 +174,15 @@ pub fn replay_steps(
     };
     clear(lower);
     verdict
+}
+
+// The run of a file whose claim is 1.
+pub fn replay(file: &[u8], contents: Contents, lower: &mut [u8]) -> RunAnswer
+    ensures { λ r. ⌜ r ≡ replayIn (now (file .entry)) (contents .program) (contents .evidence .at) (contents .evidence .count) (now (lower .entry)) ⌝ }
+    ensures { λ r. ⌜ now (lower .exit) ≡ replicate (length (now (lower .entry))) 0 ⌝ }
+    ensures { λ r. ⌜ (ProgramInRange (programOf (now (file .entry)) (contents .program)) → contents .evidence .count ≤ 1024 → length (now (lower .entry)) ≡ 16384 → RunOf r (programOf (now (file .entry)) (contents .program)) (targetsOf (now (file .entry)) (contents .program)) (stepsOf (now (file .entry)) (contents .evidence .at) (contents .evidence .count))) ⌝ }
+{
+    let program = contents.program;
+    let steps = contents.evidence;
+    replay_steps(file, program, steps.at, steps.count, lower)
 }

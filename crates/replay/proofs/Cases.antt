@@ -1,0 +1,43 @@
+-- Each row of the table of worked cases holds.
+use mathlib.Core.Path.{_≡_, refl}
+use Rattle.records.specs.Bytes.{cut}
+use Rattle.records.specs.Records.{
+  firstNumber,
+  checked,
+  isKind,
+  inRange,
+  shapeNumber,
+  statesNumber,
+  valueExists,
+  allZero,
+  operationNames,
+  operationOf,
+  transitionNames,
+  transitionNumber,
+  stateName,
+  stateNames,
+  targetNumber,
+  claimNumber,
+  stepBody,
+  stepNames,
+  stepNumber,
+  stepAt,
+}
+use Rattle.records.specs.ProgramPart.{unlessEnd, statesFrom, rowFrom, transitionsFrom, atClaim, targetsFrom, rowsFrom, restFrom, programFrom}
+use Rattle.records.specs.EvidencePart.{stepsFrom, stepsOf}
+use Rattle.records.specs.Reading.{evidenceFrom, partsOf, readFile}
+use Rattle.replay.specs.Cases.{ofRun, Holds, Each, no-row, row, cases}
+
+pub cases-hold : Each Holds cases
+unfolding Holds ofRun readFile partsOf evidenceFrom programFrom restFrom rowsFrom statesFrom transitionsFrom targetsFrom atClaim rowFrom unlessEnd stepsFrom stepsOf stepAt stepNumber stepNames stepBody claimNumber targetNumber stateNames stateName transitionNumber transitionNames operationNames operationOf allZero valueExists statesNumber shapeNumber inRange isKind checked firstNumber cut
+cases-hold =
+    row refl
+    (row refl
+    (row refl
+    (row refl
+    (row refl
+    (row refl
+    (row refl
+    (row refl
+    (row refl
+    (row refl no-row)))))))))
