@@ -180,7 +180,7 @@ fn main() {
     };
     for (first, second) in [(1, 1), (2, 1), (5, 1), (5, 2), (5, 4)] {
         let program = rounds(first, second);
-        let entries = search::closed_list(&program, 524_288).expect("a closed list");
+        let entries = search::closed_list(&program, &[], 524_288).expect("a closed list");
         let pairs = first as usize * second as usize;
         let what = format!("list of {} entries, {} local states", entries.len(), pairs);
         list(&what, &format!("list-{}", entries.len()), writing::list_file(&program, &entries), entries.len(), if pairs < 5 { 3 } else { 1 });

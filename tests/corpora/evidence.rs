@@ -57,7 +57,7 @@ fn main() {
         })
         .unwrap_or_else(|(n, place)| panic!("refused {} {}", n, place));
     let out = match words[1].as_str() {
-        "safe" => search::closed_list(&program, number).map(|list| writing::list_file(&program, &list)),
+        "safe" => search::closed_list(&program, &[], number).map(|list| writing::list_file(&program, &list)),
         _ => match shortest_run(&program, number) {
             Ok(run) => Some(writing::run_file(&program, &run)),
             Err(seen) => {

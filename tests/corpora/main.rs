@@ -2,6 +2,7 @@
 //! compare brute SEED COUNT        the separate judge's two algorithms against each other
 //! compare corpora SEED [JUDGES]   the corpora
 //! JUDGES: --caller PROGRAM (the exported function through C), --program PROGRAM (standard input to one line).
+//! --first: stop at the first difference.
 //! Every line is compared with the separate judge's. Exit status 0 if all agree.
 
 mod fixed;
@@ -58,6 +59,8 @@ fn program_line(name: &str, file: &[u8]) -> String {
 
 struct Judges {
     caller: Option<Caller>,
+    /// Stop at the first difference.
+    first: bool,
     program: Option<String>,
     judged: usize,
     by_caller: usize,
@@ -74,7 +77,7 @@ impl Judges {
             let _ = std::fs::write(&kept, file);
             println!("{}: area {}: {} says '{}', wanted '{}' ({}, {} bytes)", what, area, who, got, wanted, kept, file.len());
         }
-        if got.starts_with("the caller ended") {
+        if self.first || got.starts_with("the caller ended") {
             println!("stopped");
             std::process::exit(1);
         }
@@ -217,7 +220,7 @@ fn brute_force(seed: u64, count: usize, judges: &mut Judges) {
             18 => (1, 1, 1),
             _ => (2, 1, 1),
         };
-        let (program, entries) = random::list(&mut r, processes, variables, values, 400);
+        let (program, entries) = random::list(&mut r, processes, variables, values, 400, number % 3 == 0);
         for variant in 0..6 {
             let (program, entries) =
                 if variant == 0 { (program.clone(), entries.clone()) } else { random::spoilt_list(&mut r, &program, &entries) };
@@ -285,6 +288,7 @@ fn main() {
     let mut judges = Judges {
         caller: after("--caller").map(|name| Caller::new(&name)),
         program: after("--program"),
+        first: words.iter().any(|w| w == "--first"),
         judged: 0,
         by_caller: 0,
         by_program: 0,

@@ -162,8 +162,32 @@ pub fn damaged_bytes(r: &mut Random, file: &[u8]) -> Vec<u8> {
     file
 }
 
-/// A closed list for a random program; usually no start is above it.
-pub fn list(r: &mut Random, processes: usize, variables: usize, values: u8, most: usize) -> (Program, Vec<Configuration>) {
+/// An entry of local states that are no target, with waiting values: a set that is neither empty nor everything of these states. The more
+/// queues hold values, the fewer entries a closed list needs for it.
+fn further_entry(r: &mut Random, program: &Program) -> Option<Configuration> {
+    let states = (0..10).map(|_| random_states(r, program)).find(|states| !program.targets.contains(states))?;
+    let messages = 1 + r.below(2);
+    let channel = (0..messages)
+        .map(|_| Message {
+            process: r.below(program.processes) as u8,
+            variable: r.below(program.variables) as u8,
+            snapshot: random_snapshot(r, program),
+        })
+        .collect();
+    let mut pointers = [0; 4];
+    for p in 0..program.processes {
+        pointers[p] = 1 + r.below(messages);
+    }
+    pointers[r.below(program.processes)] = 1;
+    let spared = if program.processes == 1 && r.one_in(2) { r.below(program.variables) } else { 4 };
+    let queues = (0..program.processes * program.variables)
+        .map(|queue| (0..if queue == spared { 0 } else { 1 + r.below(2) }).map(|_| random_value(r, program)).collect())
+        .collect();
+    Some(Configuration { states, queues, channel, pointers })
+}
+
+/// A closed list for a random program; usually no start is above it and it holds more than the targets.
+pub fn list(r: &mut Random, processes: usize, variables: usize, values: u8, most: usize, given: bool) -> (Program, Vec<Configuration>) {
     let (reached_too, targets_only) = (r.one_in(8), r.one_in(8));
     for tries in 0.. {
         let states = 2 + r.below(2);
@@ -174,7 +198,8 @@ pub fn list(r: &mut Random, processes: usize, variables: usize, values: u8, most
             continue;
         }
         program.targets.truncate(if processes == 2 || variables == 3 { 1 } else { 2 });
-        if let Some(entries) = closed_list(&program, most) {
+        let further: Vec<Configuration> = if given { further_entry(r, &program).into_iter().collect() } else { Vec::new() };
+        if let Some(entries) = closed_list(&program, &further, most) {
             let further = entries.iter().any(|entry| !program.targets.contains(&entry.states));
             if reached_too || (further || targets_only) && !entries.iter().any(|entry| start_above(&program, entry)) {
                 return (program, entries);
@@ -207,6 +232,14 @@ fn random_value(r: &mut Random, program: &Program) -> u8 {
     } else {
         r.below(program.values as usize) as u8
     }
+}
+
+fn random_snapshot(r: &mut Random, program: &Program) -> [u8; 4] {
+    let mut snapshot = [0; 4];
+    for value in &mut snapshot[..program.variables] {
+        *value = random_value(r, program);
+    }
+    snapshot
 }
 
 /// One of the ways to spoil a list, or to write the same set otherwise.
@@ -275,10 +308,7 @@ pub fn spoilt_list(r: &mut Random, program: &Program, entries: &[Configuration])
                     _ => {
                         while more.channel.len() < 16 {
                             let place = r.below(more.channel.len() + 1);
-                            let mut snapshot = [0; 4];
-                            for value in &mut snapshot[..program.variables] {
-                                *value = random_value(r, &program);
-                            }
+                            let snapshot = random_snapshot(r, &program);
                             let process = r.below(program.processes) as u8;
                             let variable = r.below(program.variables) as u8;
                             more.channel.insert(place, Message { process, variable, snapshot });
@@ -342,17 +372,26 @@ pub fn spoilt_list(r: &mut Random, program: &Program, entries: &[Configuration])
     (program, entries)
 }
 
-/// How many programs of a shape, how many spoilt variants of each list, and the longest list. A judge that compares each predecessor with
-/// the whole list needs seconds for a few hundred entries, so the larger shapes are few.
-const LISTS: [(usize, usize, usize, usize, usize); 5] =
-    [(1, 1, 200, 12, 200), (1, 2, 30, 10, 100), (1, 2, 10, 6, 250), (1, 3, 4, 5, 500), (2, 1, 4, 5, 500)];
+/// Shape, how many programs of it, how many spoilt variants of each list, the longest list, and whether an entry is given beside the
+/// targets. A judge that compares each predecessor with the whole list needs seconds for many hundred entries, so the longer lists are few.
+const LISTS: [(usize, usize, usize, usize, usize, bool); 9] = [
+    (1, 1, 150, 12, 200, false),
+    (1, 1, 50, 12, 200, true),
+    (1, 2, 30, 10, 100, false),
+    (1, 2, 10, 10, 250, true),
+    (1, 3, 2, 5, 500, false),
+    (1, 3, 2, 5, 500, true),
+    (2, 1, 2, 5, 500, false),
+    (2, 1, 10, 8, 400, true),
+    (2, 1, 2, 2, 900, true),
+];
 
 /// Closed lists of the shapes that can be accepted, with spoilt ones.
 pub fn lists(r: &mut Random, each: &mut dyn FnMut(&Program, &[Configuration])) {
-    for (processes, variables, programs, variants, most) in LISTS {
+    for (processes, variables, programs, variants, most, given) in LISTS {
         for _ in 0..programs {
             let values = 1 + r.below(if variables == 1 { 4 } else { 3 }) as u8;
-            let (program, entries) = list(r, processes, variables, values, most);
+            let (program, entries) = list(r, processes, variables, values, most, given);
             each(&program, &entries);
             for _ in 0..variants {
                 let (program, entries) = spoilt_list(r, &program, &entries);

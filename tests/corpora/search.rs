@@ -3,9 +3,9 @@
 use reference::cubes::{least, predecessors, Index};
 use reference::{Configuration, Program};
 
-/// Entries that hold every target and every predecessor; None if the list outgrows `most` entries or what an entry can hold.
-/// A start may be above the list: then a target can be reached, and the judge says 10.
-pub fn closed_list(program: &Program, most: usize) -> Option<Vec<Configuration>> {
+/// Entries that hold every target, the entries given and every predecessor; None if the list outgrows `most` entries or what an entry can
+/// hold. A start may be above the list: then a target can be reached, and the judge says 10.
+pub fn closed_list(program: &Program, given: &[Configuration], most: usize) -> Option<Vec<Configuration>> {
     let mut index = Index::new(program);
     for (number, target) in program.targets.iter().enumerate() {
         if program.targets[..number].contains(target) {
@@ -16,6 +16,11 @@ pub fn closed_list(program: &Program, most: usize) -> Option<Vec<Configuration>>
             index.len() <= most
         }) {
             return None;
+        }
+    }
+    for entry in given {
+        if !index.holds(entry) {
+            index.add(entry.clone());
         }
     }
     let steps = program.all_steps();
