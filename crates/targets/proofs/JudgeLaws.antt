@@ -16,7 +16,7 @@ use Rattle.lists.specs.Lists.{forBelow, every}
 use Rattle.lists.specs.Decision.{held}
 use Rattle.matching.proofs.Below.{and-false}
 use Rattle.contents.specs.Again.{entriesOf}
-use Rattle.targets.specs.Search.{Searchable}
+use Rattle.cover.specs.Search.{Searchable}
 use Rattle.targets.specs.ShapeCube.{Roomy}
 use Rattle.targets.specs.Walk.{Judges}
 use Rattle.targets.proofs.ListLaws.{every-append, every-one}

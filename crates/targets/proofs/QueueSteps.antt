@@ -13,7 +13,7 @@ use Rattle.lists.specs.Shapes.{queueShapes}
 use Rattle.lists.specs.Decision.{held}
 use Rattle.targets.specs.ShapeCube.{Roomy, outlineOf, emptyShape, ShapeCube, withWaiting}
 use Rattle.contents.specs.Again.{entriesOf}
-use Rattle.targets.specs.Search.{Searchable}
+use Rattle.cover.specs.Search.{Searchable}
 use Rattle.targets.specs.Walk.{Judges, withQueues, queueCubes}
 use Rattle.targets.specs.Depth.{SmallShape, AtQueue}
 use Rattle.targets.proofs.JudgeLaws.{judges-same, judges-one, judges-both, judges-first, judges-is}

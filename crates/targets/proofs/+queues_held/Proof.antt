@@ -8,7 +8,7 @@ use borrow.Fn.PlainCycle.{Measures, is, falls, and}
 use Rattle.targets.proofs.queues_held.Reads as queues-held
 use Rattle.targets.proofs.queues_held.Kinds as queues-held-kinds
 use Rattle.targets.proofs.with_waiting.Reads as with-waiting-reads
-use Rattle.targets.proofs.is_held.Reads as is-held-reads
+use Rattle.cover.proofs.search.is_held.Reads as is-held-reads
 use Rattle.targets.proofs.+queues_held.Lts-queues_held as queues-held-lts
 use Rattle.targets.proofs.+queues_held.{statement}
 use Rattle.targets.proofs.+queues_held.Tie.{close}
