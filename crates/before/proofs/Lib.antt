@@ -4,4 +4,7 @@ pub mod ChangeLaws
 pub mod ReadLaws
 pub mod NewestLaws
 pub mod SerialiseLaws
+pub mod KindLaws
 pub mod Steps
+pub mod Walk
+pub mod Entries
