@@ -399,4 +399,26 @@ pub fn lists(r: &mut Random, each: &mut dyn FnMut(&Program, &[Configuration])) {
             }
         }
     }
+    // Two processes, one of which does an arw into the target: its list, and that list shuffled without one of its further entries, where
+    // the lowest entry with a predecessor outside depends on every kind of predecessor.
+    let program = Program {
+        processes: 2,
+        variables: 1,
+        values: 2,
+        states: vec![3, 1],
+        initial: vec![2, 0],
+        transitions: vec![Transition { process: 0, from: 0, operation: Operation::Arw { variable: 0, old: 1, new: 0 }, to: 1 }],
+        targets: vec![[1, 0, 0, 0]],
+    };
+    let entries = closed_list(&program, &[], 1_000).expect("a closed list");
+    each(&program, &entries);
+    for number in 0..30 {
+        let mut fewer = entries.clone();
+        let messages = 1 + number % 3; // the short ones are few
+        let further: Vec<usize> =
+            (0..fewer.len()).filter(|n| fewer[*n].states[0] == 0 && fewer[*n].channel.len() == messages).collect();
+        fewer.remove(*r.pick(&further));
+        shuffle(r, &mut fewer);
+        each(&program, &fewer);
+    }
 }
