@@ -2,3 +2,4 @@ pub mod Numbers
 pub mod Runs
 pub mod Demands
 pub mod Cases
+pub mod AreaLaws
