@@ -414,9 +414,12 @@ pub fn lists(r: &mut Random, each: &mut dyn FnMut(&Program, &[Configuration])) {
     each(&program, &entries);
     for number in 0..30 {
         let mut fewer = entries.clone();
-        let messages = 1 + number % 3; // the short ones are few
-        let further: Vec<usize> =
-            (0..fewer.len()).filter(|n| fewer[*n].states[0] == 0 && fewer[*n].channel.len() == messages).collect();
+        // The smallest ones are few, and matter most.
+        let small = |entry: &Configuration| match number % 3 {
+            0 => entry.channel.len() == 1 && entry.queues.iter().all(|q| q.is_empty()),
+            messages => entry.channel.len() == messages,
+        };
+        let further: Vec<usize> = (0..fewer.len()).filter(|n| fewer[*n].states[0] == 0 && small(&fewer[*n])).collect();
         fewer.remove(*r.pick(&further));
         shuffle(r, &mut fewer);
         each(&program, &fewer);
