@@ -49,10 +49,11 @@ module _ {s : Shape} {most d : ℕ} (w : AtMessage s most d) where
       too-long e l = judges-same (outline-over s states ms d places short e (subst (λ (n : ℕ). n ≤ d) (w .longest) l)) judges-none
 
       pub label-not : (p v : ℕ) {a : Bool} → placed ≡ false → p < s .processes → v < s .variables → Judges f list k s (labelled-by s states ms d places p v) a → a ≡ false
-          → Judges f list k s (outlineCubes s states ms d places) false
+          → Judges f list k s (outlineCubes s states ms d places) a
       label-not p v e l m x g =
-          judges-same (outline-labels s states ms d places short e)
-          (below-false (s .processes) (written-by s states ms d places) p l (below-false (s .variables) (labelled-by s states ms d places p) v m (judges-is g x)))
+          judges-is (sym g)
+          (judges-same (outline-labels s states ms d places short e)
+          (below-false (s .processes) (written-by s states ms d places) p l (below-false (s .variables) (labelled-by s states ms d places p) v m (judges-is g x))))
 
       pub labels-held : {i : ℕ} → placed ≡ false → EachHeld f list k s (written-by s states ms d places) (s .processes) i → s .processes ≤ i
           → Judges f list k s (outlineCubes s states ms d places) true
@@ -89,14 +90,14 @@ module _ {s : Shape} {most d p v q : ℕ} (w : AtPlace s most d p v q) where
           (subst (λ (y : Message). Judges f list k s (outlineCubes s states (set ms d y) (d + 1) new) a) g x)
 
       module _ (l : q < s .processes) {a : Bool} (x : Judges f list k s (cubes new (q + 1)) a) where
-        pub unplaced-not : q < length new → a ≡ false → Judges f list k s (cubes new q) false
+        pub unplaced-not : q < length new → a ≡ false → Judges f list k s (cubes new q) a
         unplaced-not u e = elim (ℕ-discrete (getD places q 0) 0) [
-          | yes z ↦ judges-same (choice-branch s states ms d places p v new q l u z) (judges-first (cubes (set new q (d + 1)) (q + 1)) (judges-is e x))
-          | no z ↦ judges-same (choice-skip s states ms d places p v new q l z) (judges-is e x)
+          | yes z ↦ judges-same (choice-branch s states ms d places p v new q l u z) (judges-is (sym e) (judges-first (cubes (set new q (d + 1)) (q + 1)) (judges-is e x)))
+          | no z ↦ judges-same (choice-skip s states ms d places p v new q l z) x
         ]
 
-        pub was-placed : getD places q 0 ≢ 0 → a ≡ true → Judges f list k s (cubes new q) true
-        was-placed z e = judges-same (choice-skip s states ms d places p v new q l z) (judges-is e x)
+        pub was-placed : getD places q 0 ≢ 0 → Judges f list k s (cubes new q) a
+        was-placed z = judges-same (choice-skip s states ms d places p v new q l z) x
 
         pub placed-too : {b : Bool} → q < length new → getD places q 0 ≡ 0 → a ≡ true → Judges f list k s (cubes (set new q (d + 1)) (q + 1)) b → Judges f list k s (cubes new q) b
         placed-too u z e y = judges-same (choice-branch s states ms d places p v new q l u z) (judges-both (judges-is e x) y)

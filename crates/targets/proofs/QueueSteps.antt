@@ -37,8 +37,10 @@ module _ {s : Shape} {c : Cube} {p v : ℕ} (w : AtQueue s c p v) where
     next-waiting g = subst (λ (x : Cube). AtQueue s x p (v + 1)) (sym g) (record { small = w .small; process = w .process; variable = omega arith; roomy = roomy-waiting c p v low narrow (w .roomy) })
 
     module _ {f list : List ℕ} {k : ℕ} {a : Bool} (empty : Judges f list k s (queueCubes s (configurationOf c) p (v + 1)) a) where
-      pub empty-not : a ≡ false → Judges f list k s (queueCubes s (configurationOf c) p v) false
-      empty-not e = judges-same (cubes-branch s c p v low narrow (w .roomy .queues) l) (judges-first (queueCubes s (configurationOf (withWaiting c p v)) p (v + 1)) (judges-is e empty))
+      pub empty-not : a ≡ false → Judges f list k s (queueCubes s (configurationOf c) p v) a
+      empty-not e =
+          judges-is (sym e)
+          (judges-same (cubes-branch s c p v low narrow (w .roomy .queues) l) (judges-first (queueCubes s (configurationOf (withWaiting c p v)) p (v + 1)) (judges-is e empty)))
 
       pub waiting-too : {b : Bool} {full : Cube} → a ≡ true → full ≡ withWaiting c p v → Judges f list k s (queueCubes s (configurationOf full) p (v + 1)) b → Judges f list k s (queueCubes s (configurationOf c) p v) b
       waiting-too {b} e g x =

@@ -19,7 +19,8 @@ ghost use Rattle.targets.specs.ShapeCube.{ShapeCube, outlineOf, emptySha
 ghost use Rattle.contents.specs.Again.{entriesOf};
 ghost use Rattle.targets.specs.Walk.{Searches, Judges, withQueues, queueCubes, outlineCubes, choiceCubes};
 ghost use Rattle.targets.specs.Depth.{SmallShape, AtQueue, AtMessage, AtPlace};
-use cover::search::is_held;
+use cover::search::Found;
+use cover::search::search;
 use matching::least;
 use pws::Message;
 use records::bytes::both;
@@ -270,7 +271,7 @@ fn with_waiting(cube: Cube, p: usize, v: usize) -> Cube
     next
 }
 
-// ---- targets: the walk ends at the first shape that is not held
+// ---- targets: the walk ends at the first shape that is not held, and each search begins near the entry found last
 
 // The cube, and the shapes that differ from it in the queues of p from v on, or in those of the processes after p.
 fn queues_held(
@@ -281,23 +282,26 @@ fn queues_held(
     cube: Cube,
     p: usize,
     v: usize,
-) -> bool
+    near: usize,
+) -> Found
     requires { ⌜ AtQueue shape cube p v ⌝ }
-    ensures { λ r. ⌜ Judges (now (file .entry)) (now (list .entry)) n shape (queueCubes shape (configurationOf cube) p v) r ⌝ }
+    ensures { λ r. ⌜ Judges (now (file .entry)) (now (list .entry)) n shape (queueCubes shape (configurationOf cube) p v) (r .held) ⌝ }
 {
     let variables = shape.variables;
     let processes = shape.processes;
     if v < variables {
-        if !queues_held(file, list, n, shape, cube, p, v + 1) {
-            return false;
+        let found = queues_held(file, list, n, shape, cube, p, v + 1, near);
+        if !found.held {
+            return found;
         }
+        let last = found.near;
         let full = with_waiting(cube, p, v);
-        return queues_held(file, list, n, shape, full, p, v + 1);
+        return queues_held(file, list, n, shape, full, p, v + 1, last);
     }
     if p + 1 < processes {
-        return queues_held(file, list, n, shape, cube, p + 1, 0);
+        return queues_held(file, list, n, shape, cube, p + 1, 0, near);
     }
-    is_held(file, list, n, shape, cube)
+    search(file, list, n, shape, cube, near)
 }
 
 // The shapes with these messages, newest first, and these places.
@@ -310,12 +314,13 @@ fn channel_held(
     messages: [Message; 20],
     d: usize,
     places: [u8; 4],
-) -> bool
+    near: usize,
+) -> Found
     requires { ⌜ SmallShape shape × (d ≤ 20) ⌝ }
-    ensures { λ r. ⌜ Judges (now (file .entry)) (now (list .entry)) n shape (map (withQueues (emptyShape shape states (outlineOf messages d places))) (queueShapes (shape .processes) (shape .variables))) r ⌝ }
+    ensures { λ r. ⌜ Judges (now (file .entry)) (now (list .entry)) n shape (map (withQueues (emptyShape shape states (outlineOf messages d places))) (queueShapes (shape .processes) (shape .variables))) (r .held) ⌝ }
 {
     let cube = shape_cube(shape, states, messages, d, places);
-    queues_held(file, list, n, shape, cube, 0, 0)
+    queues_held(file, list, n, shape, cube, 0, 0, near)
 }
 
 // The shapes whose newest d messages are these, with these places; no channel has more than `most`.
@@ -329,21 +334,26 @@ fn outlines_held(
     messages: [Message; 20],
     d: usize,
     places: [u8; 4],
-) -> bool
+    near: usize,
+) -> Found
     requires { ⌜ AtMessage shape most d ⌝ }
-    ensures { λ r. ⌜ Judges (now (file .entry)) (now (list .entry)) n shape (outlineCubes shape states messages d places) r ⌝ }
+    ensures { λ r. ⌜ Judges (now (file .entry)) (now (list .entry)) n shape (outlineCubes shape states messages d places) (r .held) ⌝ }
 {
     let processes = shape.processes;
     let variables = shape.variables;
     if all_placed(processes, places) {
-        return channel_held(file, list, n, shape, states, messages, d, places);
+        return channel_held(file, list, n, shape, states, messages, d, places, near);
     }
+    let mut last = near;
     if most <= d {
-        return true;
+        return Found {
+            held: true,
+            near: last,
+        };
     }
     for p in 0..processes {
         for v in 0..variables {
-            if !choices_held(
+            let found = choices_held(
                 file,
                 list,
                 n,
@@ -357,12 +367,18 @@ fn outlines_held(
                 v,
                 places,
                 0,
-            ) {
-                return false;
+                last,
+            );
+            if !found.held {
+                return found;
             }
+            last = found.near;
         }
     }
-    true
+    Found {
+        held: true,
+        near: last,
+    }
 }
 
 // Those whose next message has the label (p, v), and whose places are the new ones up to q.
@@ -380,21 +396,25 @@ fn choices_held(
     v: usize,
     new: [u8; 4],
     q: usize,
-) -> bool
+    near: usize,
+) -> Found
     requires { ⌜ AtPlace shape most d p v q ⌝ }
-    ensures { λ r. ⌜ Judges (now (file .entry)) (now (list .entry)) n shape (choiceCubes shape states messages d places p v new q) r ⌝ }
+    ensures { λ r. ⌜ Judges (now (file .entry)) (now (list .entry)) n shape (choiceCubes shape states messages d places p v new q) (r .held) ⌝ }
 {
     let processes = shape.processes;
     if processes <= q {
         if !is_allowed(shape, messages, d, places, new, p, v) {
-            return true;
+            return Found {
+                held: true,
+                near: near,
+            };
         }
         let message = any_message(shape, p, v);
         let mut longer = messages;
         longer[d] = message;
-        return outlines_held(file, list, n, shape, states, most, longer, d + 1, new);
+        return outlines_held(file, list, n, shape, states, most, longer, d + 1, new, near);
     }
-    if !choices_held(
+    let found = choices_held(
         file,
         list,
         n,
@@ -408,12 +428,15 @@ fn choices_held(
         v,
         new,
         q + 1,
-    ) {
-        return false;
+        near,
+    );
+    if !found.held {
+        return found;
     }
     if places[q] != 0 {
-        return true;
+        return found;
     }
+    let last = found.near;
     let mut placed = new;
     placed[q] = (d + 1) as u8;
     choices_held(
@@ -430,10 +453,11 @@ fn choices_held(
         v,
         placed,
         q + 1,
+        last,
     )
 }
 
-// All configurations in this target are above the list (section 3, T6).
+// All configurations in this target are above the list (T6).
 pub fn target_held(file: &[u8], list: &[u8], n: usize, shape: Shape, states: [u8; 4]) -> bool
     ensures { λ r. ⌜ ((P : Program) → P .shape ≡ shapeOf shape → Searches (now (file .entry)) (now (list .entry)) n shape → r ≡ targetHeld P (entriesOf (now (file .entry)) (now (list .entry)) n) (λ q. getD states q 0)) ⌝ }
 {
@@ -456,5 +480,6 @@ pub fn target_held(file: &[u8], list: &[u8], n: usize, shape: Shape, states: [u8
         snapshot: snapshot,
     }; 20];
     let places = [0u8; 4];
-    outlines_held(file, list, n, shape, states, most, messages, 0, places)
+    let found = outlines_held(file, list, n, shape, states, most, messages, 0, places, 0);
+    found.held
 }

@@ -40,16 +40,16 @@ abbrev outlines-held-below : ℕ → In 2 outlines-held-kinds.ps
 outlines-held-below t = and 2 outlines-held-kinds.ps (falls 2 outlines-held-kinds.ps _<_ μ-outlines-held t) outlines-held.Pre
 
 abbrev outlines-held-Inv-loop2 : outlines-held-lts.InvT-loop2
-outlines-held-Inv-loop2 file list n shape states most messages d places processes variables p v₀ v = EachHeld file list n shape (labelled-by shape states messages d places p) (shape .variables) v
+outlines-held-Inv-loop2 file list n shape states most messages d places near processes variables last₀ p v₀ last v = EachHeld file list n shape (labelled-by shape states messages d places p) (shape .variables) v
 
 abbrev outlines-held-μ-loop2 : outlines-held-lts.MeasureT-loop2
-outlines-held-μ-loop2 file list n shape states most messages d places processes variables p v₀ v = variables - v
+outlines-held-μ-loop2 file list n shape states most messages d places near processes variables last₀ p v₀ last v = variables - v
 
 abbrev outlines-held-Inv-loop : outlines-held-lts.InvT-loop
-outlines-held-Inv-loop file list n shape states most messages d places processes variables p₀ p = EachHeld file list n shape (written-by shape states messages d places) (shape .processes) p
+outlines-held-Inv-loop file list n shape states most messages d places near processes variables last₀ p₀ last p = EachHeld file list n shape (written-by shape states messages d places) (shape .processes) p
 
 abbrev outlines-held-μ-loop : outlines-held-lts.MeasureT-loop
-outlines-held-μ-loop file list n shape states most messages d places processes variables p₀ p = processes - p
+outlines-held-μ-loop file list n shape states most messages d places near processes variables last₀ p₀ last p = processes - p
 
 pub +choices-held+outlines-held-spec : {M : Type 1} → statement M
 +choices-held+outlines-held-spec =
@@ -80,29 +80,29 @@ pub +choices-held+outlines-held-spec : {M : Type 1} → statement M
     -- outlines-held-requires
     (λ c κs. (omega (arith, c .before .before .before .before .before .before .pre .0, c .before .before .before .before .before .before .pre .1 .more), next-message (c .before .before .before .before .before .before .pre .1)))
     -- returns-2
-    (λ c. let u : c .before .before .before .before .before .before .before .args .d < length (c .before .before .before .before .before .before .before .args .messages) = omega (arith, c .before .before .before .before .before .before .before .pre .1 .message .room, c .before .before .before .before .before .before .before .pre .1 .more) in allowed-one (c .before .before .before .before .before .before .before .pre .1) (c .before .before .before .before .before .before .before .args .states) (c .before .before .before .before .before .before .before .args .messages) (c .before .before .before .before .before .before .before .args .t9) (c .before .before .before .before .before .before .before .args .new) (c .before .before .before .before .if1 .taken) (sym (c .before .before .before .is-allowed .ensures) ∙ not-false _ (c .before .before .if2 .left)) u (c .before .any-message .ensures) (c .outlines-held .ensures))
+    (λ c. let u : c .before .before .before .before .before .before .before .args .d < length (c .before .before .before .before .before .before .before .args .messages) = omega (arith, c .before .before .before .before .before .before .before .good .1 .1 .1 .1 .1 .1 .0 .1, c .before .before .before .before .before .before .before .pre .1 .message .room, c .before .before .before .before .before .before .before .pre .1 .more) in allowed-one (c .before .before .before .before .before .before .before .pre .1) (c .before .before .before .before .before .before .before .args .states) (c .before .before .before .before .before .before .before .args .messages) (c .before .before .before .before .before .before .before .args .t9) (c .before .before .before .before .before .before .before .args .new) (c .before .before .before .before .if1 .taken) (sym (c .before .before .before .is-allowed .ensures) ∙ not-false _ (c .before .before .if2 .left)) u (c .before .any-message .ensures) (c .outlines-held .ensures))
     -- add-choices-held
     (λ c. omega (arith, c .before .before .before .pre .1 .message .small .processes))
     -- choices-held-requires
     (λ c κs. (omega (arith, c .before .before .before .pre .0, c .before .before .before .pre .1 .message .small .processes), next-place (c .before .before .before .pre .1) (c .if1 .left)))
     -- returns-3
-    (λ c. let u : c .before .before .before .before .before .args .q < length (c .before .before .before .before .before .args .new) = omega (arith, c .before .before .before .before .before .pre .1 .message .small .processes) in unplaced-not (c .before .before .before .before .before .pre .1) (c .before .before .before .before .before .args .states) (c .before .before .before .before .before .args .messages) (c .before .before .before .before .before .args .t9) (c .before .before .before .before .before .args .new) (c .before .before .if1 .left) (c .before .choices-held .ensures) u (not-true _ (c .if3 .taken)))
+    (λ c. let z : length (c .before .before .before .before .before .before .args .new) ≡ 4 = omega (arith, c .before .before .before .before .before .before .good .1 .1 .1 .1 .1 .1 .1 .1 .1 .1 .1 .0 .1) in let u : c .before .before .before .before .before .before .args .q < length (c .before .before .before .before .before .before .args .new) = omega (arith, z, c .before .before .before .if1 .left, c .before .before .before .before .before .before .pre .1 .message .small .processes) in unplaced-not (c .before .before .before .before .before .before .pre .1) (c .before .before .before .before .before .before .args .states) (c .before .before .before .before .before .before .args .messages) (c .before .before .before .before .before .before .args .t9) (c .before .before .before .before .before .before .args .new) (c .before .before .before .if1 .left) (c .before .before .choices-held .ensures) u (not-true _ (c .if3 .taken)))
     -- array-read-if4
-    (λ c. omega (arith, c .before .before .before .before .before .pre .1 .message .small .processes))
+    (λ c. omega (arith, c .before .before .before .before .before .before .pre .1 .message .small .processes))
     -- returns-4
-    (λ c. was-placed (c .before .before .before .before .before .before .pre .1) (c .before .before .before .before .before .before .args .states) (c .before .before .before .before .before .before .args .messages) (c .before .before .before .before .before .before .args .t9) (c .before .before .before .before .before .before .args .new) (c .before .before .before .if1 .left) (c .before .before .choices-held .ensures) (c .if4 .taken) (not-false _ (c .before .if3 .left)))
+    (λ c. was-placed (c .before .before .before .before .before .before .before .pre .1) (c .before .before .before .before .before .before .before .args .states) (c .before .before .before .before .before .before .before .args .messages) (c .before .before .before .before .before .before .before .args .t9) (c .before .before .before .before .before .before .before .args .new) (c .before .before .before .before .if1 .left) (c .before .before .before .choices-held .ensures) (c .if4 .taken))
     -- add-placed
-    (λ c. omega (arith, c .before .before .before .before .before .before .pre .1 .message .room, c .before .before .before .before .before .before .pre .1 .more))
+    (λ c. omega (arith, c .before .before .before .before .before .before .before .pre .1 .message .room, c .before .before .before .before .before .before .before .pre .1 .more))
     -- cast-placed
-    (λ c. omega (arith, c .before .before .before .before .before .before .pre .1 .message .room, c .before .before .before .before .before .before .pre .1 .more))
+    (λ c. omega (arith, c .before .before .before .before .before .before .before .pre .1 .message .room, c .before .before .before .before .before .before .before .pre .1 .more))
     -- array-write-placed
-    (λ c. omega (arith, c .before .before .before .before .before .before .pre .1 .message .small .processes))
+    (λ c. omega (arith, c .before .before .before .before .before .before .before .good .1 .1 .1 .1 .1 .1 .1 .1 .1 .1 .1 .0 .1, c .before .before .before .before .before .before .before .pre .1 .message .small .processes))
     -- add-choices-held-2
-    (λ c. omega (arith, c .before .before .before .before .before .before .pre .1 .message .small .processes))
+    (λ c. omega (arith, c .before .before .before .before .before .before .before .pre .1 .message .small .processes))
     -- choices-held-requires-2
-    (λ c κs. (omega (arith, c .before .before .before .before .before .before .pre .0, c .before .before .before .before .before .before .pre .1 .message .small .processes), next-place (c .before .before .before .before .before .before .pre .1) (c .before .before .before .if1 .left)))
+    (λ c κs. (omega (arith, c .before .before .before .before .before .before .before .pre .0, c .before .before .before .before .before .before .before .pre .1 .message .small .processes), next-place (c .before .before .before .before .before .before .before .pre .1) (c .before .before .before .before .if1 .left)))
     -- returns-5
-    (λ c. let z : length (c .before .before .before .before .before .before .before .args .new) ≡ 4 = omega (arith, c .before .before .before .before .before .before .before .good .1 .1 .1 .1 .1 .1 .1 .1 .1 .1 .1 .0 .1) in let u : c .before .before .before .before .before .before .before .args .q < length (c .before .before .before .before .before .before .before .args .new) = omega (arith, z, c .before .before .before .before .if1 .left, c .before .before .before .before .before .before .before .pre .1 .message .small .processes) in placed-too (c .before .before .before .before .before .before .before .pre .1) (c .before .before .before .before .before .before .before .args .states) (c .before .before .before .before .before .before .before .args .messages) (c .before .before .before .before .before .before .before .args .t9) (c .before .before .before .before .before .before .before .args .new) (c .before .before .before .before .if1 .left) (c .before .before .before .choices-held .ensures) u (c .before .if4 .left) (not-false _ (c .before .before .if3 .left)) (c .choices-held2 .ensures)))
+    (λ c. let z : length (c .before .before .before .before .before .before .before .before .args .new) ≡ 4 = omega (arith, c .before .before .before .before .before .before .before .before .good .1 .1 .1 .1 .1 .1 .1 .1 .1 .1 .1 .0 .1) in let u : c .before .before .before .before .before .before .before .before .args .q < length (c .before .before .before .before .before .before .before .before .args .new) = omega (arith, z, c .before .before .before .before .before .if1 .left, c .before .before .before .before .before .before .before .before .pre .1 .message .small .processes) in placed-too (c .before .before .before .before .before .before .before .before .pre .1) (c .before .before .before .before .before .before .before .before .args .states) (c .before .before .before .before .before .before .before .before .args .messages) (c .before .before .before .before .before .before .before .before .args .t9) (c .before .before .before .before .before .before .before .before .args .new) (c .before .before .before .before .before .if1 .left) (c .before .before .before .before .choices-held .ensures) u (c .before .if4 .left) (not-false _ (c .before .before .if3 .left)) (c .choices-held2 .ensures)))
     λ t. outlines-held-lts.spec (
       all-placed-reads.Asked,
       all-placed-reads.Learnt,
@@ -132,13 +132,13 @@ pub +choices-held+outlines-held-spec : {M : Type 1} → statement M
     -- choices-held-requires
     (λ c κs. (omega (arith, c .before .before .before .before .before .before .before .before .before .pre .0), first-place (c .before .before .before .before .before .before .before .before .before .pre .1) (c .before .before .before .loop .p) (c .before .loop2 .v) (c .before .before .before .before .if2 .left) (c .before .before .loop-test .taken) (c .loop2-test .taken)))
     -- returns-3
-    (λ c. label-not (c .before .before .before .before .before .before .before .before .before .before .before .pre .1) (c .before .before .before .before .before .before .before .before .before .before .before .args .states) (c .before .before .before .before .before .before .before .before .before .before .before .args .messages) (c .before .before .before .before .before .before .before .before .before .before .before .args .places) (c .before .before .before .before .before .loop .p) (c .before .before .before .loop2 .v) (sym (c .before .before .before .before .before .before .before .before .all-placed .ensures) ∙ c .before .before .before .before .before .before .before .if1 .left) (c .before .before .before .before .loop-test .taken) (c .before .before .loop2-test .taken) (c .before .choices-held .ensures) (not-true _ (c .if3 .taken)))
+    (λ c. label-not (c .before .before .before .before .before .before .before .before .before .before .before .before .pre .1) (c .before .before .before .before .before .before .before .before .before .before .before .before .args .states) (c .before .before .before .before .before .before .before .before .before .before .before .before .args .messages) (c .before .before .before .before .before .before .before .before .before .before .before .before .args .places) (c .before .before .before .before .before .before .loop .p) (c .before .before .before .before .loop2 .v) (sym (c .before .before .before .before .before .before .before .before .before .all-placed .ensures) ∙ c .before .before .before .before .before .before .before .before .if1 .left) (c .before .before .before .before .before .loop-test .taken) (c .before .before .before .loop2-test .taken) (c .before .before .choices-held .ensures) (not-true _ (c .if3 .taken)))
     -- add-v
-    (λ c. omega (arith, c .before .before .before .before .before .before .before .before .before .before .before .pre .1 .small .variables, c .before .before .loop2-test .taken))
+    (λ c. omega (arith, c .before .before .before .before .before .before .before .before .before .before .before .before .pre .1 .small .variables, c .before .before .before .loop2-test .taken))
     -- loop2-less
-    (λ c. omega (arith, c .before .before .loop2-test .taken))
+    (λ c. omega (arith, c .before .before .before .loop2-test .taken))
     -- loop2-again
-    (λ c. held-next (c .before .before .before .loop2 .inv) (c .before .before .loop2-test .taken) (judges-is (not-false _ (c .if3 .left)) (c .before .choices-held .ensures)))
+    (λ c. held-next (c .before .before .before .before .loop2 .inv) (c .before .before .before .loop2-test .taken) (judges-is (not-false _ (c .if3 .left)) (c .before .before .choices-held .ensures)))
     -- add-p
     (λ c. omega (arith, c .before .before .before .before .before .before .before .before .before .pre .1 .small .processes, c .before .before .loop-test .taken))
     -- loop-less

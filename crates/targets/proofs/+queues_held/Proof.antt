@@ -8,7 +8,7 @@ use borrow.Fn.PlainCycle.{Measures, is, falls, and}
 use Rattle.targets.proofs.queues_held.Reads as queues-held
 use Rattle.targets.proofs.queues_held.Kinds as queues-held-kinds
 use Rattle.targets.proofs.with_waiting.Reads as with-waiting-reads
-use Rattle.cover.proofs.search.is_held.Reads as is-held-reads
+use Rattle.cover.proofs.search.search.Reads as search-reads
 use Rattle.targets.proofs.+queues_held.Lts-queues_held as queues-held-lts
 use Rattle.targets.proofs.+queues_held.{statement}
 use Rattle.targets.proofs.+queues_held.Tie.{close}
@@ -28,8 +28,8 @@ pub +queues-held-spec : {M : Type 1} → statement M
   queues-held.Post,
   with-waiting-reads.Asked,
   with-waiting-reads.Learnt,
-  is-held-reads.Asked,
-  is-held-reads.Learnt,
+  search-reads.Asked,
+  search-reads.Learnt,
 )
     (queues-held-at t)
     queues-held.Post
@@ -38,15 +38,15 @@ pub +queues-held-spec : {M : Type 1} → statement M
     -- queues-held-requires
     (λ c κs. (omega (arith, c .before .before .before .pre .0), next-queue (c .before .before .before .pre .1) (c .if1 .taken)))
     -- returns
-    (λ c. empty-not (c .before .before .before .before .before .pre .1) (c .before .before .if1 .taken) (c .before .queues-held .ensures) (not-true _ (c .if2 .taken)))
+    (λ c. empty-not (c .before .before .before .before .before .before .pre .1) (c .before .before .before .if1 .taken) (c .before .before .queues-held .ensures) (not-true _ (c .if2 .taken)))
     -- with-waiting-requires
-    (λ c κs. (omega (arith, c .before .before .before .before .before .pre .1 .small .processes), omega (arith, c .before .before .before .before .before .pre .1 .small .variables)))
+    (λ c κs. (omega (arith, c .before .before .before .before .before .before .pre .1 .small .processes), omega (arith, c .before .before .before .before .before .before .pre .1 .small .variables)))
     -- add-queues-held-2
-    (λ c. omega (arith, c .before .before .before .before .before .before .pre .1 .small .variables))
+    (λ c. omega (arith, c .before .before .before .before .before .before .before .pre .1 .small .variables))
     -- queues-held-requires-2
-    (λ c κs. (omega (arith, c .before .before .before .before .before .before .pre .0), next-waiting (c .before .before .before .before .before .before .pre .1) (c .before .before .before .if1 .taken) (c .with-waiting .ensures)))
+    (λ c κs. (omega (arith, c .before .before .before .before .before .before .before .pre .0), next-waiting (c .before .before .before .before .before .before .before .pre .1) (c .before .before .before .before .if1 .taken) (c .with-waiting .ensures)))
     -- returns-2
-    (λ c. waiting-too (c .before .before .before .before .before .before .before .pre .1) (c .before .before .before .before .if1 .taken) (c .before .before .before .queues-held .ensures) (not-false _ (c .before .before .if2 .left)) (c .before .with-waiting .ensures) (c .queues-held2 .ensures))
+    (λ c. waiting-too (c .before .before .before .before .before .before .before .before .pre .1) (c .before .before .before .before .before .if1 .taken) (c .before .before .before .before .queues-held .ensures) (not-false _ (c .before .before .if2 .left)) (c .before .with-waiting .ensures) (c .queues-held2 .ensures))
     -- add-if3
     (λ c. omega (arith, c .before .before .before .pre .1 .small .processes))
     -- add-queues-held-3
@@ -55,7 +55,7 @@ pub +queues-held-spec : {M : Type 1} → statement M
     (λ c κs. (omega (arith, c .before .before .before .before .pre .0, c .before .before .before .before .pre .1 .small .variables), next-row (c .before .before .before .before .pre .1) (c .if3 .taken)))
     -- returns-3
     (λ c. row-done (c .before .before .before .before .before .pre .1) (c .before .before .if1 .left) (c .before .if3 .taken) (c .queues-held3 .ensures))
-    -- is-held-requires
+    -- search-requires
     (λ c κs. search needs)
     -- returns-4
-    (λ c. queues-done (c .before .before .before .before .before .pre .1) (c .before .before .if1 .left) (c .before .if3 .left) (c .is-held .ensures))
+    (λ c. queues-done (c .before .before .before .before .before .pre .1) (c .before .before .if1 .left) (c .before .if3 .left) (c .search .ensures))
