@@ -2,7 +2,6 @@
 -- the first message makes no difference.
 use Prim.Native.Nat.{ℕ, zero, suc, _<_, _≤_, max}
 use mathlib.Core.Path.{_≡_, refl, sym, ap, ap₂, subst, _∙_}
-use mathlib.Core.Logic.{_⊎_, inl, inr}
 use mathlib.Core.Bool.{Bool, true, false, cond, _&&_, not}
 use mathlib.Core.Option.{Option, none, some}
 use mathlib.Core.List.{List, [], _∷_}
@@ -10,36 +9,14 @@ use native.Mathlib.Omega.{arith}
 use lib.ListN.{length, getD, set}
 use lib.Dec.{T, eqb, ltb, eqb→eq}
 use borrow.Author.Tests.{lt-ltb, ltb-true}
-use mir.Facts.{and-yes, yes-and}
+use mir.Facts.{yes-and}
 use Rattle.pws.specs.declared.Message.{Message}
 use Rattle.pws.specs.declared.Operation.{Operation}
 use Rattle.pws.specs.declared.Operation.the-variants.{Nop, Read, Write, Mfence, Sfence, Arw}
-use Rattle.pws.specs.declared.Transition.{Transition}
 use Rattle.pws.specs.declared.Step.{Step}
 use Rattle.pws.specs.declared.Step.the-variants.{Take, Serialise, Update}
 use Rattle.pws.specs.Program.{Shape, Program, transition, ProgramInRange}
-use Rattle.pws.specs.Machine.{
-  Memory,
-  Configuration,
-  put,
-  message,
-  newest,
-  labelled,
-  lastLabelled,
-  lastWrite,
-  newestWaiting,
-  newestOr,
-  sees,
-  mayOperate,
-  queueAfter,
-  memoryAfter,
-  mayTake,
-  afterTake,
-  may,
-  after,
-  copyWith,
-  allBelow,
-}
+use Rattle.pws.specs.Machine.{Configuration, put, message, newest, labelled, lastLabelled, lastWrite, newestWaiting, newestOr, sees, mayOperate, queueAfter, memoryAfter, mayTake, afterTake, may, after, copyWith, allBelow}
 use Rattle.pws.specs.Configurations.{Start, startWith, InTarget, inTarget}
 use Rattle.pws.specs.Sequences.{Takes, done, step, Replay, ended, stopped, replay}
 use Rattle.pws.proofs.Starts.{start-is, start-exists}

@@ -1,26 +1,24 @@
 -- The step's answer from the bytes and arrays is the answer of the configuration that they represent.
-use Prim.Native.Nat.{ℕ, zero, suc, _+_, _*_, _-_, _<_, _≤_, max}
+use Prim.Native.Nat.{ℕ, zero, suc, _+_, _*_, _-_, _<_, _≤_}
 use mathlib.Core.Path.{_≡_, refl, sym, ap, ap₂, subst, _∙_}
-use mathlib.Core.Logic.{_≢_}
 use mathlib.Core.Bool.{Bool, true, false, cond, _&&_, _||_, not}
-use mathlib.Core.Option.{Option, none, some}
-use mathlib.Core.List.{List, [], _∷_, _++_}
+use mathlib.Core.Option.{Option, some}
+use mathlib.Core.List.{List, []}
 use native.Mathlib.Omega.{arith}
-use native.Mathlib.Decide.{decLe, decLt, ℕ-discrete}
-use lib.ListN.{length, getD, set}
+use native.Mathlib.Decide.{decLe}
+use lib.ListN.{length, getD}
 use lib.Dec.{eqb, leb, ltb}
-use borrow.Author.Tests.{le-leb, lt-leb, lt-ltb, le-ltb, ltb-true}
+use borrow.Author.Tests.{le-leb, lt-leb, ltb-true}
 use Rattle.pws.specs.declared.Operation.{Operation}
 use Rattle.pws.specs.declared.Operation.the-variants.{Nop, Read, Write, Mfence, Sfence, Arw}
 use Rattle.pws.specs.declared.Transition.{Transition}
 use Rattle.pws.specs.Program as pws
 use Rattle.pws.specs.Machine.{Configuration, message, newest, lastWrite, isEmpty, newestWaiting, newestOr, allBelow, noneWaiting, atNewest, sees}
-use Rattle.pws.proofs.Facts.{IsLast, last-is}
+use Rattle.pws.proofs.Facts.{last-is}
 use Rattle.records.specs.declared.program.Shape.{Shape}
 use Rattle.records.specs.ProgramPart.{tableFrom, shapeOf}
-use Rattle.replay.specs.declared.step.Answer.{Answer}
 use Rattle.replay.specs.declared.step.Run.{Run}
-use Rattle.replay.specs.Causes.{firstCause, queueFits, pointerFits, valueFits, takeAnswer}
+use Rattle.replay.specs.Causes.{queueFits, pointerFits, valueFits, takeAnswer}
 use Rattle.replay.specs.Layout.{
   queueNumber,
   snapshotAt,

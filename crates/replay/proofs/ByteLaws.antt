@@ -1,17 +1,17 @@
 -- What a stored snapshot and a stored waiting value do to the others.
-use Prim.Native.Nat.{ℕ, zero, suc, _+_, _*_, _/_, _%_, _-_, _<_, _≤_}
-use mathlib.Core.Path.{_≡_, refl, sym, ap, ap₂, subst, _∙_}
+use Prim.Native.Nat.{ℕ, suc, _+_, _*_, _/_, _%_, _<_, _≤_}
+use mathlib.Core.Path.{_≡_, refl, sym, ap, _∙_}
 use mathlib.Core.Logic.{_≢_}
 use mathlib.Core.Bool.{Bool, true, false, cond}
-use mathlib.Core.List.{List, [], _∷_, _++_}
+use mathlib.Core.List.{List, [], _∷_}
 use native.Mathlib.Omega.{arith}
-use native.Mathlib.Decide.{decLt, ℕ-discrete}
+use native.Mathlib.Decide.{ℕ-discrete}
 use lib.ListN.{length, length-set, getD, set}
-use lib.Seq.{getD-set-same, getD-set-other, ext-getD}
-use lib.Dec.{ltb, eqb}
+use lib.Seq.{getD-set-same, getD-set-other}
+use lib.Dec.{eqb}
 use borrow.Author.Tests.{le-ltb, lt-ltb, eq-eqb, ne-eqb}
-use Rattle.records.specs.Bytes.{choose, byte}
-use Rattle.replay.specs.Layout.{nextNumber, queueNumber, snapshotAt, putSnapshot, waitingPlace, waitingAt, halves, putWaiting, appended}
+use Rattle.records.specs.Bytes.{byte}
+use Rattle.replay.specs.Layout.{nextNumber, snapshotAt, putSnapshot, waitingPlace, waitingAt, halves, putWaiting}
 
 pub next-is : (x : ℕ) → x < 65535 → nextNumber x ≡ suc x
 unfolding nextNumber

@@ -1,5 +1,5 @@
 -- Each row of the table of worked cases holds.
-use mathlib.Core.Path.{_≡_, refl}
+use mathlib.Core.Path.{refl}
 use Rattle.records.specs.Bytes.{cut}
 use Rattle.records.specs.Records.{
   firstNumber,

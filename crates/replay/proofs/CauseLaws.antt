@@ -1,6 +1,6 @@
 -- A step is permitted exactly if the machine may take it.
 use Prim.Native.Nat.{ℕ}
-use mathlib.Core.Path.{_≡_, refl, sym, ap, _∙_}
+use mathlib.Core.Path.{_≡_, refl, ap, _∙_}
 use mathlib.Core.Bool.{Bool, true, false, cond, _&&_, not}
 use lib.ListN.{length, getD}
 use lib.Dec.{eqb, ltb}
@@ -11,7 +11,7 @@ use Rattle.pws.specs.declared.Step.the-variants.{Take, Serialise, Update}
 use Rattle.pws.specs.Program.{Shape, Program, transition}
 use Rattle.pws.specs.Machine.{Configuration, isEmpty, noneWaiting, atNewest, sees, newest, mayOperate, mayTake, may}
 use Rattle.replay.specs.declared.step.Answer.{Answer}
-use Rattle.replay.specs.declared.step.Answer.the-variants.{Permitted, Refused}
+use Rattle.replay.specs.declared.step.Answer.the-variants.{Refused}
 use Rattle.replay.specs.declared.step.Cause.the-variants.{State}
 use Rattle.replay.specs.Causes.{firstCause, queueFits, pointerFits, valueFits, takeAnswer, stepAnswer, isPermitted}
 

@@ -2,18 +2,16 @@
 use Prim.Native.Nat.{ℕ, zero, suc, _+_, _*_, _-_, _<_, _≤_, max}
 use mathlib.Core.Path.{_≡_, refl, sym, ap, ap₂, subst, _∙_}
 use mathlib.Core.Logic.{_≢_}
-use mathlib.Core.Bool.{Bool, true, false, cond, _&&_}
 use mathlib.Core.List.{List, [], _∷_, _++_}
 use native.Mathlib.Omega.{arith}
 use native.Mathlib.Decide.{decLe, decLt, ℕ-discrete}
 use lib.ListN.{length, length-set, getD, set}
 use lib.Seq.{getD-set-same, getD-set-other}
-use lib.Dec.{eqb, ltb}
 use borrow.Author.Tests.{lt-ltb, le-ltb, eq-eqb, ne-eqb}
 use Rattle.pws.specs.declared.Message.{Message}
 use Rattle.pws.specs.Program.{Shape}
-use Rattle.pws.specs.Machine.{Memory, put, putQueue, message, newest, labelled, lastLabelled, lastWrite, copyWith, append, point, withoutOldest}
-use Rattle.pws.proofs.Facts.{put-same, put-other, put-each, putQueue-each, message-each, last-is}
+use Rattle.pws.specs.Machine.{Memory, put, putQueue, message, newest, lastLabelled, lastWrite, copyWith, append, point, withoutOldest}
+use Rattle.pws.proofs.Facts.{put-same, put-other, put-each, putQueue-each, last-is}
 use Rattle.records.specs.ProgramPart.{tableFrom}
 use Rattle.replay.specs.Layout.{
   nextNumber,
@@ -32,17 +30,7 @@ use Rattle.replay.specs.Layout.{
   updated,
   appended,
 }
-use Rattle.replay.proofs.AreaLaws.{snapshot-length}
-use Rattle.replay.proofs.ByteLaws.{
-  next-is,
-  snapshot-same,
-  snapshot-other,
-  waiting-past,
-  waiting-same,
-  waiting-other,
-  waiting-before,
-  snapshot-below,
-}
+use Rattle.replay.proofs.ByteLaws.{next-is, snapshot-same, snapshot-other, waiting-same, waiting-other, waiting-before}
 use Rattle.replay.proofs.Answering.{queue-is, pointer-is, last-write-is}
 
 -- ---- the memory: n messages

@@ -1,14 +1,12 @@
 -- Laws of the loops: what one turn does to the definitions of specs/Loop.antt.
-use Prim.Native.Nat.{ℕ, zero, suc, _+_, _-_, _<_, _≤_}
-use mathlib.Core.Path.{_≡_, refl, sym, ap, subst, _∙_}
-use mathlib.Core.Bool.{Bool, true, false}
+use Prim.Native.Nat.{ℕ, suc, _+_, _-_, _<_, _≤_}
+use mathlib.Core.Path.{_≡_, refl, sym, ap, _∙_}
+use mathlib.Core.Bool.{true, false}
 use mathlib.Core.List.{List}
 use native.Mathlib.Omega.{arith}
 use lib.ListN.{length}
-use Rattle.pws.specs.declared.Step.{Step}
 use Rattle.records.specs.declared.program.Shape.{Shape}
 use Rattle.records.specs.declared.program.Row.{Row}
-use Rattle.records.specs.Bytes.{choose}
 use Rattle.records.specs.Records.{stepAt}
 use Rattle.replay.specs.declared.step.Cause.{Cause}
 use Rattle.replay.specs.declared.step.Answer.{Answer}

@@ -1,22 +1,21 @@
 -- The replay of the code is the run of the machine.
-use Prim.Native.Nat.{ℕ, zero, suc, _+_, _*_, _-_, _<_, _≤_, max}
+use Prim.Native.Nat.{ℕ, zero, suc, _+_, _*_, _<_, _≤_, max}
 use mathlib.Core.Path.{_≡_, refl, sym, ap, ap₂, subst, _∙_, fun-ext}
 use mathlib.Core.Logic.{_⊎_, inl, inr, ⊎-elim}
-use mathlib.Core.Bool.{Bool, true, false, cond, _&&_, _||_}
+use mathlib.Core.Bool.{Bool, true, false, cond, _&&_}
 use mathlib.Core.Option.{Option, none, some}
 use mathlib.Core.List.{List, [], _∷_}
 use native.Mathlib.Omega.{arith}
-use native.Mathlib.Decide.{decLe, decLt}
-use lib.ListN.{List·getD-eq-default, length, getD, replicate, length-replicate, getD-replicate}
-use lib.Dec.{T, eqb, leb, ltb}
+use native.Mathlib.Decide.{decLe}
+use lib.ListN.{List·getD-eq-default, length, getD, replicate, getD-replicate}
+use lib.Dec.{T, eqb, ltb}
 use borrow.Author.Tests.{le-leb, lt-leb, lt-ltb}
 use Rattle.pws.specs.declared.Step.{Step}
 use Rattle.pws.specs.Program as pws
-use Rattle.pws.specs.Machine.{Configuration, message, lastWrite, allBelow, may, after}
+use Rattle.pws.specs.Machine.{Configuration, lastWrite, may, after}
 use Rattle.pws.specs.Configurations.{inTarget, startWith}
 use Rattle.pws.specs.Sequences as sequences
 use Rattle.records.specs.declared.program.Shape.{Shape}
-use Rattle.records.specs.declared.program.Row.{Row}
 use Rattle.records.specs.declared.program.Program.{Program}
 use Rattle.records.specs.Bytes.{choose, byte}
 use Rattle.records.specs.Records.{isKind, stateAt, stepBody, stepAt}
@@ -24,15 +23,14 @@ use Rattle.records.specs.ProgramPart.{tableFrom, shapeOf, programOf, targetsOf}
 use Rattle.records.specs.EvidencePart.{stepsOf}
 use Rattle.replay.specs.declared.step.Answer.{Answer}
 use Rattle.replay.specs.declared.step.Answer.the-variants.{Permitted, Refused}
-use Rattle.replay.specs.declared.step.Move.{Move}
 use Rattle.replay.specs.declared.step.Run.{Run}
 use Rattle.replay.specs.declared.run.RunAnswer.{RunAnswer}
-use Rattle.replay.specs.declared.run.RunAnswer.the-variants.{Reachable, Stopped, Missed}
+use Rattle.replay.specs.declared.run.RunAnswer.the-variants.{Reachable}
 use Rattle.replay.specs.Replay as run
 use Rattle.replay.specs.Causes.{stepAnswer, isPermitted}
 use Rattle.replay.specs.Answers.{verdictOfRun, lastAnswer, answerThen, answerFrom, runAnswer, RunOf}
-use Rattle.replay.specs.Layout.{snapshotAt, putSnapshot, waitingAt, moveOf, answerIn, runAfter, rowsAfter, areaAfter}
-use Rattle.replay.specs.Loop.{agreesIn, inTargetIn, nextTarget, nextStep, lastFrom, lastIn, firstRun, firstRows, runFrom, replayIn}
+use Rattle.replay.specs.Layout.{putSnapshot, moveOf, answerIn, runAfter, rowsAfter, areaAfter}
+use Rattle.replay.specs.Loop.{agreesIn, inTargetIn, nextTarget, nextStep, lastFrom, firstRun, firstRows, runFrom, replayIn}
 use Rattle.replay.proofs.AreaLaws.{snapshot-length}
 use Rattle.replay.proofs.ByteLaws.{snapshot-same}
 use Rattle.replay.proofs.CauseLaws.{answer-may}

@@ -1,14 +1,14 @@
 -- One step: if the bytes and arrays represent a configuration, then the answer is the machine's, and a permitted step leaves them
 -- representing the configuration after it.
 use Prim.Native.Nat.{ℕ, zero, suc, _+_, _*_, _-_, _<_, _≤_}
-use mathlib.Core.Path.{_≡_, refl, sym, ap, ap₂, subst, _∙_}
+use mathlib.Core.Path.{_≡_, refl, sym, ap, subst, _∙_}
 use mathlib.Core.Bool.{Bool, true, false, cond, _&&_, not}
-use mathlib.Core.List.{List, [], _∷_, _++_}
+use mathlib.Core.List.{List}
 use native.Mathlib.Omega.{arith}
-use native.Mathlib.Decide.{decLe, decLt, ℕ-discrete}
+use native.Mathlib.Decide.{decLt, ℕ-discrete}
 use lib.ListN.{length, length-set, getD, set}
 use lib.Seq.{getD-set-same, getD-set-other}
-use lib.Dec.{T, eqb, leb, ltb}
+use lib.Dec.{T, ltb}
 use borrow.Author.Tests.{le-leb, lt-leb, lt-ltb, le-ltb, leb-false, ltb-true}
 use mir.Facts.{and-yes}
 use Rattle.pws.specs.declared.Operation.{Operation}
@@ -20,35 +20,16 @@ use Rattle.pws.specs.Program as pws
 use Rattle.pws.specs.Machine.{Configuration, put, isEmpty, queueAfter, memoryAfter, afterTake, afterSerialise, afterUpdate, mayTake, may, after}
 use Rattle.pws.proofs.Facts.{put-same, put-other}
 use Rattle.records.specs.declared.program.Shape.{Shape}
-use Rattle.records.specs.declared.program.Row.{Row}
 use Rattle.records.specs.declared.program.Program.{Program}
 use Rattle.records.specs.Records.{transitionAt}
 use Rattle.records.specs.ProgramPart.{tableFrom, shapeOf, programOf}
-use Rattle.replay.specs.declared.step.Answer.{Answer}
-use Rattle.replay.specs.declared.step.Answer.the-variants.{Permitted, Refused}
+use Rattle.replay.specs.declared.step.Answer.the-variants.{Refused}
 use Rattle.replay.specs.declared.step.Cause.the-variants.{State}
 use Rattle.replay.specs.declared.step.Move.{Move}
 use Rattle.replay.specs.declared.step.Move.the-variants.{Absent, Take, Serialise, Update}
 use Rattle.replay.specs.declared.step.Run.{Run}
 use Rattle.replay.specs.Causes.{firstCause, takeAnswer, stepAnswer}
-use Rattle.replay.specs.Layout.{
-  nextNumber,
-  queueNumber,
-  snapshotAt,
-  waitingAt,
-  putWaiting,
-  appended,
-  moveOf,
-  answerIn,
-  runAfter,
-  rowsTaken,
-  rowsAfter,
-  messagesTaken,
-  tailsTaken,
-  areaTaken,
-  areaAfter,
-}
-use Rattle.replay.specs.Represents.{waitingIn, Represents}
+use Rattle.replay.specs.Layout.{queueNumber, snapshotAt, waitingAt, appended, moveOf, answerIn, runAfter, rowsTaken, rowsAfter, messagesTaken, tailsTaken, areaTaken, areaAfter}
 use Rattle.replay.proofs.AreaLaws.{area-length}
 use Rattle.replay.proofs.ByteLaws.{next-is, waiting-past, snapshot-below}
 use Rattle.replay.proofs.Answering.{Kept, table-empty, queue-is, take-is, serialise-is, update-is}

@@ -1,10 +1,10 @@
 -- The replay as the code makes it, over the bytes and arrays of Layout. No statement rests on these definitions: `replay-right` says that they
 -- give the verdict of the machine.
-use Prim.Native.Nat.{ℕ, zero, suc, _+_, _*_}
-use mathlib.Core.Bool.{Bool, true, false, cond, _&&_, _||_}
-use mathlib.Core.List.{List, [], _∷_}
+use Prim.Native.Nat.{ℕ, zero, suc, _+_}
+use mathlib.Core.Bool.{Bool, cond, _&&_, _||_}
+use mathlib.Core.List.{List}
 use lib.ListN.{length, getD, replicate}
-use lib.Dec.{eqb, leb, ltb}
+use lib.Dec.{eqb, leb}
 use Rattle.records.specs.declared.program.Shape.{Shape}
 use Rattle.records.specs.declared.program.Row.{Row}
 use Rattle.records.specs.declared.program.Program.{Program}
@@ -13,7 +13,6 @@ use Rattle.records.specs.Records.{stepBody, stepAt}
 use Rattle.replay.specs.declared.step.Cause.the-variants.{Nothing}
 use Rattle.replay.specs.declared.step.Answer.{Answer}
 use Rattle.replay.specs.declared.step.Answer.the-variants.{Permitted, Refused}
-use Rattle.replay.specs.declared.step.Move.{Move}
 use Rattle.replay.specs.declared.step.Run.{Run}
 use Rattle.replay.specs.declared.run.RunAnswer.{RunAnswer}
 use Rattle.replay.specs.declared.run.RunAnswer.the-variants.{Reachable, Stopped, Missed}

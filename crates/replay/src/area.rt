@@ -4,13 +4,11 @@
 //     8,192 + 512 q    1,024 half bytes: the values written into queue q = 4 p + v of process p and variable v, in the order of writing.
 //                      Value k is the lower half of byte k / 2 if k is even, and its upper half if k is odd.
 ghost use mathlib.Core.Path.{_≡_};
-ghost use mathlib.Core.Bool.{cond};
-ghost use Prim.Native.Nat.{ℕ, _+_, _*_, _≤_, _<_};
-ghost use lib.ListN.{length, getD, set, replicate};
+ghost use Prim.Native.Nat.{_+_, _*_, _<_};
+ghost use lib.ListN.{length, set, replicate};
 ghost use Rattle.replay.specs.Layout.{queueNumber, snapshotAt, putSnapshot, waitingAt, waitingPlace, halves, putWaiting, nextNumber};
 use records::bytes::byte_at;
 use records::bytes::wide;
-use records::program::of_four;
 
 pub fn widen(x: u16) -> usize
     ensures { λ r. ⌜ r ≡ x ⌝ }

@@ -1,12 +1,12 @@
 // The replay of a run's steps (document 01, "The machine" and "Verdicts and refusal table").
 ghost use mathlib.Core.Path.{_≡_};
-ghost use Prim.Native.Nat.{ℕ, _+_, _*_, _≤_, _<_};
-ghost use lib.ListN.{length, getD, replicate};
+ghost use Prim.Native.Nat.{_+_, _≤_};
+ghost use lib.ListN.{length, replicate};
 ghost use Rattle.pws.specs.Program.{ProgramInRange};
 ghost use Rattle.records.specs.ProgramPart.{programOf, targetsOf};
 ghost use Rattle.records.specs.EvidencePart.{stepsOf};
 ghost use Rattle.replay.specs.Answers.{runAnswer, RunOf};
-ghost use Rattle.replay.specs.Loop.{agreesIn, inTargetIn, nextTarget, nextStep, lastFrom, lastIn, stoppedBy, firstRun, firstRows, replayIn};
+ghost use Rattle.replay.specs.Loop.{agreesIn, inTargetIn, nextTarget, nextStep, lastIn, stoppedBy, firstRun, firstRows, replayIn};
 use crate::area::clear;
 use crate::area::put_snapshot;
 use crate::step::Answer;

@@ -1,8 +1,7 @@
 // One step of the machine on the configuration of a run (document 01, "The machine").
 ghost use mathlib.Core.Path.{_≡_};
-ghost use mathlib.Core.Bool.{_&&_};
-ghost use Prim.Native.Nat.{ℕ, _+_, _*_, _≤_, _<_};
-ghost use lib.ListN.{length, getD, set};
+ghost use Prim.Native.Nat.{_+_, _*_, _<_};
+ghost use lib.ListN.{getD, set};
 ghost use Rattle.replay.specs.Causes.{causeNumber, firstCause};
 ghost use Rattle.replay.specs.Layout.{moveOf, transitionIn, pointerOf, lastWriteOf, emptyIn, idleIn, noneWaitingIn, atNewestIn, seesIn, queueFitsIn, newestHasIn, maySerialiseIn, mayUpdateIn, appended, pointerFitsIn, valueFitsIn, takeAnswerIn, answerIn, statesAfter, messagesTaken, messagesAfter, advanced, headsAfter, tailsTaken, tailsAfter, runAfter, pointed, putLast, later, updated, rowsTaken, rowsAfter, areaTaken, areaAfter};
 use crate::area::next_number;

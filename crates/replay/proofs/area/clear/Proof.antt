@@ -1,7 +1,5 @@
-use Prim.Native.Nat.{ℕ, _-_, _≤_}
-use mathlib.Core.Path.{_≡_, refl, sym, ap, _∙_}
+use Prim.Native.Nat.{_-_}
 use native.Mathlib.Omega.{arith}
-use lib.ListN.{length, length-set, take, replicate}
 use borrow.Author.Needs.{needs}
 use Rattle.replay.proofs.AreaLaws.{Cleared, cleared-begin, cleared-next, cleared-all}
 use Rattle.replay.proofs.area.clear.Statement.{statement}

@@ -1,6 +1,5 @@
 use lib.Seq.{set-out}
 use mathlib.Core.Path.{sym}
-use Rattle.replay.specs.Layout.{putWaiting}
 use borrow.Author.Needs.{needs}
 use Rattle.replay.proofs.area.put_waiting.Statement.{statement}
 use Rattle.replay.proofs.area.put_waiting.Tie as tie

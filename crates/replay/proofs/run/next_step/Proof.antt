@@ -1,7 +1,5 @@
 use borrow.Author.Tests.{le-leb, lt-leb}
 use native.Mathlib.Omega.{arith}
-use Prim.Native.Nat.{_≤_}
-use Rattle.records.specs.Records.{stepBody}
 use Rattle.replay.proofs.AreaLaws.{body-most}
 use Rattle.replay.specs.Loop.{nextStep}
 use borrow.Author.Needs.{needs}

@@ -1,6 +1,5 @@
 use borrow.Author.Tests.{not-true, not-false}
 use Rattle.replay.specs.Causes.{firstCause}
-use borrow.Author.Needs.{needs}
 use Rattle.replay.proofs.step.first_cause.Statement.{statement}
 use Rattle.replay.proofs.step.first_cause.Tie as tie
 

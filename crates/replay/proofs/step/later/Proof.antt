@@ -1,6 +1,5 @@
 use borrow.Author.Tests.{lt-ltb, le-ltb}
 use Rattle.replay.specs.Layout.{later}
-use borrow.Author.Needs.{needs}
 use Rattle.replay.proofs.step.later.Statement.{statement}
 use Rattle.replay.proofs.step.later.Tie as tie
 

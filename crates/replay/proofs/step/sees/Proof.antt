@@ -1,5 +1,4 @@
 use borrow.Author.Tests.{le-leb, lt-leb}
-use mathlib.Core.Path.{_≡_, refl}
 use Rattle.replay.specs.Layout.{seesIn, emptyIn}
 use borrow.Author.Needs.{needs}
 use Rattle.replay.proofs.step.sees.Statement.{statement}
