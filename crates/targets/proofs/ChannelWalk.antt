@@ -1,5 +1,5 @@
 -- The walk over the channels of the irreducible shapes, from the newest message backwards.
-use Prim.Native.Nat.{ℕ, zero, suc, _+_, _-_, _*_, _<_, _≤_}
+use Prim.Native.Nat.{ℕ, zero, suc, _+_, _-_, _<_, _≤_}
 use mathlib.Core.Path.{fun-ext, _≡_, refl, sym, ap, ap₂, subst, _∙_}
 use mathlib.Core.Logic.{_≢_}
 use mathlib.Core.Bool.{Bool, true, false, not}
@@ -12,7 +12,7 @@ use lib.Dec.{eqb}
 use borrow.Author.Tests.{eq-eqb, ne-eqb}
 use Rattle.pws.specs.declared.Message.{Message}
 use Rattle.pws.specs.Program as pws
-use Rattle.pws.specs.Machine.{Memory, Configuration, put, noMessage, allBelow}
+use Rattle.pws.specs.Machine.{Configuration, put, noMessage, allBelow}
 use Rattle.pws.specs.Configurations.{Fits}
 use Rattle.pws.specs.Entries.{ValueOrFF}
 use Rattle.records.specs.declared.program.Shape.{Shape}

@@ -11,7 +11,7 @@ use Rattle.records.specs.ProgramPart.{shapeOf}
 use Rattle.records.specs.Cube.{configurationOf}
 use Rattle.lists.specs.Shapes.{queueShapes}
 use Rattle.lists.specs.Decision.{held}
-use Rattle.targets.specs.ShapeCube.{Roomy, outlineOf, emptyShape, ShapeCube, withWaiting}
+use Rattle.targets.specs.ShapeCube.{outlineOf, emptyShape, ShapeCube, withWaiting}
 use Rattle.contents.specs.Again.{entriesOf}
 use Rattle.cover.specs.Search.{Searchable}
 use Rattle.targets.specs.Walk.{Judges, withQueues, queueCubes}

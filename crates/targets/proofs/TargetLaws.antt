@@ -7,7 +7,6 @@ use native.Mathlib.Omega.{arith}
 use lib.ListN.{getD}
 use Rattle.pws.specs.declared.Message.{Message}
 use Rattle.pws.specs.Program as pws
-use Rattle.pws.specs.Machine.{Configuration}
 use Rattle.records.specs.declared.program.Shape.{Shape}
 use Rattle.records.specs.ProgramPart.{shapeOf}
 use Rattle.lists.specs.Lists.{every}

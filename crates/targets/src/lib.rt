@@ -1,8 +1,8 @@
 // Targets and starts of a list (theory, sections 3 and 4).
 ghost use mathlib.Core.Path.{_≡_};
 ghost use mathlib.Core.List.{map};
-ghost use Prim.Native.Nat.{ℕ, _+_, _-_, _*_, _≤_, _<_, min};
-ghost use lib.ListN.{length, getD, take};
+ghost use Prim.Native.Nat.{_+_, _-_, _*_, _≤_, _<_};
+ghost use lib.ListN.{getD, take};
 ghost use mathlib.Core.Bool.{cond, not};
 ghost use lib.Dec.{eqb, ltb};
 ghost use Rattle.pws.specs.Program.{Program};

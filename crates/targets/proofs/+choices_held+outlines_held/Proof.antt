@@ -1,9 +1,8 @@
-use Prim.Native.Nat.{ℕ, _+_, _-_, _*_, _<_, _≤_}
+use Prim.Native.Nat.{ℕ, _+_, _-_, _*_, _<_}
 use mathlib.Core.Path.{_≡_, sym, _∙_}
 use native.Mathlib.Omega.{arith}
 use lib.ListN.{length}
 use borrow.Author.Tests.{not-true, not-false}
-use borrow.Author.Needs.{needs}
 use Rattle.targets.proofs.JudgeLaws.{EachHeld, held-begin, held-next, held-all, judges-is}
 use Rattle.targets.proofs.ChannelSteps.{labelled-by, written-by, first-place, all-there, too-long, label-not, labels-held, next-place, next-message, refused, allowed-one, unplaced-not, was-placed, placed-too}
 use borrow.Fn.Kinds.{In}

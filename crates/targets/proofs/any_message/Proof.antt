@@ -1,5 +1,4 @@
 use mathlib.Core.Path.{refl}
-use native.Mathlib.Omega.{arith}
 use borrow.Author.Needs.{needs}
 use Rattle.targets.proofs.any_message.Statement.{statement}
 use Rattle.targets.proofs.any_message.Tie as tie

@@ -1,5 +1,4 @@
 use Rattle.targets.proofs.QueueSteps.{first-queue, channel-judged}
-use borrow.Author.Needs.{needs}
 use Rattle.targets.proofs.channel_held.Statement.{statement}
 use Rattle.targets.proofs.channel_held.Tie as tie
 

@@ -1,7 +1,6 @@
 use Prim.Native.Nat.{ℕ, _-_}
 use mathlib.Core.Path.{sym, ap₂, _∙_}
 use mathlib.Core.Bool.{false, _&&_}
-use native.Mathlib.Omega.{arith}
 use lib.ListN.{getD}
 use lib.Dec.{eqb}
 use Rattle.pws.specs.Machine.{noMessage, labelled}

@@ -1,7 +1,6 @@
-use Prim.Native.Nat.{ℕ}
 use native.Mathlib.Omega.{arith}
 use borrow.Author.Tests.{not-true, not-false, ne-eqb}
-use mathlib.Core.Path.{sym, ap, _∙_}
+use mathlib.Core.Path.{sym, _∙_}
 use Rattle.targets.proofs.StartLaws.{other-states, some-waiting, other-count, one-message}
 use borrow.Author.Needs.{needs}
 use Rattle.targets.proofs.looks_started.Statement.{statement}

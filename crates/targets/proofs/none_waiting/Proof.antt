@@ -1,8 +1,7 @@
 use mathlib.Core.Bool.{true}
 use Prim.Native.Nat.{_-_}
-use native.Mathlib.Omega.{arith}
 use borrow.Author.Tests.{not-true, not-false}
-use mathlib.Core.Path.{sym, ap, _∙_}
+use mathlib.Core.Path.{sym, _∙_}
 use Rattle.pws.specs.Machine.{isEmpty, allBelow}
 use Rattle.records.specs.Cube.{queueOf}
 use Rattle.matching.proofs.Below.{all-false, Each, each-begin, each-next, each-all}

@@ -1,7 +1,5 @@
 use Prim.Native.Nat.{_-_, _≤_}
-use mathlib.Core.Path.{_≡_, sym, ap}
-use native.Mathlib.Omega.{arith}
-use lib.ListN.{length, getD}
+use lib.ListN.{length}
 use Rattle.targets.proofs.ShapeLaws.{Turned, turned-begin, turned-next, turned-all}
 use borrow.Author.Needs.{needs}
 use Rattle.targets.proofs.oldest_first.Statement.{statement}

@@ -1,6 +1,4 @@
 use mathlib.Core.Path.{refl}
-use Prim.Native.Nat.{_+_, _-_}
-use mathlib.Core.Bool.{cond}
 use native.Mathlib.Omega.{arith}
 use borrow.Author.Tests.{not-true, not-false}
 use borrow.Author.Needs.{needs}

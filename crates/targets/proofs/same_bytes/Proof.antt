@@ -2,7 +2,6 @@ use mathlib.Core.Bool.{true}
 use Prim.Native.Nat.{_-_}
 use lib.ListN.{getD}
 use lib.Dec.{eqb}
-use native.Mathlib.Omega.{arith}
 use borrow.Author.Tests.{eq-eqb, ne-eqb}
 use Rattle.matching.proofs.Below.{all-false, Each, each-begin, each-next, each-all}
 use mathlib.Core.Path.{sym}

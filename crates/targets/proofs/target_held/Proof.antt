@@ -1,7 +1,6 @@
 use mathlib.Core.Path.{refl}
 use native.Mathlib.Omega.{arith}
 use Rattle.targets.proofs.TargetLaws.{product, target-is}
-use borrow.Author.Needs.{needs}
 use Rattle.targets.proofs.target_held.Statement.{statement}
 use Rattle.targets.proofs.target_held.Tie as tie
 
