@@ -1,0 +1,19 @@
+use mathlib.Core.Path.{_≡_, subst}
+use Rattle.lists.specs.Decision.{closed}
+use Rattle.records.specs.declared.entry.Cube.{Cube}
+use Rattle.records.specs.ProgramPart.{programOf}
+use Rattle.records.specs.Cube.{configurationOf}
+use Rattle.contents.specs.Again.{entriesOf}
+use Rattle.closing.specs.Walk.{Walkable}
+use borrow.Author.Needs.{needs}
+use Rattle.closing.proofs.entry_closed.Statement.{statement}
+use Rattle.closing.proofs.entry_closed.Tie as tie
+
+pub entry-closed-spec : {M : Type 1} → statement M
+entry-closed-spec = tie.close (tie.spec
+    -- entry-at-requires 276:9
+    (λ c κs. search needs)
+    -- cube-closed-requires 277:5
+    (λ c κs. search needs)
+    -- returns 273:1
+    (λ c. subst (λ (k : Cube). Walkable (c .before .before .before .before .args .file .now) (c .before .before .before .before .args .list .now) (c .before .before .before .before .args .n) (c .before .before .before .before .args .program) k → c .cube-closed .result .held ≡ closed (programOf (c .before .before .before .before .args .file .now) (c .before .before .before .before .args .program)) (entriesOf (c .before .before .before .before .args .file .now) (c .before .before .before .before .args .list .now) (c .before .before .before .before .args .n)) (configurationOf k)) (c .before .entry-at .ensures) (c .cube-closed .ensures)))
