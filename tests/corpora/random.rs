@@ -242,6 +242,44 @@ fn random_snapshot(r: &mut Random, program: &Program) -> [u8; 4] {
     snapshot
 }
 
+/// An FF of an entry split into its values, completely or but for the one left out.
+fn split(r: &mut Random, program: &Program, entries: &mut Vec<Configuration>, at: usize, left_out: u8) {
+    let entry = entries[at].clone();
+    let mut copy = entry.clone();
+    let places = value_places(&mut copy, program.variables);
+    let open: Vec<usize> = (0..places.len()).filter(|n| *places[*n] == FF).collect();
+    if open.is_empty() {
+        return;
+    }
+    let place = *r.pick(&open);
+    entries.remove(at);
+    for value in (0..program.values).filter(|v| *v != left_out) {
+        let mut part = entry.clone();
+        *value_places(&mut part, program.variables)[place] = value;
+        entries.insert(r.below(entries.len() + 1), part);
+    }
+}
+
+/// Many FFs split, those of parts too, in the order of a shuffle; in half of them one value of one place is missing.
+fn split_often(r: &mut Random, program: &Program, entries: &[Configuration]) -> Vec<Configuration> {
+    let mut entries = entries.to_vec();
+    let favourite = entries[r.below(entries.len())].clone();
+    for _ in 0..3 + r.below(15) {
+        // Mostly parts of one entry, so that several places of it are split.
+        let same = |e: &Configuration| e.states == favourite.states && e.pointers == favourite.pointers && e.channel.len() == favourite.channel.len();
+        let parts: Vec<usize> = (0..entries.len()).filter(|n| same(&entries[*n])).collect();
+        let at = if parts.is_empty() || r.one_in(4) { r.below(entries.len()) } else { *r.pick(&parts) };
+        split(r, program, &mut entries, at, FF);
+    }
+    if r.one_in(2) && entries.len() > 1 {
+        let at = r.below(entries.len());
+        let left_out = r.below(program.values as usize) as u8;
+        split(r, program, &mut entries, at, left_out);
+    }
+    shuffle(r, &mut entries);
+    entries
+}
+
 /// One of the ways to spoil a list, or to write the same set otherwise.
 pub fn spoilt_list(r: &mut Random, program: &Program, entries: &[Configuration]) -> (Program, Vec<Configuration>) {
     let mut program = program.clone();
@@ -258,23 +296,9 @@ pub fn spoilt_list(r: &mut Random, program: &Program, entries: &[Configuration])
         }
         match r.below(12) {
             0 | 1 => drop(entries.remove(at)),
-            // An FF split into its values, completely or but for one.
             2..=4 => {
-                let entry = entries[at].clone();
-                let mut copy = entry.clone();
-                let open: Vec<usize> =
-                    value_places(&mut copy, program.variables).iter().enumerate().filter(|(_, v)| ***v == FF).map(|(n, _)| n).collect();
-                if open.is_empty() {
-                    continue;
-                }
-                let place = *r.pick(&open);
                 let left_out = if r.one_in(2) { r.below(program.values as usize) as u8 } else { FF };
-                entries.remove(at);
-                for value in (0..program.values).filter(|v| *v != left_out) {
-                    let mut part = entry.clone();
-                    *value_places(&mut part, program.variables)[place] = value;
-                    entries.insert(r.below(entries.len() + 1), part);
-                }
+                split(r, &program, &mut entries, at, left_out);
             }
             5 | 6 => {
                 let value = random_value(r, &program);
@@ -373,17 +397,17 @@ pub fn spoilt_list(r: &mut Random, program: &Program, entries: &[Configuration])
 }
 
 /// Shape, how many programs of it, how many spoilt variants of each list, the longest list, and whether an entry is given beside the
-/// targets. A judge that compares each predecessor with the whole list needs seconds for many hundred entries, so the longer lists are few.
+/// targets. Long lists take most of the time, so there are few of them.
 const LISTS: [(usize, usize, usize, usize, usize, bool); 9] = [
     (1, 1, 150, 12, 200, false),
-    (1, 1, 50, 12, 200, true),
-    (1, 2, 30, 10, 100, false),
-    (1, 2, 10, 10, 250, true),
-    (1, 3, 2, 5, 500, false),
-    (1, 3, 2, 5, 500, true),
-    (2, 1, 2, 5, 500, false),
-    (2, 1, 10, 8, 400, true),
-    (2, 1, 2, 2, 900, true),
+    (1, 1, 100, 12, 200, true),
+    (1, 2, 40, 12, 100, false),
+    (1, 2, 20, 12, 250, true),
+    (1, 3, 3, 8, 500, false),
+    (1, 3, 3, 8, 500, true),
+    (2, 1, 3, 8, 500, false),
+    (2, 1, 12, 8, 400, true),
+    (2, 1, 2, 4, 900, true),
 ];
 
 /// Closed lists of the shapes that can be accepted, with spoilt ones.
@@ -393,8 +417,11 @@ pub fn lists(r: &mut Random, each: &mut dyn FnMut(&Program, &[Configuration])) {
             let values = 1 + r.below(if variables == 1 { 4 } else { 3 }) as u8;
             let (program, entries) = list(r, processes, variables, values, most, given);
             each(&program, &entries);
-            for _ in 0..variants {
-                let (program, entries) = spoilt_list(r, &program, &entries);
+            for number in 0..variants {
+                let (program, entries) = match number % 4 {
+                    3 if !entries.is_empty() => (program.clone(), split_often(r, &program, &entries)),
+                    _ => spoilt_list(r, &program, &entries),
+                };
                 each(&program, &entries);
             }
         }
