@@ -1,11 +1,10 @@
 -- A cube with parts changed, and what it stands for.
-use Prim.Native.Nat.{ℕ, zero, suc, _+_, _-_, _*_, _<_, _≤_}
+use Prim.Native.Nat.{ℕ, zero, suc, _+_, _*_, _<_, _≤_}
 use mathlib.Core.Path.{_≡_, refl, sym, ap, ap₂, subst, _∙_}
-use mathlib.Core.Bool.{Bool, true, false, cond}
+use mathlib.Core.Bool.{Bool, cond}
 use mathlib.Core.List.{List, [], _∷_}
 use native.Mathlib.Omega.{arith}
 use lib.ListN.{length, getD, set, List·getD-eq-default}
-use lib.Dec.{leb}
 use borrow.Author.Tests.{lt-leb}
 use Rattle.pws.specs.declared.Message.{Message}
 use Rattle.pws.specs.Machine.{Memory, Configuration, put, putQueue}
@@ -16,7 +15,7 @@ use Rattle.records.specs.declared.entry.Cube.{Cube}
 use Rattle.records.specs.Cube.{noQueue, waitingOf, channelOf, configurationOf}
 use Rattle.records.proofs.CubeParts.{queue-put, four-put}
 use Rattle.before.specs.Kinds.{Sound}
-use Rattle.before.specs.Changes.{withMemory, withQueues, withStates, Changed, CubeFor, Remade, byNumber, allUp, Low, Room, Sizes, Some}
+use Rattle.before.specs.Changes.{withMemory, withQueues, withStates, Changed, CubeFor, Remade, byNumber, allUp, Room, Sizes, Some}
 
 pub all-up : (zs : List ℕ) (k a b c d : ℕ) → length zs ≡ 4 → 1 ≤ k → a ≡ up k (getD zs 0 0) → b ≡ up k (getD zs 1 0) → c ≡ up k (getD zs 2 0) → d ≡ up k (getD zs 3 0)
     → byNumber (a ∷ b ∷ c ∷ d ∷ []) ≡ allUp k (byNumber zs)

@@ -1,9 +1,9 @@
 -- An entry of a file has the sizes that the code goes by.
 use Prim.Native.Nat.{ℕ, _<_, _≤_}
-use mathlib.Core.Path.{_≡_, ap, subst}
+use mathlib.Core.Path.{_≡_, ap}
 use native.Mathlib.Omega.{arith}
 use native.Mathlib.Decide.{decLt}
-use lib.ListN.{length, getD}
+use lib.ListN.{getD}
 use Rattle.pws.specs.Program as pws
 use Rattle.pws.specs.Program.{ShapeInRange}
 use Rattle.pws.specs.Entries.{EntryOf}

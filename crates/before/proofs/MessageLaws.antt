@@ -1,5 +1,5 @@
 -- Messages of a cube: LastWrite, and a message inserted.
-use Prim.Native.Nat.{ℕ, zero, suc, _+_, _-_, _<_, _≤_}
+use Prim.Native.Nat.{ℕ, zero, suc, _+_, _<_, _≤_}
 use mathlib.Core.Path.{_≡_, refl, sym, ap, ap₂, _∙_}
 use mathlib.Core.Bool.{Bool, true, false, cond}
 use mathlib.Core.List.{List, [], _∷_}
@@ -8,7 +8,7 @@ use native.Mathlib.Numerals.{unary-clauses}
 use native.Mathlib.Decide.{ℕ-discrete}
 use lib.ListN.{length, getD, set, length-set}
 use lib.Seq.{getD-set-same, getD-set-other}
-use lib.Dec.{eqb, leb}
+use lib.Dec.{eqb}
 use borrow.Author.Tests.{le-leb, lt-leb, eq-eqb, ne-eqb}
 use Rattle.pws.specs.declared.Message.{Message}
 use Rattle.pws.specs.Machine.{noMessage, labelled, lastLabelled}
@@ -16,7 +16,7 @@ use Rattle.pws.specs.Insertion.{insert}
 use Rattle.lists.specs.Cubes.{withValues, setValue}
 use Rattle.records.specs.declared.program.Shape.{Shape}
 use Rattle.records.specs.declared.entry.Cube.{Cube}
-use Rattle.records.specs.Cube.{channelOf, configurationOf}
+use Rattle.records.specs.Cube.{channelOf}
 use Rattle.records.proofs.CubeParts.{channel-length, channel-equal}
 use Rattle.before.specs.Kinds.{Sound}
 use Rattle.before.specs.Changes.{LastWrite}

@@ -1,17 +1,17 @@
 -- The cube before a read and a write.
 use Prim.Native.Nat.{ℕ, _+_, _*_, _<_, _≤_}
-use mathlib.Core.Path.{_≡_, refl, sym, ap, ap₂, subst, _∙_}
+use mathlib.Core.Path.{_≡_, sym, ap, ap₂}
 use mathlib.Core.Bool.{Bool, true, false, cond}
-use mathlib.Core.List.{List, [], _∷_}
+use mathlib.Core.List.{List}
 use native.Mathlib.Omega.{arith}
 use lib.ListN.{length, getD, set}
-use Rattle.pws.specs.Machine.{Memory, Configuration, putQueue, isEmpty, lastWrite}
+use Rattle.pws.specs.Machine.{Configuration, putQueue, isEmpty, lastWrite}
 use Rattle.lists.specs.Cubes.{memoryOf, setValue, withLast}
 use Rattle.lists.specs.Predecessors.{readMemory}
 use Rattle.records.specs.declared.entry.Queue.{Queue}
 use Rattle.records.specs.declared.entry.Cube.{Cube}
 use Rattle.records.specs.Cube.{noQueue, waitingOf, configurationOf}
-use Rattle.before.specs.Changes.{withMemory, withQueues, withParts, Changed, CubeFor, Waits, Sizes, LastWrite}
+use Rattle.before.specs.Changes.{withMemory, withQueues, withParts, Changed, CubeFor, Waits, Sizes}
 use Rattle.before.proofs.QueueLaws.{put-sizes}
 use Rattle.before.proofs.ChangeLaws.{cube-equal, changed-then, changed-cube}
 

@@ -1,6 +1,6 @@
 -- The predecessor cubes of an entry for a step, kind by kind in the order of their list.
-use Prim.Native.Nat.{ℕ, zero, suc, _+_, _*_, _<_, _≤_}
-use mathlib.Core.Path.{_≡_, refl, sym, ap, ap₂, _∙_}
+use Prim.Native.Nat.{ℕ, zero, suc, _+_, _*_, _≤_}
+use mathlib.Core.Path.{_≡_, refl, sym, ap, _∙_}
 use mathlib.Core.Bool.{Bool, true, false, _&&_}
 use mathlib.Core.List.{List, [], _∷_, _++_, append-assoc, append-nil}
 use native.Mathlib.Omega.{arith}
@@ -14,7 +14,7 @@ use Rattle.lists.specs.Lists.{forBelow}
 use Rattle.lists.specs.Predecessors.{Kind, undone, has, cube, cubes, kinds, predecessors}
 use Rattle.records.specs.declared.entry.Queue.{Queue}
 use Rattle.records.specs.declared.entry.Cube.{Cube}
-use Rattle.records.specs.Cube.{noQueue, waitingOf, queueOf, configurationOf}
+use Rattle.records.specs.Cube.{noQueue, queueOf, configurationOf}
 use Rattle.records.proofs.ProgramLaws.{and-true}
 use Rattle.before.specs.Changes.{CubeFor}
 

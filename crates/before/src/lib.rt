@@ -1,11 +1,11 @@
 // The predecessor cubes of an entry (theory, section 5): which kinds there are for a step, and the cube of each. What they are is defined in
 // the theory of lists.
 ghost use mathlib.Core.Path.{_≡_};
-ghost use Prim.Native.Nat.{ℕ, _+_, _*_, _-_, _≤_, _<_, min, max};
-ghost use mathlib.Core.Bool.{true, cond, _&&_, _||_, not};
-ghost use mathlib.Core.List.{[], _∷_};
+ghost use Prim.Native.Nat.{ℕ, _+_, _*_, _-_, _≤_, _<_, max};
+ghost use mathlib.Core.Bool.{true, cond, _||_, not};
+ghost use mathlib.Core.List.{_∷_};
 ghost use lib.ListN.{length, getD, set};
-ghost use lib.Dec.{eqb, ltb, leb};
+ghost use lib.Dec.{eqb};
 ghost use Rattle.pws.specs.Machine.{put, putQueue, message, labelled, lastLabelled, lastWrite, point, isEmpty, newestWaiting, newestOr, noneWaiting, allBelow, atNewest, sees};
 ghost use Rattle.pws.specs.Program as pws;
 ghost use Rattle.pws.specs.Program.{OperationOf};

@@ -5,7 +5,7 @@ use Rattle.lists.specs.Predecessors.{undone}
 use lib.ListN.{getD}
 use native.Mathlib.Nat.{mul-zero, div-le-self, mod-le}
 use native.Mathlib.Omega.{arith}
-use mathlib.Core.Path.{_≡_, sym, ap}
+use mathlib.Core.Path.{sym, ap}
 use Prim.Native.Nat.{ℕ, _-_, _*_}
 use borrow.Author.Needs.{needs}
 use Rattle.before.proofs.kind_at_update.Statement.{statement}

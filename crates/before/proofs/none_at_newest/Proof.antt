@@ -4,7 +4,7 @@ use Rattle.pws.specs.Machine.{atNewest}
 use native.Mathlib.Omega.{arith}
 use mathlib.Core.Bool.{true, not}
 use mathlib.Core.Path.{sym, ap, _∙_}
-use Prim.Native.Nat.{ℕ, _-_}
+use Prim.Native.Nat.{_-_}
 use borrow.Author.Needs.{needs}
 use Rattle.before.proofs.none_at_newest.Statement.{statement}
 use Rattle.before.proofs.none_at_newest.Tie as tie

@@ -3,7 +3,7 @@ use Rattle.before.proofs.ChangeLaws.{changed-equal}
 use Rattle.before.proofs.QueueLaws.{length-mapped}
 use native.Mathlib.Omega.{arith}
 use mathlib.Core.Path.{_≡_}
-use Prim.Native.Nat.{ℕ, suc, _-_}
+use Prim.Native.Nat.{suc, _-_}
 use borrow.Author.Needs.{needs}
 use Rattle.before.proofs.replaced.Statement.{statement}
 use Rattle.before.proofs.replaced.Tie as tie

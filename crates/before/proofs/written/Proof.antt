@@ -5,7 +5,7 @@ use Rattle.pws.specs.declared.Message.{Message}
 use lib.ListN.{getD}
 use native.Mathlib.Omega.{arith}
 use mathlib.Core.Path.{_≡_, sym, ap, _∙_}
-use Prim.Native.Nat.{ℕ, suc, _-_}
+use Prim.Native.Nat.{suc, _-_}
 use borrow.Author.Needs.{needs}
 use Rattle.before.proofs.written.Statement.{statement}
 use Rattle.before.proofs.written.Tie as tie
