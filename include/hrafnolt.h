@@ -1,7 +1,7 @@
 /* The judge of Hrafnolt, for C.
  *
- * Link with libjudge.a. The function keeps no state between calls, allocates nothing and calls nothing: any number of threads may call
- * it at a time, each with its own work area. */
+ * Link with libhrafnolt.a (target/staticlib/libjudge.a, before it is installed). The function keeps no state between calls: any number
+ * of threads may call it at a time, each with its own work area. */
 #ifndef HRAFNOLT_H
 #define HRAFNOLT_H
 
