@@ -28,10 +28,12 @@ use Rattle.replay.specs.declared.step.Cause.the-variants.{State}
 use Rattle.replay.specs.declared.step.Move.{Move}
 use Rattle.replay.specs.declared.step.Move.the-variants.{Absent, Take, Serialise, Update}
 use Rattle.replay.specs.declared.step.Run.{Run}
-use Rattle.replay.specs.Causes.{firstCause, takeAnswer, stepAnswer}
+use Rattle.replay.specs.Causes.{firstCause, takeAnswer, stepAnswer, isPermitted}
 use Rattle.replay.specs.Layout.{queueNumber, snapshotAt, waitingAt, appended, moveOf, answerIn, runAfter, rowsTaken, rowsAfter, messagesTaken, tailsTaken, areaTaken, areaAfter}
+use Rattle.replay.specs.Represents.{Represents}
 use Rattle.replay.proofs.AreaLaws.{area-length}
 use Rattle.replay.proofs.ByteLaws.{next-is, waiting-past, snapshot-below}
+use Rattle.replay.proofs.CauseLaws.{answer-may}
 use Rattle.replay.proofs.Answering.{Kept, table-empty, queue-is, take-is, serialise-is, update-is}
 use Rattle.replay.proofs.Holding.{
   MemoryHeld,
@@ -267,3 +269,11 @@ module _ (f : List ℕ) (p : Program) where
         let qe = ltb-true q (p .shape .processes) (T-true (ltb q (p .shape .processes)) (y .0)) in
         let l = ltb-true (c .memory .pointer q) (length (c .memory .channel)) (T-true (ltb (c .memory .pointer q) (length (c .memory .channel))) (y .1)) in
         kept-updated (p .shape) (R .shape .processes) (R .shape .variables) values-most k run rows a c K few q qe l
+
+    -- both: the step is permitted exactly if the machine may take it, and then what is left represents the configuration after it
+    pub step-right : k < 1024 → (s : steps.Step)
+        → (isPermitted (answerIn run rows a (p .shape) (moveOf f (p .transitions) s)) ≡ may (programOf f p) c s)
+        × (T (may (programOf f p) c s)
+        → Represents (shapeOf (p .shape)) (runAfter run (moveOf f (p .transitions) s)) (rowsAfter rows (run .messages) (moveOf f (p .transitions) s))
+        (areaAfter a run (moveOf f (p .transitions) s)) (after (programOf f p) c s))
+    step-right few s = (ap isPermitted (answer-is s) ∙ answer-may (programOf f p) c s, (λ t. step-kept few s t .represents))

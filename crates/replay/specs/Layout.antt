@@ -1,5 +1,5 @@
 -- How the code holds the configuration of a run: in the lower 16,384 bytes of the work area, in a small struct and in an array of arrays.
--- `Represents` says which configuration that is; no statement rests on the other definitions but through it.
+-- specs/Represents.antt says which configuration that is; no statement rests on the other definitions but through it.
 use Prim.Native.Nat.{ℕ, suc, _+_, _*_, _/_, _%_, _-_}
 use mathlib.Core.Bool.{Bool, true, cond, _&&_, _||_, not}
 use mathlib.Core.List.{List, [], _∷_}

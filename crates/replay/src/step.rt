@@ -1,4 +1,6 @@
-// One step of the machine on the configuration of a run (document 01, "The machine").
+// One step of the machine on the configuration of a run (document 01, "The machine"). `step_answer` says whether it is permitted; then `store`
+// writes the message or the waiting value, `rows_after` hands back the pointers and LastWrite numbers, and `Run::after` the small part. A
+// struct cannot hold an array of arrays, so the rows stand beside it.
 ghost use mathlib.Core.Path.{_≡_};
 ghost use Prim.Native.Nat.{_+_, _*_, _<_};
 ghost use lib.ListN.{getD, set};
