@@ -4,7 +4,4 @@ pub mod ChangeLaws
 pub mod ReadLaws
 pub mod NewestLaws
 pub mod SerialiseLaws
-pub mod KindLaws
 pub mod Steps
-pub mod Walk
-pub mod Entries

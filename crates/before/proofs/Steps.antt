@@ -1,6 +1,6 @@
 -- What the code says of a step is what the theory of lists says: is there a cube of a kind, and which.
 use Prim.Native.Nat.{ℕ, _<_}
-use mathlib.Core.Path.{_≡_, refl, sym, ap, ap₂, subst, _∙_}
+use mathlib.Core.Path.{_≡_, sym, ap, subst, _∙_}
 use lib.ListN.{length}
 use mathlib.Core.Bool.{Bool, true, _&&_}
 use lib.Dec.{eqb, ltb}
@@ -9,14 +9,14 @@ use Rattle.pws.specs.declared.Step.the-variants.{Take, Serialise, Update}
 use Rattle.pws.specs.declared.Transition.{Transition}
 use Rattle.pws.specs.Program as pws
 use Rattle.pws.specs.Program.{transition, TransitionOf}
-use Rattle.lists.specs.Predecessors.{has, cube, kinds, operationKinds, hasOperation, serialised, serialiseKind, updateKind, updateMemory}
+use Rattle.lists.specs.Predecessors.{has, cube, hasOperation, serialised, serialiseKind, updateKind, updateMemory}
 use Rattle.records.specs.declared.program.Shape.{Shape}
 use Rattle.records.specs.declared.entry.Cube.{Cube}
 use Rattle.records.specs.ProgramPart.{shapeOf}
 use Rattle.records.specs.Cube.{configurationOf}
 use Rattle.records.proofs.ProgramLaws.{and-true}
 use Rattle.before.specs.declared.Kind.{Kind}
-use Rattle.before.specs.Kinds.{kindOf, Named, hasTake, takeBefore, hasSerialise, serialiseBefore, serialiseKinds, updateKinds}
+use Rattle.before.specs.Kinds.{kindOf, Named, hasTake, takeBefore, hasSerialise, serialiseBefore}
 use Rattle.before.specs.Changes.{withMemory, CubeFor}
 
 module _ (P : pws.Program) (s : Shape) (same : P .shape ≡ shapeOf s) (c : Cube) (k : Kind) where
@@ -41,12 +41,6 @@ module _ (P : pws.Program) (s : Shape) (same : P .shape ≡ shapeOf s) (c : Cube
   pub serialise-cube : {r : Cube} (p v : ℕ) → CubeFor r (serialiseBefore (shapeOf s) (configurationOf c) p v (kindOf k)) → CubeFor r (cube P (configurationOf c) (Serialise p v) (kindOf k))
   serialise-cube {r} p v w = subst (λ (S : pws.Shape). CubeFor r (serialiseBefore S (configurationOf c) p v (kindOf k))) (sym same) w
 
-  pub update-kinds : (p : ℕ) → kinds P (configurationOf c) (Update p) ≡ updateKinds (shapeOf s)
-  update-kinds p = ap updateKinds same
-
-  pub serialise-kinds : (p v : ℕ) → kinds P (configurationOf c) (Serialise p v) ≡ serialiseKinds (configurationOf c) v
-  serialise-kinds p v = refl
-
   -- the transition of number n is t
   module _ (n : ℕ) (t : Transition) (exists : n < length (P .transitions)) (is : t ≡ transition P n) where
     pub named : TransitionOf P (transition P n) → Named s t
@@ -64,6 +58,3 @@ module _ (P : pws.Program) (s : Shape) (same : P .shape ≡ shapeOf s) (c : Cube
 
     pub take-cube : {r : Cube} → CubeFor r (takeBefore (configurationOf c) t (kindOf k)) → CubeFor r (cube P (configurationOf c) (Take n) (kindOf k))
     take-cube {r} w = subst (λ (u : Transition). CubeFor r (takeBefore (configurationOf c) u (kindOf k))) is w
-
-    pub take-kinds : kinds P (configurationOf c) (Take n) ≡ operationKinds (shapeOf s) (t .operation)
-    take-kinds = ap₂ (λ (S : pws.Shape) (u : Transition). operationKinds S (u .operation)) same (sym is)

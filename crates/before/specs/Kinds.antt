@@ -1,15 +1,14 @@
 -- Kinds of predecessor cubes as the code holds them, and the cubes that it takes them of.
-use Prim.Native.Nat.{ℕ, suc, _<_, _≤_}
-use mathlib.Core.List.{List, [], _∷_, _++_}
+use Prim.Native.Nat.{ℕ, _<_, _≤_}
+use mathlib.Core.List.{_∷_}
 use mathlib.Core.Bool.{Bool, _&&_}
-use lib.ListN.{length, getD}
+use lib.ListN.{getD}
 use lib.Dec.{eqb}
 use Rattle.pws.specs.declared.Transition.{Transition}
 use Rattle.pws.specs.Program as pws
 use Rattle.pws.specs.Program.{OperationOf}
 use Rattle.pws.specs.Machine.{Configuration, put, putQueue}
-use Rattle.lists.specs.Cubes.{topmost, older}
-use Rattle.lists.specs.Lists.{forBelow}
+use Rattle.lists.specs.Cubes.{topmost}
 use Rattle.lists.specs.Predecessors as lists
 use Rattle.records.specs.declared.program.Shape.{Shape}
 use Rattle.records.specs.declared.entry.Cube.{Cube}
@@ -64,11 +63,3 @@ serialiseBefore S e p v k =
       queue = putQueue (e .queue) p v (getD (topmost (e .memory .channel) .snapshot) v 0 ∷ e .queue p v);
       memory = lists.serialiseMemory S (e .memory) p v k;
     }
-
--- ---- the kinds to look at: `kinds` of the step, by what it depends on
-
-abbrev pub serialiseKinds : Configuration → ℕ → List lists.Kind
-serialiseKinds e v = lists.undone ∷ forBelow (length (older (e .memory .channel))) (λ i. lists.inside (suc i) ∷ []) ++ (lists.onTop v ∷ [])
-
-abbrev pub updateKinds : pws.Shape → List lists.Kind
-updateKinds S = lists.undone ∷ forBelow (S .processes) (λ r. forBelow (S .variables) (λ u. lists.pointed r u ∷ []))

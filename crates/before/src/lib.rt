@@ -14,11 +14,11 @@ ghost use Rattle.pws.specs.Entries.{FF};
 ghost use Rattle.lists.specs.Values.{alike, meet, meetAll};
 ghost use Rattle.lists.specs.Cubes.{memoryOf, withValues, anyValue, anyMessage, setValue, withoutLast, withLast, topmost, older, alikeNewest};
 ghost use Rattle.lists.specs.Predecessors as lists;
-ghost use Rattle.lists.specs.Predecessors.{before, withoutNewest, joined, replaced, serialiseMemory, serialised, serialiseKind, arwMemory, swapped, arwKind, isUndone, writeKind, endsAlike, hasOperation, unwritten, queueBefore, readMemory, memoryBefore, updateKind, updateMemory, operationKinds};
+ghost use Rattle.lists.specs.Predecessors.{before, withoutNewest, joined, replaced, serialiseMemory, serialised, serialiseKind, arwMemory, swapped, arwKind, isUndone, writeKind, endsAlike, hasOperation, unwritten, queueBefore, readMemory, memoryBefore, updateKind, updateMemory};
 ghost use Rattle.records.specs.ProgramPart.{shapeOf};
 ghost use Rattle.records.specs.declared.program.Shape.{Shape};
 ghost use Rattle.records.specs.Cube.{noQueue, waitingOf, channelOf, configurationOf};
-ghost use Rattle.before.specs.Kinds.{kindOf, Sound, Named, hasTake, takeBefore, hasSerialise, serialiseBefore, serialiseKinds, updateKinds};
+ghost use Rattle.before.specs.Kinds.{kindOf, Sound, Named, hasTake, takeBefore, hasSerialise, serialiseBefore};
 ghost use Rattle.before.specs.Changes.{withMemory, withQueues, withStates, withParts, withMessages, Changed, CubeFor, Remade, byNumber, allUp, Low, Room, Small, Waits, Sizes, Some, LastWrite};
 use matching::least;
 use matching::related;
@@ -939,109 +939,4 @@ pub fn before_update(shape: Shape, cube: Cube, p: u8, kind: Kind) -> Cube
         Kind::OnTop(_) => cube,
         Kind::Pointed(r, u) => pointed_before(shape, cube, p, r, u),
     }
-}
-
-// ---- the kinds to look at, in their order
-
-pub fn kind_count_take(shape: Shape, operation: Operation) -> usize
-    ensures { λ r. ⌜ (shape .variables ≤ 4 → r ≡ length (operationKinds (shapeOf shape) operation)) ⌝ }
-{
-    let n = least(shape.variables, 4);
-    match operation {
-        Operation::Nop => 1,
-        Operation::Read {
-            variable: _,
-            value: _,
-        } => 1,
-        Operation::Write {
-            variable: _,
-            value: _,
-        } => 2,
-        Operation::Mfence => 1,
-        Operation::Sfence => 1,
-        Operation::Arw {
-            variable: _,
-            old: _,
-            new: _,
-        } => n + 1,
-    }
-}
-
-// The kinds after the first.
-fn later_kind(operation: Operation, i: usize) -> Kind
-    ensures { λ r. ⌜ ((S : pws.Shape) → i < 4 → i + 1 < length (operationKinds S operation) → kindOf r ≡ getD (operationKinds S operation) (i + 1) lists.undone) ⌝ }
-{
-    if 4 <= i {
-        return Kind::Undone;
-    }
-    match operation {
-        Operation::Nop => Kind::Undone,
-        Operation::Read {
-            variable: _,
-            value: _,
-        } => Kind::Undone,
-        Operation::Write {
-            variable: _,
-            value: _,
-        } => Kind::Waited,
-        Operation::Mfence => Kind::Undone,
-        Operation::Sfence => Kind::Undone,
-        Operation::Arw {
-            variable: _,
-            old: _,
-            new: _,
-        } => Kind::OnTop(i as u8),
-    }
-}
-
-pub fn kind_at_take(operation: Operation, i: usize) -> Kind
-    ensures { λ r. ⌜ ((S : pws.Shape) → S .variables ≤ 4 → i < length (operationKinds S operation) → kindOf r ≡ getD (operationKinds S operation) i lists.undone) ⌝ }
-{
-    if i == 0 {
-        return Kind::Undone;
-    }
-    later_kind(operation, i - 1)
-}
-
-pub fn kind_count_serialise(cube: Cube) -> usize
-    ensures { λ r. ⌜ ((v : ℕ) → Some cube → r ≡ length (serialiseKinds (configurationOf cube) v)) ⌝ }
-{
-    least(cube.count, 20) + 1
-}
-
-pub fn kind_at_serialise(cube: Cube, v: u8, i: usize) -> Kind
-    ensures { λ r. ⌜ (Some cube → i < length (serialiseKinds (configurationOf cube) v) → kindOf r ≡ getD (serialiseKinds (configurationOf cube) v) i lists.undone) ⌝ }
-{
-    if i == 0 {
-        return Kind::Undone;
-    }
-    if least(cube.count, 20) <= i {
-        return Kind::OnTop(v);
-    }
-    Kind::Inside(i as u8)
-}
-
-pub fn kind_count_update(shape: Shape) -> usize
-    ensures { λ r. ⌜ (shape .processes ≤ 4 → shape .variables ≤ 4 → r ≡ length (updateKinds (shapeOf shape))) ⌝ }
-{
-    least(shape.processes, 4) * least(shape.variables, 4) + 1
-}
-
-pub fn kind_at_update(shape: Shape, i: usize) -> Kind
-    ensures { λ r. ⌜ (shape .processes ≤ 4 → shape .variables ≤ 4 → i < length (updateKinds (shapeOf shape)) → kindOf r ≡ getD (updateKinds (shapeOf shape)) i lists.undone) ⌝ }
-{
-    let n = shape.variables;
-    if i == 0 {
-        return Kind::Undone;
-    }
-    if 16 < i {
-        return Kind::Undone;
-    }
-    if n == 0 {
-        return Kind::Undone;
-    }
-    let k = i - 1;
-    let r = k / n;
-    let u = k % n;
-    Kind::Pointed(r as u8, u as u8)
 }
