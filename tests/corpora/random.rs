@@ -447,7 +447,7 @@ pub fn lists(r: &mut Random, each: &mut dyn FnMut(&Program, &[Configuration])) {
             messages => entry.channel.len() == messages,
         };
         let further: Vec<usize> = (0..fewer.len()).filter(|n| fewer[*n].states[0] == 0 && small(&fewer[*n])).collect();
-        fewer.remove(*r.pick(&further));
+        fewer.remove(further[number / 3 % further.len()]);
         shuffle(r, &mut fewer);
         each(&program, &fewer);
     }
