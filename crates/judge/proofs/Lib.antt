@@ -3,3 +3,6 @@ pub mod Runs
 pub mod Demands
 pub mod Cases
 pub mod AreaLaws
+pub mod LowestLaws
+pub mod ListLaws
+pub mod JudgeLaws

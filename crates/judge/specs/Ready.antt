@@ -1,13 +1,16 @@
 -- What the code knows of a file that was read. No statement rests on these definitions.
 use Prim.Native.Nat.{ℕ, _<_, _≤_}
 use mathlib.Core.Path.{_≡_}
-use mathlib.Core.Bool.{Bool, true, false}
+use mathlib.Core.Bool.{Bool, true, false, not}
 use mathlib.Core.List.{List}
 use Rattle.pws.specs.Entries.{entry}
+use Rattle.lists.specs.Verdict.{target}
+use Rattle.lists.specs.Decision.{targetHeld, looksStarted, closed, verdictOf}
 use Rattle.records.specs.declared.program.Program.{Program}
 use Rattle.records.specs.ProgramPart.{programOf, targetsOf}
 use Rattle.contents.specs.Again.{cubeAt, entriesOf}
 use Rattle.contents.specs.Contents.{ProgramPartRead, EntryRange, ProgramSizes, CubeRange}
+use Rattle.judge.specs.Judge.{Verdict, ofList}
 
 -- the lowest number below n at which the test fails, or n
 pub record LowestFailing (test : ℕ → Bool) (n r : ℕ) : Type 0 where
@@ -22,3 +25,18 @@ pub record Ready (f list : List ℕ) (n : ℕ) (p : Program) : Type 0 where
   pub count : n ≤ 524288
   pub entries : (k : ℕ) → k < n → EntryRange (programOf f p) (entry (entriesOf f list n) k)
   pub cubes : (k : ℕ) → k < n → CubeRange (cubeAt f list k)
+
+-- ---- the tests of numbers 9, 10 and 11, by number
+
+abbrev pub heldTest : List ℕ → List ℕ → ℕ → Program → ℕ → Bool
+heldTest f list n p k = targetHeld (programOf f p) (entriesOf f list n) (target (targetsOf f p) k)
+
+abbrev pub startTest : List ℕ → List ℕ → ℕ → Program → ℕ → Bool
+startTest f list n p k = not (looksStarted (programOf f p) (entry (entriesOf f list n) k))
+
+abbrev pub closedTest : List ℕ → List ℕ → ℕ → Program → ℕ → Bool
+closedTest f list n p k = closed (programOf f p) (entriesOf f list n) (entry (entriesOf f list n) k)
+
+-- the verdict of the list
+abbrev pub listSaid : List ℕ → List ℕ → ℕ → Program → Verdict
+listSaid f list n p = ofList (verdictOf (programOf f p) (targetsOf f p) (entriesOf f list n))

@@ -3,11 +3,23 @@ ghost use mathlib.Core.Path.{_≡_};
 ghost use mathlib.Core.List.{_++_};
 ghost use Prim.Native.Nat.{ℕ, _+_, _*_, _≤_, _<_};
 ghost use lib.ListN.{length, drop, replicate};
-ghost use Rattle.judge.specs.Judge.{usedOf};
+ghost use Rattle.judge.specs.Judge.{Judged, judged, usedOf, areaAfter};
+ghost use Rattle.judge.specs.Answers.{verdictIn, inC, Answered};
+use crate::answer::Answer;
+use crate::answer::Verdict;
+use crate::answer::run_answer;
+use crate::answer::verdict_of;
+use crate::list::list_answer;
 use records::evidence::entries_allowed;
+use records::evidence::read;
+use records::program::Checked;
+use records::program::Refusal;
+use records::program::refusal_of;
 use replay::area::clear;
+use replay::run::replay;
 
 pub mod answer;
+mod list;
 
 // The bytes of a work area that belong to the judgement: the first 16,384, and four for each entry allowed.
 pub fn used_of(area: usize) -> usize
@@ -22,4 +34,52 @@ fn clear_used(work: &mut [u8], n: usize)
     ensures { λ _. ⌜ now (work .exit) ≡ replicate n 0 ++ drop n (now (work .entry)) ⌝ }
 {
     clear(&mut work[..n]);
+}
+
+// The judgement in an area that is large enough. The part of it that the judgement does not use is untouched.
+fn judge_file(file: &[u8], work: &mut [u8]) -> Answer
+    requires { ⌜ 32768 ≤ length (now work) ⌝ }
+    ensures { λ r. ⌜ verdictIn r ≡ judged (now (file .entry)) (length (now (work .entry))) ⌝ }
+    ensures { λ r. ⌜ drop (usedOf (length (now (work .entry)))) (now (work .exit)) ≡ drop (usedOf (length (now (work .entry)))) (now (work .entry)) ⌝ }
+{
+    let reading = read(file, work);
+    let answer = reading.answer;
+    let Checked::Fine = answer else {
+        return Answer::Unread(refusal_of(answer));
+    };
+    let contents = reading.contents;
+    if contents.claim == 0 {
+        let program = contents.program;
+        let entries = contents.evidence;
+        return list_answer(file, &work[16384..], entries.count, program);
+    }
+    run_answer(replay(file, contents, &mut work[..16384]))
+}
+
+// The verdict of a file. Afterwards the first 16,384 bytes of the work area and four for each entry allowed are 0, and the rest is untouched;
+// after 8 all of it is.
+pub fn judge(file: &[u8], work: &mut [u8]) -> Answer
+    ensures { λ r. ⌜ verdictIn r ≡ judged (now (file .entry)) (length (now (work .entry))) ⌝ }
+    ensures { λ r. ⌜ now (work .exit) ≡ areaAfter (now (work .entry)) ⌝ }
+{
+    let n = work.len();
+    if n < 32768 {
+        return Answer::Unread(Refusal {
+            number: 8,
+            place: 0,
+        });
+    }
+    let answer = judge_file(file, work);
+    clear_used(work, used_of(n));
+    answer
+}
+
+// For C. The two slices don't overlap.
+#[no_mangle]
+pub extern "C" fn hrafnolt_judge(file: &[u8], work: &mut [u8]) -> Verdict
+    ensures judged { λ r. ⌜ Answered (now (file .entry)) (length (now (work .entry))) r ⌝ }
+    ensures computed { λ r. ⌜ r ≡ inC (judged (now (file .entry)) (length (now (work .entry)))) ⌝ }
+    ensures area { λ r. ⌜ now (work .exit) ≡ areaAfter (now (work .entry)) ⌝ }
+{
+    verdict_of(judge(file, work))
 }

@@ -1,0 +1,83 @@
+-- From what the reading hands on to the verdict of the file.
+use Prim.Native.Nat.{ℕ, _<_, _≤_}
+use mathlib.Core.Path.{_≡_, refl, sym, ap, subst, _∙_}
+use mathlib.Core.List.{List}
+use native.Mathlib.Omega.{arith}
+use lib.ListN.{length, drop}
+use Rattle.pws.specs.Program as pws
+use Rattle.records.specs.declared.program.Refusal.{Refusal}
+use Rattle.records.specs.declared.program.Checked.the-variants.{Fine, Refused}
+use Rattle.records.specs.declared.program.Program.{Program}
+use Rattle.records.specs.declared.evidence.Reading.{Reading}
+use Rattle.records.specs.ProgramPart.{refusalOf, programOf, targetsOf}
+use Rattle.records.specs.EvidencePart.{stepsOf, allowed}
+use Rattle.records.specs.Cube.{configurationOf}
+use Rattle.records.specs.Reading as reading
+use Rattle.contents.specs.Again.{cubeAt, entriesOf}
+use Rattle.contents.proofs.Tables.{table-length}
+use Rattle.contents.proofs.Rows.{steps-length}
+use Rattle.contents.proofs.Contents.{list-read, run-read}
+use Rattle.contents.proofs.Again.{reading-refused, reading-sizes, reading-run, reading-list, reading-count, reading-cube}
+use Rattle.replay.specs.declared.run.RunAnswer.{RunAnswer}
+use Rattle.replay.specs.Answers.{verdictOfRun, RunOf}
+use Rattle.judge.specs.declared.answer.Answer.{Answer}
+use Rattle.judge.specs.declared.answer.Answer.the-variants.{Unread}
+use Rattle.judge.specs.declared.answer.Verdict as declared
+use Rattle.judge.specs.Judge.{Verdict, refused, ofRun, ofFile, Judged, judged}
+use Rattle.judge.specs.Answers.{verdictIn, inC, Answered}
+use Rattle.judge.specs.Ready.{Ready, listSaid}
+use Rattle.judge.proofs.AreaLaws.{few}
+use Rattle.judge.proofs.Numbers.{short-file}
+use Rattle.judge.proofs.Demands.{one-answer}
+
+pub short-said : (f : List ℕ) (area : ℕ) → area < 32768 → refused 8 0 ≡ judged f area
+unfolding judged
+short-said f area l = sym (ap ofFile (short-file f area l))
+
+pub answered : (f : List ℕ) (area : ℕ) (a : Answer) (r : declared.Verdict) → r ≡ inC (verdictIn a) → verdictIn a ≡ judged f area → Answered f area r × (r ≡ inC (judged f area))
+answered f area a r e d = (record { verdict = judged f area; judged = one-answer f area .0; same = e ∙ ap inC d }, e ∙ ap inC d)
+
+module _ (f w : List ℕ) (R : Reading) (r : R ≡ reading.readingOf (reading.partsOf f (length w))) where
+  abbrev p : Program
+  p = R .contents .program
+
+  abbrev n : ℕ
+  n = R .contents .evidence .count
+
+  judged-of : (x : reading.FileRead) → reading.readFile f (length w) ≡ x → ofFile x ≡ judged f (length w)
+  unfolding judged
+  judged-of x e = sym (ap ofFile e)
+
+  pub unread-said : (x y : Refusal) → R .answer ≡ Refused x → y ≡ refusalOf (R .answer) → verdictIn (Unread y) ≡ judged f (length w)
+  unread-said x y q e =
+      ap (λ (z : Refusal). refused (z .number) (z .place)) (e ∙ ap refusalOf q) ∙ judged-of (reading.refused x) (reading-refused f w R r x q)
+
+  module _ (q : R .answer ≡ Fine) where
+    module _ (work : List ℕ) (e : work ≡ reading.areaAfter (reading.partsOf f (length w)) w) (c : R .contents .claim ≡ 0) (list : List ℕ) (d : list ≡ drop 16384 work) where
+      entries-length : length (entriesOf f (drop 16384 work) n) ≡ n
+      entries-length = table-length (λ i. configurationOf (cubeAt f (drop 16384 work) i)) 0 n
+
+      pub ready : Ready f list n p
+      ready =
+          subst (λ (l : List ℕ). Ready f l n p) (sym d)
+          (let L = list-read f (length w) (reading-list f w R r q work e c) in
+          record {
+            sizes = reading-sizes f w R r q;
+            part = L .part;
+            count = omega (arith, reading-count f w R r q work e c, few (allowed (length w)) (length w) refl);
+            entries = λ k l. L .entries k (omega (arith, entries-length));
+            cubes = reading-cube f w R r q work e c;
+          })
+
+      pub list-said : (v : Verdict) → v ≡ listSaid f list n p → v ≡ judged f (length w)
+      list-said v h = h ∙ ap (λ (l : List ℕ). listSaid f l n p) d ∙ judged-of _ (reading-list f w R r q work e c)
+
+    pub run-said : (R .contents .claim ≡ 0 → ⊥) → (x : RunAnswer) (lower : ℕ) → lower ≡ 16384
+        → (pws.ProgramInRange (programOf f p) → n ≤ 1024 → lower ≡ 16384 → RunOf x (programOf f p) (targetsOf f p) (stepsOf f (R .contents .evidence .at) n))
+        → (v : Verdict) → v ≡ ofRun (verdictOfRun x) → v ≡ judged f (length w)
+    run-said c x lower l h v e =
+        let s = reading-run f w R r q c in
+        let L = run-read f (length w) s in
+        e
+        ∙ ap ofRun (h (L .part .program) (omega (arith, L .count, steps-length f (R .contents .evidence .at) n)) l .verdict)
+        ∙ judged-of _ s

@@ -1,0 +1,83 @@
+// A list judged to its end: each target against the list, each entry against the starts, each entry's predecessors (document 01, numbers 9, 10
+// and 11).
+ghost use mathlib.Core.Path.{_≡_};
+ghost use Prim.Native.Nat.{ℕ, _+_, _*_, _≤_, _<_};
+ghost use Rattle.judge.specs.Answers.{verdictIn};
+ghost use Rattle.judge.specs.Ready.{LowestFailing, Ready, heldTest, startTest, closedTest, listSaid};
+use crate::answer::Answer;
+use closing::entry_closed;
+use contents::entry_at;
+use contents::target_of;
+use records::program::Program;
+use targets::looks_started;
+use targets::target_held;
+
+// The lowest target that is not held, or the number of targets.
+fn lowest_unheld(file: &[u8], list: &[u8], n: usize, program: Program) -> usize
+    requires { ⌜ Ready (now file) (now list) n program ⌝ }
+    ensures { λ r. ⌜ LowestFailing (heldTest (now (file .entry)) (now (list .entry)) n program) (program .targets .count) r ⌝ }
+{
+    let shape = program.shape;
+    let targets = program.targets;
+    let count = targets.count;
+    for k in 0..count {
+        let states = target_of(file, program, k);
+        if !target_held(file, list, n, shape, states) {
+            return k;
+        }
+    }
+    count
+}
+
+// The lowest entry that a start is above, or the number of entries.
+fn lowest_started(file: &[u8], list: &[u8], n: usize, program: Program) -> usize
+    requires { ⌜ Ready (now file) (now list) n program ⌝ }
+    ensures { λ r. ⌜ LowestFailing (startTest (now (file .entry)) (now (list .entry)) n program) n r ⌝ }
+{
+    let shape = program.shape;
+    let initial = program.initial;
+    for k in 0..n {
+        let cube = entry_at(file, list, k);
+        if looks_started(shape, initial, cube) {
+            return k;
+        }
+    }
+    n
+}
+
+// The lowest entry with a way in from outside the list, or the number of entries.
+fn lowest_entered(file: &[u8], list: &[u8], n: usize, program: Program) -> usize
+    requires { ⌜ Ready (now file) (now list) n program ⌝ }
+    ensures { λ r. ⌜ LowestFailing (closedTest (now (file .entry)) (now (list .entry)) n program) n r ⌝ }
+{
+    let mut near = 0;
+    for k in 0..n {
+        let found = entry_closed(file, list, n, program, k, near);
+        if !found.held {
+            return k;
+        }
+        near = found.near;
+    }
+    n
+}
+
+// The numbers are tested in this order.
+pub(crate) fn list_answer(file: &[u8], list: &[u8], n: usize, program: Program) -> Answer
+    requires { ⌜ Ready (now file) (now list) n program ⌝ }
+    ensures { λ r. ⌜ verdictIn r ≡ listSaid (now (file .entry)) (now (list .entry)) n program ⌝ }
+{
+    let targets = program.targets;
+    let unheld = lowest_unheld(file, list, n, program);
+    if unheld < targets.count {
+        return Answer::Unheld { target: unheld };
+    }
+    let started = lowest_started(file, list, n, program);
+    if started < n {
+        return Answer::Started { entry: started };
+    }
+    let entered = lowest_entered(file, list, n, program);
+    if entered < n {
+        return Answer::Entered { entry: entered };
+    }
+    Answer::Safe { entries: n }
+}
