@@ -1,5 +1,6 @@
 //! compare cases FILE [JUDGES]     the hand-worked lines
 //! compare brute SEED COUNT        the separate judge's two algorithms against each other
+//! compare reach SEED [JUDGES]     small programs without loops: a forward search finds a run, or else a backward search a safe list
 //! compare corpora SEED [JUDGES]   the corpora
 //! JUDGES: --caller PROGRAM (the exported function through C), --program PROGRAM (standard input to one line).
 //! --first: stop at the first difference.
@@ -238,6 +239,54 @@ fn brute_force(seed: u64, count: usize, judges: &mut Judges) {
     }
 }
 
+/// For a program without loops all configurations can be searched. Then exactly one of the two claims has evidence: either there is a run,
+/// and a start is above the closed list; or there is none, and the closed list is safe.
+fn reach(seed: u64, judges: &mut Judges) {
+    let mut r = Random(seed);
+    let area = 16_384 + 4 * 524_288;
+    for (processes, variables, programs, most) in [(1, 1, 300, 400), (1, 2, 200, 600), (2, 1, 60, 2_500), (1, 3, 15, 2_500)] {
+        let (mut reached, mut safe) = (0, 0);
+        while reached + safe < programs {
+            let values = 1 + r.below(3) as u8;
+            let program = random::program_without_loops(&mut r, processes, variables, values);
+            let run = search::shortest_run(&program, usize::MAX);
+            // Most random programs reach their target: half of those taken shall not.
+            if run.is_ok() && reached > safe {
+                continue;
+            }
+            let Some(entries) = search::closed_list(&program, &[], most) else { continue };
+            *if run.is_ok() { &mut reached } else { &mut safe } += 1;
+            let list = writing::list_file(&program, &entries);
+            let line = judge(&list, area);
+            // Long lists that are safe take the judges long; the search has been made for them all.
+            let short = entries.len() <= 600;
+            match run {
+                Ok(steps) => {
+                    let run = writing::run_file(&program, &steps);
+                    let wanted = Verdict::Reachable(steps.len() as u64, 0);
+                    if judge(&run, area) != wanted {
+                        judges.fail("a run", "the separate judge", &wanted.to_string(), &judge(&run, area).to_string(), &run, area);
+                    }
+                    judges.compare("a run", &run, area, wanted, false);
+                    if !matches!(line, Verdict::Refused(10, _)) {
+                        judges.fail("a list beside a run", "the separate judge", "refused 10", &line.to_string(), &list, area);
+                    }
+                    judges.compare("a list beside a run", &list, area, line, false);
+                }
+                Err(_) => {
+                    let wanted = Verdict::Safe(entries.len() as u64);
+                    if line != wanted {
+                        judges.fail("a list, no run", "the separate judge", &wanted.to_string(), &line.to_string(), &list, area);
+                    }
+                    if short {
+                        judges.compare("a list, no run", &list, area, wanted, false);
+                    }
+                }
+            }
+        }
+    }
+}
+
 fn corpora(seed: u64, judges: &mut Judges) {
     let mut r = Random(seed);
     let areas = [32_768, 32_768, 32_768, 32_768, 32_769, 32_770, 32_772, 33_000, 65_536, 100_001];
@@ -299,6 +348,7 @@ fn main() {
     match words[0].as_str() {
         "cases" => cases(&words[1], &mut judges),
         "brute" => brute_force(number(1), number(2) as usize, &mut judges),
+        "reach" => reach(number(1), &mut judges),
         "corpora" => corpora(number(1), &mut judges),
         other => panic!("no part {}", other),
     }

@@ -162,6 +162,26 @@ pub fn damaged_bytes(r: &mut Random, file: &[u8]) -> Vec<u8> {
     file
 }
 
+/// A program without loops: every transition leads to a higher state. The target is reached in some of them.
+pub fn program_without_loops(r: &mut Random, processes: usize, variables: usize, values: u8) -> Program {
+    let states: Vec<u8> = (0..processes).map(|_| 2 + r.below(if processes == 1 { 4 } else { 2 }) as u8).collect();
+    let mut transitions = Vec::new();
+    for process in 0..processes {
+        for from in 0..states[process] - 1 {
+            for _ in 0..1 + r.below(2) {
+                let to = if r.one_in(4) { from + 1 + r.below((states[process] - 1 - from) as usize) as u8 } else { from + 1 };
+                transitions.push(Transition { process, from, operation: operation(r, variables, values), to });
+            }
+        }
+    }
+    let mut target = [0; 4];
+    for p in 0..processes {
+        target[p] = if r.one_in(4) { r.below(states[p] as usize) as u8 } else { states[p] - 1 };
+    }
+    let initial = vec![0; processes];
+    Program { processes, variables, values, states, initial, transitions, targets: vec![target] }
+}
+
 /// An entry of local states that are no target, with waiting values: a set that is neither empty nor everything of these states. The more
 /// queues hold values, the fewer entries a closed list needs for it.
 fn further_entry(r: &mut Random, program: &Program) -> Option<Configuration> {

@@ -1,7 +1,9 @@
-//! Backward search for a closed list. It serves tests, examples and the benchmark only: the judge never searches.
+//! Searches for evidence, backward and forward. They serve tests, examples and the benchmark only: the judge never searches.
+#![allow(dead_code)]
 
 use reference::cubes::{least, predecessors, Index};
-use reference::{Configuration, Program};
+use reference::{Configuration, Program, Step};
+use std::collections::{HashMap, VecDeque};
 
 /// Entries that hold every target, the entries given and every predecessor; None if the list outgrows `most` entries or what an entry can
 /// hold. A start may be above the list: then a target can be reached, and the judge says 10.
@@ -39,4 +41,42 @@ pub fn closed_list(program: &Program, given: &[Configuration], most: usize) -> O
         next += 1;
     }
     Some((0..index.len()).map(|n| index.entry(n).clone()).collect())
+}
+
+/// A shortest run to a target that keeps at most `waiting` waiting values per process; else the number of configurations that there are
+/// within that bound. It ends for programs without loops, which make finitely many messages.
+pub fn shortest_run(program: &Program, waiting: usize) -> Result<Vec<Step>, usize> {
+    let steps = program.all_steps();
+    let start = Configuration::start(program);
+    let mut from: HashMap<Configuration, Option<(usize, Step)>> = HashMap::new();
+    let mut order: Vec<Configuration> = vec![start.clone()];
+    from.insert(start, None);
+    let mut next: VecDeque<usize> = VecDeque::from([0]);
+    while let Some(number) = next.pop_front() {
+        let c = order[number].clone();
+        if program.targets.contains(&c.states) {
+            let mut run = Vec::new();
+            let mut at = number;
+            while let Some((before, step)) = from[&order[at]] {
+                run.push(step);
+                at = before;
+            }
+            run.reverse();
+            return Ok(run);
+        }
+        for step in &steps {
+            let mut after = c.clone();
+            if !after.take(program, *step) || from.contains_key(&after) {
+                continue;
+            }
+            let within = (0..program.processes)
+                .all(|p| (0..program.variables).map(|v| after.queues[program.queue(p, v)].len()).sum::<usize>() <= waiting);
+            if within {
+                from.insert(after.clone(), Some((number, *step)));
+                next.push_back(order.len());
+                order.push(after);
+            }
+        }
+    }
+    Err(order.len())
 }
