@@ -90,7 +90,7 @@ impl Judges {
         let kind = match wanted {
             Verdict::Safe(_) => "safe".to_string(),
             Verdict::Reachable(..) => "reachable".to_string(),
-            Verdict::Refused(number, _) => format!("{}", number),
+            Verdict::Refused(number, _) => format!("{:>2}", number),
         };
         *self.lines.entry(kind).or_default() += 1;
         let wanted = wanted.to_string();
@@ -112,10 +112,10 @@ impl Judges {
     }
 
     fn end(&self, what: &str) -> i32 {
-        let spread: Vec<String> = self.lines.iter().map(|(kind, n)| format!("{}: {}", kind, n)).collect();
+        let spread: Vec<String> = self.lines.iter().map(|(kind, n)| format!("{}: {}", kind.trim(), n)).collect();
         println!("{}: {} files, {} differ ({})", what, self.judged, self.failed, spread.join(", "));
         if self.caller.is_some() || self.program.is_some() {
-            println!("{}: {} through the exported function, {} through the program", what, self.by_caller, self.by_program);
+            println!("{}: {} through C, {} through the program", what, self.by_caller, self.by_program);
         }
         (self.failed > 0) as i32
     }
