@@ -207,8 +207,8 @@ fn main() {
         let program = rounds(first, second);
         let entries = search::closed_list(&program, &[], 524_288).expect("a closed list");
         let pairs = first as usize * second as usize;
-        let what = format!("list of {} entries, {} pairs of local states", thousands(entries.len()), pairs);
+        let what = format!("list of {} entries ({} local state{})", thousands(entries.len()), pairs, if pairs == 1 { "" } else { "s" });
         list(&what, &format!("list-{}", entries.len()), writing::list_file(&program, &entries), entries.len(), 3);
     }
-    list("list of 52,288 entries, one pair of local states, two variables", "list-52288", whole_target(), 52_288, 1);
+    list("list of 52,288 entries (two variables, 1 local state)", "list-52288", whole_target(), 52_288, 1);
 }
