@@ -1,6 +1,12 @@
 // Reads a file from standard input to its end, judges it, and prints one line (document 01).
 ghost use mathlib.Core.Path.{_≡_};
-ghost use lib.ListN.{length};
+ghost use mathlib.Core.List.{_++_};
+ghost use Prim.Native.Nat.{ℕ, _+_, _≤_};
+ghost use lib.ListN.{length, take};
+ghost use Rattle.io.specs.Counts.{Counts};
+ghost use Rattle.judge.specs.Judge.{Verdict as Judge·Verdict};
+ghost use Rattle.judge.specs.Answers.{inC};
+ghost use Rattle.hrafnolt.specs.Line.{Numbered, LineOf, wordOf};
 use judge::answer::Verdict;
 use judge::hrafnolt_judge;
 use libc::STDIN_FILENO;
@@ -20,28 +26,70 @@ fn work_area() -> [u8; 32768]
     [0; 32768]
 }
 
-fn print_number(n: u64) {
-    io::write_all(STDOUT_FILENO, &[b' ']);
-    io::print_decimal(STDOUT_FILENO, n);
+// ---- the line
+
+// The text goes to a place in the line, and the place after it is handed back.
+fn put(line: &mut [u8], at: usize, text: &[u8]) -> usize
+    requires { ⌜ at + length (now text) ≤ length (now line) ⌝ }
+    ensures { λ r. ⌜ r ≡ at + length (now (text .entry)) ⌝ }
+    ensures { λ r. ⌜ take r (now (line .exit)) ≡ take at (now (line .entry)) ++ now (text .entry) ⌝ }
+{
+    let n = text.len();
+    for i in 0..n {
+        line[at + i] = text[i];
+    }
+    at + n
+}
+
+// A space, and n in decimal.
+fn put_number(line: &mut [u8], at: usize, n: u64) -> usize
+    requires { ⌜ at + 21 ≤ length (now line) ⌝ }
+    ensures { λ r. ⌜ r ≤ at + 21 ⌝ }
+    ensures { λ r. ⌜ Numbered (take at (now (line .entry))) n (take r (now (line .exit))) ⌝ }
+{
+    let digits_at = put(line, at, &[b' ']);
+    let mut text = [0u8; 20];
+    let k = io::decimal(n, &mut text);
+    put(line, digits_at, &text[..k])
+}
+
+fn put_word(line: &mut [u8], kind: u64) -> usize
+    requires { ⌜ 64 ≤ length (now line) ⌝ }
+    ensures { λ r. ⌜ r ≤ 9 ⌝ }
+    ensures { λ r. ⌜ take r (now (line .exit)) ≡ wordOf kind ⌝ }
+{
+    if kind == 0 {
+        return put(line, 0, &[b's', b'a', b'f', b'e']);
+    }
+    if kind == 1 {
+        return put(
+            line,
+            0,
+            &[b'r', b'e', b'a', b'c', b'h', b'a', b'b', b'l', b'e'],
+        );
+    }
+    put(line, 0, &[b'r', b'e', b'f', b'u', b's', b'e', b'd'])
+}
+
+// The line of a verdict stands at the start, and its length is handed back.
+fn put_line(line: &mut [u8], verdict: Verdict) -> usize
+    requires { ⌜ 64 ≤ length (now line) ⌝ }
+    ensures { λ r. ⌜ Counts r (now (line .exit)) ⌝ }
+    ensures { λ r. ⌜ ((v : Judge·Verdict) → verdict ≡ inC v → LineOf v (take r (now (line .exit)))) ⌝ }
+{
+    let word = put_word(line, verdict.kind);
+    let first = put_number(line, word, verdict.first);
+    if verdict.kind == 0 {
+        return put(line, first, &[b'\n']);
+    }
+    let second = put_number(line, first, verdict.second);
+    put(line, second, &[b'\n'])
 }
 
 fn print_verdict(verdict: Verdict) {
-    if verdict.kind == 0 {
-        io::write_all(STDOUT_FILENO, &[b's', b'a', b'f', b'e']);
-        print_number(verdict.first);
-    } else if verdict.kind == 1 {
-        io::write_all(
-            STDOUT_FILENO,
-            &[b'r', b'e', b'a', b'c', b'h', b'a', b'b', b'l', b'e'],
-        );
-        print_number(verdict.first);
-        print_number(verdict.second);
-    } else {
-        io::write_all(STDOUT_FILENO, &[b'r', b'e', b'f', b'u', b's', b'e', b'd']);
-        print_number(verdict.first);
-        print_number(verdict.second);
-    }
-    io::write_all(STDOUT_FILENO, &[b'\n']);
+    let mut line = [0u8; 64];
+    let n = put_line(&mut line, verdict);
+    io::write_all(STDOUT_FILENO, &line[..n]);
 }
 
 fn main() {

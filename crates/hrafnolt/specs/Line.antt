@@ -1,0 +1,47 @@
+-- The line printed (document 01, "Verdicts and refusal table"), in ASCII.
+use Prim.Native.Nat.{ℕ}
+use mathlib.Core.Path.{_≡_}
+use mathlib.Core.Bool.{cond}
+use mathlib.Core.List.{List, [], _∷_, _++_}
+use lib.ListN.{length, take}
+use lib.Dec.{eqb}
+use Rattle.io.specs.Digits.{digits, Fewest}
+use Rattle.judge.specs.Judge.{Verdict, safe, reachable, refused}
+
+-- `safe`, `reachable` and `refused`
+abbrev pub wordSafe : List ℕ
+wordSafe = 115 ∷ 97 ∷ 102 ∷ 101 ∷ []
+
+abbrev pub wordReachable : List ℕ
+wordReachable = 114 ∷ 101 ∷ 97 ∷ 99 ∷ 104 ∷ 97 ∷ 98 ∷ 108 ∷ 101 ∷ []
+
+abbrev pub wordRefused : List ℕ
+wordRefused = 114 ∷ 101 ∷ 102 ∷ 117 ∷ 115 ∷ 101 ∷ 100 ∷ []
+
+-- l is followed by a space and n in decimal, in the fewest digits that hold it
+pub record Numbered (l : List ℕ) (n : ℕ) (r : List ℕ) : Type 0 where
+  pub places : ℕ
+  pub fewest : Fewest 10 1 n places
+  pub same : r ≡ l ++ (32 ∷ digits 10 places n)
+
+-- one number after the word, or two; then a line feed
+pub record OneNumber (word : List ℕ) (n : ℕ) (r : List ℕ) : Type 0 where
+  pub text : List ℕ
+  pub first : Numbered word n text
+  pub same : r ≡ text ++ (10 ∷ [])
+
+pub record TwoNumbers (word : List ℕ) (n k : ℕ) (r : List ℕ) : Type 0 where
+  pub text : List ℕ
+  pub first : Numbered word n text
+  pub more : List ℕ
+  pub second : Numbered text k more
+  pub same : r ≡ more ++ (10 ∷ [])
+
+abbrev pub LineOf : Verdict → List ℕ → Type 0
+LineOf (safe n) r = OneNumber wordSafe n r
+LineOf (reachable n k) r = TwoNumbers wordReachable n k r
+LineOf (refused n k) r = TwoNumbers wordRefused n k r
+
+-- the word of each kind of verdict, as C has it
+unfoldable pub wordOf : ℕ → List ℕ
+wordOf kind = cond (eqb kind 0) wordSafe (cond (eqb kind 1) wordReachable wordRefused)
