@@ -9,13 +9,13 @@ use native.Mathlib.Numerals.{unary-clauses}
 use lib.ListN.{length, getD, set, take, length-set}
 use lib.Seq.{paste, paste-zero, paste-suc, take-paste, take-all, length-take-le}
 use lib.Dec.{eqb}
-use borrow.Author.Tests.{eq-eqb, ne-eqb}
+use borrow.Author.Tests.{eq-eqb, ne-eqb, lt-ltb, le-ltb}
 use Rattle.io.specs.Counts.{Counts}
 use Rattle.io.specs.Digits.{digits, Fewest}
 use Rattle.judge.specs.declared.answer.Verdict as declared
-use Rattle.judge.specs.Judge.{Verdict, safe, reachable, refused}
+use Rattle.judge.specs.Judge.{Verdict, safe, reachable, refused, judged}
 use Rattle.judge.specs.Answers.{inC}
-use Rattle.hrafnolt.specs.Line.{Numbered, OneNumber, TwoNumbers, LineOf, wordSafe, wordReachable, wordRefused, wordOf}
+use Rattle.hrafnolt.specs.Line.{Numbered, OneNumber, TwoNumbers, LineOf, wordSafe, wordReachable, wordRefused, wordOf, said}
 
 -- ---- a text put in place
 
@@ -134,3 +134,13 @@ two-lines word text more line verdict (refused n k) e z w g h q =
 
 pub counts : (r : ℕ) (line : List ℕ) → r ≤ length line → Counts r line
 counts r line l = (l, sym (length-take-le r line l))
+
+-- ---- what is said of an input
+
+pub over-said : (input line : List ℕ) → 65536 < length input → LineOf (refused 14 65536) line → LineOf (said input) line
+unfolding said
+over-said input line l h = rw (lt-ltb 65536 (length input) l) h
+
+pub judged-said : (input line : List ℕ) (area : ℕ) → area ≡ 32768 → length input ≤ 65536 → LineOf (judged input area) line → LineOf (said input) line
+unfolding said
+judged-said input line area e l h = rw (le-ltb 65536 (length input) l) (subst (λ (n : ℕ). LineOf (judged input n) line) e h)

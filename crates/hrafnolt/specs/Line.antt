@@ -3,10 +3,11 @@ use Prim.Native.Nat.{ℕ}
 use mathlib.Core.Path.{_≡_}
 use mathlib.Core.Bool.{cond}
 use mathlib.Core.List.{List, [], _∷_, _++_}
-use lib.ListN.{length, take}
-use lib.Dec.{eqb}
+use lib.ListN.{length}
+use lib.Dec.{eqb, ltb}
 use Rattle.io.specs.Digits.{digits, Fewest}
-use Rattle.judge.specs.Judge.{Verdict, safe, reachable, refused}
+use Rattle.records.specs.Bytes.{choose}
+use Rattle.judge.specs.Judge.{Verdict, safe, reachable, refused, judged}
 
 -- `safe`, `reachable` and `refused`
 abbrev pub wordSafe : List ℕ
@@ -45,3 +46,9 @@ LineOf (refused n k) r = TwoNumbers wordRefused n k r
 -- the word of each kind of verdict, as C has it
 unfoldable pub wordOf : ℕ → List ℕ
 wordOf kind = cond (eqb kind 0) wordSafe (cond (eqb kind 1) wordReachable wordRefused)
+
+-- ---- what the program says of its input
+
+-- 14 before all others: over 65,536 bytes; else the verdict in a work area of 32,768 bytes
+unfoldable pub said : List ℕ → Verdict
+said input = choose (ltb 65536 (length input)) (λ _. refused 14 65536) (λ _. judged input 32768)

@@ -6,7 +6,7 @@ ghost use lib.ListN.{length, take};
 ghost use Rattle.io.specs.Counts.{Counts};
 ghost use Rattle.judge.specs.Judge.{Verdict as Judge·Verdict};
 ghost use Rattle.judge.specs.Answers.{inC};
-ghost use Rattle.hrafnolt.specs.Line.{Numbered, LineOf, wordOf};
+ghost use Rattle.hrafnolt.specs.Line.{Numbered, LineOf, wordOf, said};
 use judge::answer::Verdict;
 use judge::hrafnolt_judge;
 use libc::STDIN_FILENO;
@@ -86,23 +86,31 @@ fn put_line(line: &mut [u8], verdict: Verdict) -> usize
     put(line, second, &[b'\n'])
 }
 
-fn print_verdict(verdict: Verdict) {
-    let mut line = [0u8; 64];
-    let n = put_line(&mut line, verdict);
-    io::write_all(STDOUT_FILENO, &line[..n]);
+// The line for an input, of which there may be any number of bytes.
+fn line_for(input: &[u8], line: &mut [u8]) -> usize
+    requires { ⌜ 64 ≤ length (now line) ⌝ }
+    ensures { λ r. ⌜ Counts r (now (line .exit)) ⌝ }
+    ensures { λ r. ⌜ LineOf (said (now (input .entry))) (take r (now (line .exit))) ⌝ }
+{
+    if input.len() > 65536 {
+        return put_line(
+            line,
+            Verdict {
+                kind: 2,
+                first: 14,
+                second: 65536,
+            },
+        );
+    }
+    let mut work = work_area();
+    let verdict = hrafnolt_judge(input, &mut work);
+    put_line(line, verdict)
 }
 
 fn main() {
     let mut input = input_buffer();
     let n = io::read_full(STDIN_FILENO, &mut input);
-    if n > 65536 {
-        print_verdict(Verdict {
-            kind: 2,
-            first: 14,
-            second: 65536,
-        });
-        return;
-    }
-    let mut work = work_area();
-    print_verdict(hrafnolt_judge(&input[..n], &mut work));
+    let mut line = [0u8; 64];
+    let k = line_for(&input[..n], &mut line);
+    io::write_all(STDOUT_FILENO, &line[..k]);
 }
