@@ -1,21 +1,19 @@
 -- Laws of the line that is made.
 use Prim.Native.Nat.{ℕ, zero, suc, _+_, _*_, _-_, _^_, _<_, _≤_}
 use mathlib.Core.Path.{_≡_, refl, sym, ap, subst, _∙_}
-use mathlib.Core.Bool.{cond}
 use mathlib.Core.List.{List, [], _∷_, _++_, append-assoc}
 use native.Mathlib.Omega.{arith}
 use native.Mathlib.Decide.{decLt}
 use native.Mathlib.Numerals.{unary-clauses}
 use lib.ListN.{length, getD, set, take, length-set}
 use lib.Seq.{paste, paste-zero, paste-suc, take-paste, take-all, length-take-le}
-use lib.Dec.{eqb}
 use borrow.Author.Tests.{eq-eqb, ne-eqb, lt-ltb, le-ltb}
 use Rattle.io.specs.Counts.{Counts}
 use Rattle.io.specs.Digits.{digits, Fewest}
 use Rattle.judge.specs.declared.answer.Verdict as declared
 use Rattle.judge.specs.Judge.{Verdict, safe, reachable, refused, judged}
 use Rattle.judge.specs.Answers.{inC}
-use Rattle.hrafnolt.specs.Line.{Numbered, OneNumber, TwoNumbers, LineOf, wordSafe, wordReachable, wordRefused, wordOf, said}
+use Rattle.hrafnolt.specs.Line.{Numbered, TwoNumbers, LineOf, wordSafe, wordReachable, wordRefused, wordOf, said}
 
 -- ---- a text put in place
 

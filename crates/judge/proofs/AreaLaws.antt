@@ -10,7 +10,6 @@ use lib.Dec.{eqb, leb}
 use borrow.Author.Tests.{lt-ltb, le-ltb}
 use Rattle.pws.specs.Machine.{Configuration}
 use Rattle.records.specs.declared.program.Shape.{Shape}
-use Rattle.records.specs.declared.program.Refusal.{Refusal}
 use Rattle.records.specs.declared.program.Checked.{Checked}
 use Rattle.records.specs.declared.program.Checked.the-variants.{Fine, Refused}
 use Rattle.records.specs.declared.program.Program.{Program}
@@ -22,6 +21,7 @@ use Rattle.records.specs.Reading as reading
 use Rattle.records.specs.Reading.{Evidence, refusal, entries, steps, claimThen, evidenceFrom, Parts, partsOf, evidenceArea}
 use Rattle.records.proofs.ReadingLaws.{parts-refused, parts-both}
 use Rattle.judge.specs.Judge.{usedOf, areaAfter}
+use Rattle.judge.proofs.Numbers.{each-choice}
 
 pub few : (n area : ℕ) → n ≡ allowed area → n ≤ 524288
 unfolding allowed
@@ -79,10 +79,6 @@ Few n (steps m) = Unit {0}
 
 abbrev FewEntries : ℕ → EntriesRead → Type 0
 FewEntries n r = length (r .offsets) ≤ n
-
-each-choice : {A : Type 0} (F : A → Type 0) (b : Bool) (x y : Unit {0} → A) → F (x tt) → F (y tt) → F (choose b x y)
-each-choice F true x y p q = p
-each-choice F false x y p q = q
 
 head-few : (n : ℕ) (x : Checked) (offsets : List ℕ) (es : List Configuration) (y : Unit {0} → EntriesRead) → length offsets ≤ n → FewEntries n (y tt)
     → FewEntries n (headThen x offsets es y)

@@ -6,7 +6,6 @@ use mathlib.Core.Bool.{cond}
 use mathlib.Core.List.{List}
 use native.Mathlib.Omega.{arith}
 use native.Mathlib.Decide.{decLt}
-use lib.ListN.{length}
 use lib.Dec.{eqb}
 use Rattle.pws.specs.declared.Step.{Step}
 use Rattle.pws.specs.Program.{Program, ProgramInRange}
@@ -15,7 +14,6 @@ use Rattle.pws.proofs.Simulation.{simulation}
 use Rattle.lists.specs.Verdict as lists
 use Rattle.lists.specs.Decision as decision
 use Rattle.lists.proofs.Verdict.{verdict-unique, verdict-judged, safe-visited}
-use Rattle.records.specs.declared.program.Refusal.{Refusal}
 use Rattle.records.specs.Reading as reading
 use Rattle.contents.specs.Contents.{ListRead}
 use Rattle.contents.proofs.Contents.{list-read, run-read}

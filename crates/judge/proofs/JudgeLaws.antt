@@ -23,7 +23,7 @@ use Rattle.replay.specs.Answers.{verdictOfRun, RunOf}
 use Rattle.judge.specs.declared.answer.Answer.{Answer}
 use Rattle.judge.specs.declared.answer.Answer.the-variants.{Unread}
 use Rattle.judge.specs.declared.answer.Verdict as declared
-use Rattle.judge.specs.Judge.{Verdict, refused, ofRun, ofFile, Judged, judged}
+use Rattle.judge.specs.Judge.{Verdict, refused, ofRun, ofFile, judged}
 use Rattle.judge.specs.Answers.{verdictIn, inC, Answered}
 use Rattle.judge.specs.Ready.{Ready, listSaid}
 use Rattle.judge.proofs.AreaLaws.{few}

@@ -4,7 +4,6 @@ use mathlib.Core.Path.{_≡_, refl, sym, ap, ap₂, subst, _∙_}
 use mathlib.Core.Bool.{Bool, not}
 use mathlib.Core.Option.{Option, none, some}
 use mathlib.Core.List.{List}
-use native.Mathlib.Omega.{arith}
 use lib.ListN.{length, getD}
 use Rattle.pws.specs.Program as pws
 use Rattle.pws.specs.Machine.{Configuration}
@@ -12,8 +11,8 @@ use Rattle.pws.specs.Configurations.{Fits}
 use Rattle.pws.specs.Entries.{ValueOrFF, EntryOf, noEntry, entry}
 use Rattle.lists.specs.Lists.{lowest}
 use Rattle.lists.specs.Verdict as lists
-use Rattle.lists.specs.Verdict.{target, noTarget}
-use Rattle.lists.specs.Decision.{targetHeld, looksStarted, closed, verdictOf}
+use Rattle.lists.specs.Verdict.{noTarget}
+use Rattle.lists.specs.Decision.{targetHeld, looksStarted, closed}
 use Rattle.records.specs.declared.program.Program.{Program}
 use Rattle.records.specs.declared.entry.Cube.{Cube}
 use Rattle.records.specs.Records.{stateAt}

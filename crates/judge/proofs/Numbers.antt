@@ -2,7 +2,7 @@
 use Prim.Native.Nat.{ℕ, zero, suc, _+_, _<_, _≤_}
 use mathlib.Core.Path.{_≡_, refl, sym, ap, subst, _∙_}
 use mathlib.Core.Bool.{Bool, true, false, cond}
-use mathlib.Core.List.{List, [], _∷_}
+use mathlib.Core.List.{List, []}
 use native.Mathlib.Omega.{arith}
 use native.Mathlib.Decide.{decLt, ℕ-discrete}
 use lib.ListN.{length}
@@ -63,7 +63,7 @@ use Rattle.records.specs.EvidencePart.{
   entryThen,
   entriesFrom,
 }
-use Rattle.records.specs.Reading.{Evidence, refusal, entries, steps, claimThen, evidenceFrom, none, both, partsOf, FileRead, refused, list, run, listRead, partsRead, readFile}
+use Rattle.records.specs.Reading.{Evidence, refusal, entries, steps, claimThen, evidenceFrom, both, partsOf, FileRead, refused, list, run, listRead, partsRead, readFile}
 use Rattle.records.proofs.ReadingLaws.{parts-short, parts-refused, parts-both}
 
 -- ---- what a refusal is
@@ -98,7 +98,7 @@ LowFile (run P ts ss) = Unit {0}
 
 -- ---- cases
 
-each-choice : {A : Type 0} (F : A → Type 0) (b : Bool) (x y : Unit {0} → A) → F (x tt) → F (y tt) → F (choose b x y)
+pub each-choice : {A : Type 0} (F : A → Type 0) (b : Bool) (x y : Unit {0} → A) → F (x tt) → F (y tt) → F (choose b x y)
 each-choice F true x y p q = p
 each-choice F false x y p q = q
 

@@ -1,9 +1,9 @@
 // The whole judgement (document 01). What it says stands in specs/Judge.antt; the demands, as theorems about it, in specs/Demands.antt.
 ghost use mathlib.Core.Path.{_≡_};
 ghost use mathlib.Core.List.{_++_};
-ghost use Prim.Native.Nat.{ℕ, _+_, _*_, _≤_, _<_};
+ghost use Prim.Native.Nat.{_≤_};
 ghost use lib.ListN.{length, drop, replicate};
-ghost use Rattle.judge.specs.Judge.{Judged, judged, usedOf, areaAfter};
+ghost use Rattle.judge.specs.Judge.{judged, usedOf, areaAfter};
 ghost use Rattle.judge.specs.Answers.{verdictIn, inC, Answered};
 use crate::answer::Answer;
 use crate::answer::Verdict;

@@ -2,7 +2,6 @@ use Prim.Native.Nat.{_-_}
 use mathlib.Core.Path.{sym, ap, _∙_}
 use native.Mathlib.Omega.{arith}
 use borrow.Author.Needs.{needs}
-use Rattle.judge.specs.Ready.{startTest}
 use Rattle.judge.proofs.LowestLaws.{SoFar, so-far-begin, so-far-next, so-far-fails, so-far-all}
 use mathlib.Core.Bool.{not}
 use Rattle.pws.specs.Entries.{entry}
