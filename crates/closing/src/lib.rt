@@ -15,7 +15,7 @@ ghost use Rattle.records.specs.Cube.{configurationOf};
 ghost use Rattle.contents.specs.Again.{cubeAt, entriesOf};
 ghost use Rattle.before.specs.Changes.{CubeFor};
 ghost use Rattle.before.specs.Kinds.{Sound, kindOf};
-ghost use Rattle.closing.specs.Walk.{byteOf, stepAt, kindAt, kindCount, kindHeld, stepHeld, Stepping, Walkable};
+ghost use Rattle.closing.specs.Walk.{byteOf, stepAt, kindAt, kindCount, kindHeld, Stepping, Walkable};
 use before::Kind;
 use before::before_serialise;
 use before::before_take;
@@ -109,7 +109,7 @@ pub fn kind_at(count: usize, step: Step, i: usize) -> Kind
 }
 
 pub fn kind_count(count: usize, step: Step) -> usize
-    ensures { λ r. ⌜ (count ≤ 20 → r ≡ kindCount count step) ⌝ }
+    ensures { λ r. ⌜ (r ≤ 21) × (count ≤ 20 → r ≡ kindCount count step) ⌝ }
 {
     let n = least(count, 20);
     match step {
@@ -236,73 +236,67 @@ fn kind_held(
     search(file, list, n, shape, before, near)
 }
 
-// All cubes before a step.
-fn step_held(
-    file: &[u8],
-    list: &[u8],
-    n: usize,
-    program: Program,
-    cube: Cube,
-    step: Step,
-    near: usize,
-) -> Found
-    ensures { λ r. ⌜ (Walkable (now (file .entry)) (now (list .entry)) n program cube → r .held ≡ stepHeld (programOf (now (file .entry)) program) (entriesOf (now (file .entry)) (now (list .entry)) n) cube step) ⌝ }
-{
-    let count = cube.count;
-    let m = kind_count(count, step);
-    let mut last = near;
-    for i in 0..m {
-        let kind = kind_at(count, step, i);
-        let found = kind_held(file, list, n, program, cube, step, kind, last);
-        if !found.held {
-            return found;
-        }
-        last = found.near;
-    }
-    Found {
-        held: true,
-        near: last,
-    }
+// Whether an entry is closed, and for steps and kinds the entries found last: the next entry's are mostly near them.
+pub struct Closed {
+    pub held: bool,
+    pub near: [usize; 256],
 }
 
-// All cubes before an entry.
+// The place of a step and a kind among them. Several may share one.
+fn near_place(j: usize, i: usize) -> usize
+    requires { ⌜ (j < 276) × (i < 276) ⌝ }
+    ensures { λ r. ⌜ r < 256 ⌝ }
+{
+    (18 * j + i) % 256
+}
+
+// All cubes before an entry, by step and kind.
 fn cube_closed(
     file: &[u8],
     list: &[u8],
     n: usize,
     program: Program,
     cube: Cube,
-    near: usize,
-) -> Found
+    near: [usize; 256],
+) -> Closed
     ensures { λ r. ⌜ (Walkable (now (file .entry)) (now (list .entry)) n program cube → r .held ≡ closed (programOf (now (file .entry)) program) (entriesOf (now (file .entry)) (now (list .entry)) n) (configurationOf cube)) ⌝ }
 {
     let row = program.transitions;
     let transitions = least(row.count, 256);
     let m = transitions + 20;
+    let count = cube.count;
     let mut last = near;
     for j in 0..m {
         let step = step_at(transitions, j);
-        let found = step_held(file, list, n, program, cube, step, last);
-        if !found.held {
-            return found;
+        let kinds = kind_count(count, step);
+        for i in 0..kinds {
+            let kind = kind_at(count, step, i);
+            let at = near_place(j, i);
+            let found = kind_held(file, list, n, program, cube, step, kind, last[at]);
+            last[at] = found.near;
+            if !found.held {
+                return Closed {
+                    held: false,
+                    near: last,
+                };
+            }
         }
-        last = found.near;
     }
-    Found {
+    Closed {
         held: true,
         near: last,
     }
 }
 
-// Is every configuration one step before those above entry k above the list? The search begins near the entry of a number.
+// Is every configuration one step before those above entry k above the list?
 pub fn entry_closed(
     file: &[u8],
     list: &[u8],
     n: usize,
     program: Program,
     k: usize,
-    near: usize,
-) -> Found
+    near: [usize; 256],
+) -> Closed
     ensures { λ r. ⌜ (Walkable (now (file .entry)) (now (list .entry)) n program (cubeAt (now (file .entry)) (now (list .entry)) k) → r .held ≡ closed (programOf (now (file .entry)) program) (entriesOf (now (file .entry)) (now (list .entry)) n) (configurationOf (cubeAt (now (file .entry)) (now (list .entry)) k))) ⌝ }
 {
     let cube = entry_at(file, list, k);

@@ -21,9 +21,9 @@ use Rattle.matching.specs.Roles.{Roles}
 use Rattle.cover.specs.declared.place.Place.{Place}
 use Rattle.cover.specs.declared.place.Place.the-variants.{Whole, Waiting, Sent}
 use Rattle.cover.specs.Places.{partOf, proper, fillings}
-use Rattle.cover.specs.Search.{Searchable, Against, turned, Stuck}
+use Rattle.cover.specs.Search.{Searchable, Against, outward, Stuck}
 use Rattle.cover.proofs.PlaceLaws.{true-not-false}
-use Rattle.cover.proofs.EntryLaws.{turned-onto}
+use Rattle.cover.proofs.EntryLaws.{outward-onto}
 use Rattle.cover.proofs.HeldLaws.{against, cube-covered, cube-stuck, searchable-part, parts-all, parts-one}
 
 -- ---- a place to split at
@@ -70,7 +70,7 @@ module _ (f list : List ℕ) (n : ℕ) (s : Shape) (c : Cube) (a : Place) where
     pub one : x < fillings s a
     pub is : part ≡ partOf c a x
     pub most : i ≤ n
-    pub none : Against s part right → (k : ℕ) → k < i → matches (shapeOf s) fills (configurationOf (cubeAt f list (turned from n k))) (configurationOf part) ≡ false
+    pub none : Against s part right → (k : ℕ) → k < i → matches (shapeOf s) fills (configurationOf (cubeAt f list (outward from n k))) (configurationOf part) ≡ false
 
   pub parts-begin : Parts 0
   parts-begin = record { most = omega arith; held = λ Z k l. absurd (omega arith) }
@@ -90,7 +90,7 @@ module _ (f list : List ℕ) (n : ℕ) (s : Shape) (c : Cube) (a : Place) where
 
   module _ (sixteen : length (c .queues) ≡ 16) (twenty : length (c .messages) ≡ 20) (ok : proper s c a ≡ true)
       {part : Cube} {right : List ℕ} {from x i : ℕ} (w : Scanning part right from x i) where
-    pub scanning-next : i < n → (Against s part right → matches (shapeOf s) fills (configurationOf (cubeAt f list (turned from n i))) (configurationOf part) ≡ false) → Scanning part right from x (i + 1)
+    pub scanning-next : i < n → (Against s part right → matches (shapeOf s) fills (configurationOf (cubeAt f list (outward from n i))) (configurationOf part) ≡ false) → Scanning part right from x (i + 1)
     scanning-next l g =
         record {
           parts = w .parts;
@@ -98,7 +98,7 @@ module _ (f list : List ℕ) (n : ℕ) (s : Shape) (c : Cube) (a : Place) where
           is = w .is;
           most = omega arith;
           none = λ A k m. elim (ℕ-discrete k i) [
-            | yes d ↦ ap (λ (y : ℕ). matches (shapeOf s) fills (configurationOf (cubeAt f list (turned from n y))) (configurationOf part)) d ∙ g A
+            | yes d ↦ ap (λ (y : ℕ). matches (shapeOf s) fills (configurationOf (cubeAt f list (outward from n y))) (configurationOf part)) d ∙ g A
             | no d ↦ w .none A k (omega arith)
           ];
         }
@@ -121,7 +121,7 @@ module _ (f list : List ℕ) (n : ℕ) (s : Shape) (c : Cube) (a : Place) where
           let Y = part-searchable Z in
           let A = against Y roles in
           sym (parts-one Z sixteen twenty a ok x (w .one) (part-held (cube-stuck Y
-          (λ k m. let r = turned-onto from n k m in ap (λ (y : ℕ). matches (shapeOf s) fills (configurationOf (cubeAt f list y)) (configurationOf part)) (sym (r .2)) ∙ w .none A (r .0) (omega (arith, r .1)))
+          (λ k m. let r = outward-onto from n k m in ap (λ (y : ℕ). matches (shapeOf s) fills (configurationOf (cubeAt f list y)) (configurationOf part)) (sym (r .2)) ∙ w .none A (r .0) (omega (arith, r .1)))
           (g A))))
 
     -- its own parts decide it

@@ -1,11 +1,11 @@
 -- What a search is asked over: a list of entries in a file, and a cube that fits the shape.
-use Prim.Native.Nat.{ℕ, _+_, _-_, _<_, _≤_}
+use Prim.Native.Nat.{ℕ, _+_, _-_, _/_, _%_, _<_, _≤_, min}
 use mathlib.Core.Path.{_≡_}
 use mathlib.Core.Logic.{_⊎_}
 use mathlib.Core.Bool.{Bool, true, false, cond}
 use mathlib.Core.List.{List}
 use lib.ListN.{length}
-use lib.Dec.{ltb}
+use lib.Dec.{eqb, ltb, leb}
 use Rattle.pws.specs.Program.{ShapeInRange}
 use Rattle.pws.specs.Configurations.{Fits}
 use Rattle.pws.specs.Entries.{ValueOrFF}
@@ -34,9 +34,12 @@ pub record Against (s : Shape) (c : Cube) (held : List ℕ) : Type 0 where
   pub messages : c .count ≤ 20
   pub roles : Roles held (configurationOf c .memory)
 
--- the entries in turn, from one on
-unfoldable pub turned : ℕ → ℕ → ℕ → ℕ
-turned from n i = cond (ltb from n) (cond (ltb (from + i) n) (from + i) (from + i - n)) i
+-- the entries in turn, outward from one: it, the one before, the one after, ..; where there are none left on one side, those of the other
+unfoldable pub outward : ℕ → ℕ → ℕ → ℕ
+outward near n i =
+    cond (ltb near n)
+    (cond (ltb (i / 2) (min near (n - near))) (cond (eqb (i % 2) 0) (near + i / 2) (near - 1 - i / 2)) (cond (leb near (n - near)) i (n - 1 - i)))
+    i
 
 -- none of the entries may meet the cube, or it has no free value
 abbrev pub Stuck : List ℕ → List ℕ → ℕ → Shape → Cube → Type 0

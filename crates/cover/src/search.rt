@@ -1,4 +1,4 @@
-// The search itself. An entry that is looked for is looked for near the one found last.
+// The search itself. An entry is looked for outward from the one found last.
 ghost use mathlib.Core.Path.{_≡_};
 ghost use mathlib.Core.Bool.{Bool, true, false, _&&_};
 ghost use Prim.Native.Nat.{ℕ, _+_, _*_, _≤_, _<_, min};
@@ -10,7 +10,7 @@ ghost use Rattle.records.specs.Cube.{configurationOf};
 ghost use Rattle.contents.specs.Again.{cubeAt, entriesOf};
 ghost use Rattle.matching.specs.Relation.{relation};
 ghost use Rattle.cover.specs.Places.{isWhole, isFree, proper};
-ghost use Rattle.cover.specs.Search.{Searchable, Against, turned, Stuck};
+ghost use Rattle.cover.specs.Search.{Searchable, Against, outward, Stuck};
 use crate::gaps::Gaps;
 use crate::gaps::gaps_between;
 use crate::place::Place;
@@ -22,6 +22,7 @@ use crate::place::part_of;
 use contents::offset_at;
 use matching::entry_matches;
 use matching::least;
+use matching::queues_match;
 use matching::roles_of;
 use matching::states_match;
 use records::bytes::field;
@@ -54,30 +55,34 @@ pub fn matches_at(
         return false;
     }
     let entry = load_entry(file, at);
+    let before = entry.queues;
+    let after = cube.queues;
+    if !queues_match(exact, shape, before, after) {
+        return false;
+    }
     let left = roles_of(entry);
     entry_matches(exact, shape, entry, left, cube, right)
 }
 
-// The number of an entry, when they are gone through in turn from one on.
-fn turned(from: usize, n: usize, i: usize) -> usize
+// The number of an entry, when they are gone through outward from one.
+fn outward(near: usize, n: usize, i: usize) -> usize
     requires { ⌜ (n ≤ 524288) × (i < n) ⌝ }
-    ensures { λ r. ⌜ r ≡ turned from n i ⌝ }
+    ensures { λ r. ⌜ r ≡ outward near n i ⌝ }
 {
-    if n <= from {
+    if n <= near {
         return i;
     }
-    if from + i < n {
-        return from + i;
+    let after = n - near;
+    if i / 2 < least(near, after) {
+        if i % 2 == 0 {
+            return near + i / 2;
+        }
+        return near - 1 - i / 2;
     }
-    from + i - n
-}
-
-// A little before the entry that was found last.
-fn back(near: usize) -> usize {
-    if near < 16 {
-        return 0;
+    if near <= after {
+        return i;
     }
-    near - 16
+    n - 1 - i
 }
 
 // ---- where to split
@@ -187,9 +192,9 @@ fn parts_held(
     'fillings: for x in 0..m {
         let part = part_of(cube, place, x as u8);
         let right = roles_of(part);
-        let from = back(last);
+        let from = last;
         for i in 0..n {
-            let k = turned(from, n, i);
+            let k = outward(from, n, i);
             if matches_at(true, file, list, k, shape, part, right) {
                 last = k;
                 continue 'fillings;

@@ -49,13 +49,14 @@ fn lowest_entered(file: &[u8], list: &[u8], n: usize, program: Program) -> usize
     requires { ⌜ Ready (now file) (now list) n program ⌝ }
     ensures { λ r. ⌜ LowestFailing (closedTest (now (file .entry)) (now (list .entry)) n program) n r ⌝ }
 {
-    let mut near = 0;
+    let mut near = [0usize; 256];
     for k in 0..n {
         let found = entry_closed(file, list, n, program, k, near);
         if !found.held {
             return k;
         }
-        near = found.near;
+        let next = found.near;
+        near = next;
     }
     n
 }

@@ -14,7 +14,7 @@ use Rattle.records.proofs.CubeParts.{queue-of}
 use Rattle.lists.specs.Matching.{queueMatches, matches}
 use Rattle.matching.specs.Relation.{relation}
 use Rattle.matching.specs.Match.{Sizes, queueRow, channelMatches}
-use Rattle.matching.proofs.Below.{all-equal}
+use Rattle.matching.proofs.Below.{and-false, all-equal}
 
 module _ (exact : Bool) (s : Shape) (a b : Cube) (z : Sizes s a b) where
   few-is : min (s .processes) 4 ≡ s .processes
@@ -52,6 +52,13 @@ module _ (exact : Bool) (s : Shape) (a b : Cube) (z : Sizes s a b) where
       ≡ matches (shapeOf s) (relation exact) (configurationOf a) (configurationOf b)
   unfolding channelMatches
   three-tests = ap₂ (λ (x y : Bool). (x && y) && channelMatches s exact a b) states-is queues-is
+
+  pub queues-unlike : {y : Bool} → y ≡ allBelow (min (s .processes) 4) (queueRow (s .variables) exact (a .queues) (b .queues)) → y ≡ false
+      → false ≡ matches (shapeOf s) (relation exact) (configurationOf a) (configurationOf b)
+  queues-unlike f h =
+      sym (ap (λ (k : Bool). k && channelMatches s exact a b) (and-false (allBelow (min (s .processes) 4) (λ p. eqb (getD (a .states) p 0) (getD (b .states) p 0)))))
+      ∙ ap (λ (k : Bool). (allBelow (min (s .processes) 4) (λ p. eqb (getD (a .states) p 0) (getD (b .states) p 0)) && k) && channelMatches s exact a b) (sym h ∙ f)
+      ∙ three-tests
 
   module _ {x : Bool}
       (e : x ≡ allBelow (min (s .processes) 4) (λ p. eqb (getD (a .states) p 0) (getD (b .states) p 0)))

@@ -282,7 +282,7 @@ fn queue_row(exact: bool, variables: usize, a: [Queue; 16], b: [Queue; 16], p: u
     true
 }
 
-fn queues_match(exact: bool, shape: Shape, a: [Queue; 16], b: [Queue; 16]) -> bool
+pub fn queues_match(exact: bool, shape: Shape, a: [Queue; 16], b: [Queue; 16]) -> bool
     ensures { λ r. ⌜ r ≡ allBelow (min (shape .processes) 4) (queueRow (shape .variables) exact a b) ⌝ }
 {
     let n = least(shape.processes, 4);

@@ -4,9 +4,9 @@ use native.Mathlib.Omega.{arith}
 use borrow.Author.Tests.{not-true, not-false}
 use borrow.Author.Needs.{needs}
 use Rattle.records.specs.declared.entry.Cube.{Cube}
-use Rattle.cover.specs.Places.{weight, fillings}
+use Rattle.cover.specs.Places.{weight}
 use Rattle.cover.proofs.PlaceLaws.{fillings-few}
-use Rattle.cover.proofs.EntryLaws.{turned-below}
+use Rattle.cover.proofs.EntryLaws.{outward-below}
 use Rattle.cover.proofs.PartLaws.{part-less}
 use Rattle.cover.proofs.SearchLaws.{Parts, Scanning, parts-begin, parts-done, scanning-begin, scanning-next, scanning-covered, scanning-stuck, scanning-held, scanning-outside}
 use Prim.Native.Nat.{ℕ, _<_}
@@ -18,11 +18,10 @@ use Rattle.cover.proofs.search.+parts_held.Lts-parts_held as parts-held
 use Rattle.cover.proofs.place.fillings.Reads as fillings-reads
 use Rattle.cover.proofs.place.is_whole.Reads as is-whole-reads
 use Rattle.cover.proofs.place.part_of.Reads as part-of-reads
-use Rattle.cover.proofs.search.back.Reads as back-reads
 use Rattle.cover.proofs.search.matches_at.Reads as matches-at-reads
+use Rattle.cover.proofs.search.outward.Reads as outward-reads
 use Rattle.cover.proofs.search.place_for.Reads as place-for-reads
 use Rattle.cover.proofs.search.rooms.Reads as rooms-reads
-use Rattle.cover.proofs.search.turned.Reads as turned-reads
 use Rattle.matching.proofs.roles_of.Reads as roles-of-reads
 use Rattle.cover.proofs.search.+parts_held.{statement}
 use Rattle.cover.proofs.search.+parts_held.Tie.{close}
@@ -50,7 +49,7 @@ parts-held-Inv-fillings file list n shape cube place near sizes m last₀ x₀ l
 abbrev parts-held-μ-fillings : parts-held-lts.MeasureT-fillings
 parts-held-μ-fillings file list n shape cube place near sizes m last₀ x₀ last x = m - x
 
--- src/search.rt:184:9
+-- src/search.rt:189:9
 parts-held-rooms-requires : (t : ℕ) → parts-held-lts.Need-rooms-requires (
   rooms-reads.Asked,
   rooms-reads.Learnt,
@@ -60,10 +59,8 @@ parts-held-rooms-requires : (t : ℕ) → parts-held-lts.Need-rooms-requires (
   part-of-reads.Learnt,
   roles-of-reads.Asked,
   roles-of-reads.Learnt,
-  back-reads.Asked,
-  back-reads.Learnt,
-  turned-reads.Asked,
-  turned-reads.Learnt,
+  outward-reads.Asked,
+  outward-reads.Learnt,
   matches-at-reads.Asked,
   matches-at-reads.Learnt,
   place-for-reads.Asked,
@@ -81,7 +78,7 @@ parts-held-rooms-requires : (t : ℕ) → parts-held-lts.Need-rooms-requires (
     parts-held-μ-fillings
 parts-held-rooms-requires t c κs = search needs
 
--- src/search.rt:185:9
+-- src/search.rt:190:9
 parts-held-fillings-requires : (t : ℕ) → parts-held-lts.Need-fillings-requires (
   rooms-reads.Asked,
   rooms-reads.Learnt,
@@ -91,10 +88,8 @@ parts-held-fillings-requires : (t : ℕ) → parts-held-lts.Need-fillings-requir
   part-of-reads.Learnt,
   roles-of-reads.Asked,
   roles-of-reads.Learnt,
-  back-reads.Asked,
-  back-reads.Learnt,
-  turned-reads.Asked,
-  turned-reads.Learnt,
+  outward-reads.Asked,
+  outward-reads.Learnt,
   matches-at-reads.Asked,
   matches-at-reads.Learnt,
   place-for-reads.Asked,
@@ -112,7 +107,7 @@ parts-held-fillings-requires : (t : ℕ) → parts-held-lts.Need-fillings-requir
     parts-held-μ-fillings
 parts-held-fillings-requires t c κs = search needs
 
--- src/search.rt:187:5
+-- src/search.rt:192:5
 parts-held-fillings-holds : (t : ℕ) → parts-held-lts.Need-fillings-holds (
   rooms-reads.Asked,
   rooms-reads.Learnt,
@@ -122,10 +117,8 @@ parts-held-fillings-holds : (t : ℕ) → parts-held-lts.Need-fillings-holds (
   part-of-reads.Learnt,
   roles-of-reads.Asked,
   roles-of-reads.Learnt,
-  back-reads.Asked,
-  back-reads.Learnt,
-  turned-reads.Asked,
-  turned-reads.Learnt,
+  outward-reads.Asked,
+  outward-reads.Learnt,
   matches-at-reads.Asked,
   matches-at-reads.Learnt,
   place-for-reads.Asked,
@@ -143,7 +136,7 @@ parts-held-fillings-holds : (t : ℕ) → parts-held-lts.Need-fillings-holds (
     parts-held-μ-fillings
 parts-held-fillings-holds t c = parts-begin (c .before .before .before .before .args .file .now) (c .before .before .before .before .args .list .now) (c .before .before .before .before .args .n) (c .before .before .before .before .args .shape) (c .before .before .before .before .args .cube) (c .before .before .before .before .args .place)
 
--- src/search.rt:188:41
+-- src/search.rt:193:41
 parts-held-cast-part-of : (t : ℕ) → parts-held-lts.Need-cast-part-of (
   rooms-reads.Asked,
   rooms-reads.Learnt,
@@ -153,10 +146,8 @@ parts-held-cast-part-of : (t : ℕ) → parts-held-lts.Need-cast-part-of (
   part-of-reads.Learnt,
   roles-of-reads.Asked,
   roles-of-reads.Learnt,
-  back-reads.Asked,
-  back-reads.Learnt,
-  turned-reads.Asked,
-  turned-reads.Learnt,
+  outward-reads.Asked,
+  outward-reads.Learnt,
   matches-at-reads.Asked,
   matches-at-reads.Learnt,
   place-for-reads.Asked,
@@ -174,7 +165,7 @@ parts-held-cast-part-of : (t : ℕ) → parts-held-lts.Need-cast-part-of (
     parts-held-μ-fillings
 parts-held-cast-part-of t c = omega (arith, fillings-few (c .before .before .before .before .before .before .args .shape) (c .before .before .before .before .before .before .args .place), c .fillings-test .taken, c .before .before .fillings2 .ensures)
 
--- src/search.rt:188:13
+-- src/search.rt:193:13
 parts-held-part-of-requires : (t : ℕ) → parts-held-lts.Need-part-of-requires (
   rooms-reads.Asked,
   rooms-reads.Learnt,
@@ -184,10 +175,8 @@ parts-held-part-of-requires : (t : ℕ) → parts-held-lts.Need-part-of-requires
   part-of-reads.Learnt,
   roles-of-reads.Asked,
   roles-of-reads.Learnt,
-  back-reads.Asked,
-  back-reads.Learnt,
-  turned-reads.Asked,
-  turned-reads.Learnt,
+  outward-reads.Asked,
+  outward-reads.Learnt,
   matches-at-reads.Asked,
   matches-at-reads.Learnt,
   place-for-reads.Asked,
@@ -205,7 +194,7 @@ parts-held-part-of-requires : (t : ℕ) → parts-held-lts.Need-part-of-requires
     parts-held-μ-fillings
 parts-held-part-of-requires t c κs = search needs
 
--- src/search.rt:189:13
+-- src/search.rt:194:13
 parts-held-roles-of-requires : (t : ℕ) → parts-held-lts.Need-roles-of-requires (
   rooms-reads.Asked,
   rooms-reads.Learnt,
@@ -215,10 +204,8 @@ parts-held-roles-of-requires : (t : ℕ) → parts-held-lts.Need-roles-of-requir
   part-of-reads.Learnt,
   roles-of-reads.Asked,
   roles-of-reads.Learnt,
-  back-reads.Asked,
-  back-reads.Learnt,
-  turned-reads.Asked,
-  turned-reads.Learnt,
+  outward-reads.Asked,
+  outward-reads.Learnt,
   matches-at-reads.Asked,
   matches-at-reads.Learnt,
   place-for-reads.Asked,
@@ -236,38 +223,7 @@ parts-held-roles-of-requires : (t : ℕ) → parts-held-lts.Need-roles-of-requir
     parts-held-μ-fillings
 parts-held-roles-of-requires t c κs = search needs
 
--- src/search.rt:190:13
-parts-held-back-requires : (t : ℕ) → parts-held-lts.Need-back-requires (
-  rooms-reads.Asked,
-  rooms-reads.Learnt,
-  fillings-reads.Asked,
-  fillings-reads.Learnt,
-  part-of-reads.Asked,
-  part-of-reads.Learnt,
-  roles-of-reads.Asked,
-  roles-of-reads.Learnt,
-  back-reads.Asked,
-  back-reads.Learnt,
-  turned-reads.Asked,
-  turned-reads.Learnt,
-  matches-at-reads.Asked,
-  matches-at-reads.Learnt,
-  place-for-reads.Asked,
-  place-for-reads.Learnt,
-  is-whole-reads.Asked,
-  is-whole-reads.Learnt,
-  parts-held-below t,
-  parts-held.Post,
-)
-    (parts-held-at t)
-    parts-held.Post
-    parts-held-Inv-loop
-    parts-held-μ-loop
-    parts-held-Inv-fillings
-    parts-held-μ-fillings
-parts-held-back-requires t c κs = search needs
-
--- src/search.rt:191:9
+-- src/search.rt:196:9
 parts-held-loop-holds : (t : ℕ) → parts-held-lts.Need-loop-holds (
   rooms-reads.Asked,
   rooms-reads.Learnt,
@@ -277,10 +233,8 @@ parts-held-loop-holds : (t : ℕ) → parts-held-lts.Need-loop-holds (
   part-of-reads.Learnt,
   roles-of-reads.Asked,
   roles-of-reads.Learnt,
-  back-reads.Asked,
-  back-reads.Learnt,
-  turned-reads.Asked,
-  turned-reads.Learnt,
+  outward-reads.Asked,
+  outward-reads.Learnt,
   matches-at-reads.Asked,
   matches-at-reads.Learnt,
   place-for-reads.Asked,
@@ -296,10 +250,10 @@ parts-held-loop-holds : (t : ℕ) → parts-held-lts.Need-loop-holds (
     parts-held-μ-loop
     parts-held-Inv-fillings
     parts-held-μ-fillings
-parts-held-loop-holds t c = (scanning-begin (c .before .before .before .before .before .before .before .before .before .args .file .now) (c .before .before .before .before .before .before .before .before .before .args .list .now) (c .before .before .before .before .before .before .before .before .before .args .n) (c .before .before .before .before .before .before .before .before .before .args .shape) (c .before .before .before .before .before .before .before .before .before .args .cube) (c .before .before .before .before .before .before .before .before .before .args .place) (c .before .before .before .before .fillings .inv) (omega (arith, c .before .before .before .fillings-test .taken, c .before .before .before .before .before .fillings2 .ensures)) (c .before .before .part-of .ensures), refl)
+parts-held-loop-holds t c = (scanning-begin (c .before .before .before .before .before .before .before .before .args .file .now) (c .before .before .before .before .before .before .before .before .args .list .now) (c .before .before .before .before .before .before .before .before .args .n) (c .before .before .before .before .before .before .before .before .args .shape) (c .before .before .before .before .before .before .before .before .args .cube) (c .before .before .before .before .before .before .before .before .args .place) (c .before .before .before .fillings .inv) (omega (arith, c .before .before .fillings-test .taken, c .before .before .before .before .fillings2 .ensures)) (c .before .part-of .ensures), refl)
 
--- src/search.rt:192:17
-parts-held-turned-requires : (t : ℕ) → parts-held-lts.Need-turned-requires (
+-- src/search.rt:197:17
+parts-held-outward-requires : (t : ℕ) → parts-held-lts.Need-outward-requires (
   rooms-reads.Asked,
   rooms-reads.Learnt,
   fillings-reads.Asked,
@@ -308,10 +262,8 @@ parts-held-turned-requires : (t : ℕ) → parts-held-lts.Need-turned-requires (
   part-of-reads.Learnt,
   roles-of-reads.Asked,
   roles-of-reads.Learnt,
-  back-reads.Asked,
-  back-reads.Learnt,
-  turned-reads.Asked,
-  turned-reads.Learnt,
+  outward-reads.Asked,
+  outward-reads.Learnt,
   matches-at-reads.Asked,
   matches-at-reads.Learnt,
   place-for-reads.Asked,
@@ -327,9 +279,9 @@ parts-held-turned-requires : (t : ℕ) → parts-held-lts.Need-turned-requires (
     parts-held-μ-loop
     parts-held-Inv-fillings
     parts-held-μ-fillings
-parts-held-turned-requires t c κs = (c .before .before .before .before .before .before .before .before .before .before .before .pre .1 .0, c .loop-test .taken)
+parts-held-outward-requires t c κs = (c .before .before .before .before .before .before .before .before .before .before .pre .1 .0, c .loop-test .taken)
 
--- src/search.rt:193:16
+-- src/search.rt:198:16
 parts-held-matches-at-requires : (t : ℕ) → parts-held-lts.Need-matches-at-requires (
   rooms-reads.Asked,
   rooms-reads.Learnt,
@@ -339,10 +291,8 @@ parts-held-matches-at-requires : (t : ℕ) → parts-held-lts.Need-matches-at-re
   part-of-reads.Learnt,
   roles-of-reads.Asked,
   roles-of-reads.Learnt,
-  back-reads.Asked,
-  back-reads.Learnt,
-  turned-reads.Asked,
-  turned-reads.Learnt,
+  outward-reads.Asked,
+  outward-reads.Learnt,
   matches-at-reads.Asked,
   matches-at-reads.Learnt,
   place-for-reads.Asked,
@@ -360,7 +310,7 @@ parts-held-matches-at-requires : (t : ℕ) → parts-held-lts.Need-matches-at-re
     parts-held-μ-fillings
 parts-held-matches-at-requires t c κs = search needs
 
--- src/search.rt:195:17
+-- src/search.rt:200:17
 parts-held-add-x : (t : ℕ) → parts-held-lts.Need-add-x (
   rooms-reads.Asked,
   rooms-reads.Learnt,
@@ -370,10 +320,8 @@ parts-held-add-x : (t : ℕ) → parts-held-lts.Need-add-x (
   part-of-reads.Learnt,
   roles-of-reads.Asked,
   roles-of-reads.Learnt,
-  back-reads.Asked,
-  back-reads.Learnt,
-  turned-reads.Asked,
-  turned-reads.Learnt,
+  outward-reads.Asked,
+  outward-reads.Learnt,
   matches-at-reads.Asked,
   matches-at-reads.Learnt,
   place-for-reads.Asked,
@@ -389,9 +337,9 @@ parts-held-add-x : (t : ℕ) → parts-held-lts.Need-add-x (
     parts-held-μ-loop
     parts-held-Inv-fillings
     parts-held-μ-fillings
-parts-held-add-x t c = omega (arith, fillings-few (c .before .before .before .before .before .before .before .before .before .before .before .before .before .before .args .shape) (c .before .before .before .before .before .before .before .before .before .before .before .before .before .before .args .place), c .before .before .before .before .loop .inv .0 .one)
+parts-held-add-x t c = omega (arith, fillings-few (c .before .before .before .before .before .before .before .before .before .before .before .before .before .args .shape) (c .before .before .before .before .before .before .before .before .before .before .before .before .before .args .place), c .before .before .before .before .loop .inv .0 .one)
 
--- src/search.rt:187:5
+-- src/search.rt:192:5
 parts-held-fillings-less : (t : ℕ) → parts-held-lts.Need-fillings-less (
   rooms-reads.Asked,
   rooms-reads.Learnt,
@@ -401,10 +349,8 @@ parts-held-fillings-less : (t : ℕ) → parts-held-lts.Need-fillings-less (
   part-of-reads.Learnt,
   roles-of-reads.Asked,
   roles-of-reads.Learnt,
-  back-reads.Asked,
-  back-reads.Learnt,
-  turned-reads.Asked,
-  turned-reads.Learnt,
+  outward-reads.Asked,
+  outward-reads.Learnt,
   matches-at-reads.Asked,
   matches-at-reads.Learnt,
   place-for-reads.Asked,
@@ -420,9 +366,9 @@ parts-held-fillings-less : (t : ℕ) → parts-held-lts.Need-fillings-less (
     parts-held-μ-loop
     parts-held-Inv-fillings
     parts-held-μ-fillings
-parts-held-fillings-less t c = omega (arith, c .before .before .before .before .loop .inv .0 .one, c .before .before .before .before .loop .inv .1, c .before .before .before .before .before .before .before .before .before .before .fillings2 .ensures)
+parts-held-fillings-less t c = omega (arith, c .before .before .before .before .loop .inv .0 .one, c .before .before .before .before .loop .inv .1, c .before .before .before .before .before .before .before .before .before .fillings2 .ensures)
 
--- src/search.rt:187:5
+-- src/search.rt:192:5
 parts-held-fillings-again : (t : ℕ) → parts-held-lts.Need-fillings-again (
   rooms-reads.Asked,
   rooms-reads.Learnt,
@@ -432,10 +378,8 @@ parts-held-fillings-again : (t : ℕ) → parts-held-lts.Need-fillings-again (
   part-of-reads.Learnt,
   roles-of-reads.Asked,
   roles-of-reads.Learnt,
-  back-reads.Asked,
-  back-reads.Learnt,
-  turned-reads.Asked,
-  turned-reads.Learnt,
+  outward-reads.Asked,
+  outward-reads.Learnt,
   matches-at-reads.Asked,
   matches-at-reads.Learnt,
   place-for-reads.Asked,
@@ -451,9 +395,9 @@ parts-held-fillings-again : (t : ℕ) → parts-held-lts.Need-fillings-again (
     parts-held-μ-loop
     parts-held-Inv-fillings
     parts-held-μ-fillings
-parts-held-fillings-again t c = scanning-covered (c .before .before .before .before .before .before .before .before .before .before .before .before .before .before .args .file .now) (c .before .before .before .before .before .before .before .before .before .before .before .before .before .before .args .list .now) (c .before .before .before .before .before .before .before .before .before .before .before .before .before .before .args .n) (c .before .before .before .before .before .before .before .before .before .before .before .before .before .before .args .shape) (c .before .before .before .before .before .before .before .before .before .before .before .before .before .before .args .cube) (c .before .before .before .before .before .before .before .before .before .before .before .before .before .before .args .place) (c .before .before .before .before .before .before .before .before .before .before .before .rooms .ensures .0) (c .before .before .before .before .before .before .before .before .before .before .before .rooms .ensures .1) (c .before .before .before .before .before .before .before .before .before .before .before .before .before .before .pre .1 .1) (c .before .before .before .before .loop .inv .0) (c .before .before .before .before .before .before .roles-of .ensures) (c .before .before .turned .result) (rw (c .before .before .turned .ensures) (turned-below (c .before .before .before .before .before .back .result) (c .before .before .before .before .before .before .before .before .before .before .before .before .before .before .args .n) (c .before .before .before .before .loop .i) (c .before .before .before .loop-test .taken))) (λ A. sym (c .before .matches-at .ensures A) ∙ c .if1 .taken)
+parts-held-fillings-again t c = scanning-covered (c .before .before .before .before .before .before .before .before .before .before .before .before .before .args .file .now) (c .before .before .before .before .before .before .before .before .before .before .before .before .before .args .list .now) (c .before .before .before .before .before .before .before .before .before .before .before .before .before .args .n) (c .before .before .before .before .before .before .before .before .before .before .before .before .before .args .shape) (c .before .before .before .before .before .before .before .before .before .before .before .before .before .args .cube) (c .before .before .before .before .before .before .before .before .before .before .before .before .before .args .place) (c .before .before .before .before .before .before .before .before .before .before .rooms .ensures .0) (c .before .before .before .before .before .before .before .before .before .before .rooms .ensures .1) (c .before .before .before .before .before .before .before .before .before .before .before .before .before .pre .1 .1) (c .before .before .before .before .loop .inv .0) (c .before .before .before .before .before .roles-of .ensures) (c .before .before .outward .result) (rw (c .before .before .outward .ensures) (outward-below (c .before .before .before .before .before .before .before .before .fillings .last) (c .before .before .before .before .before .before .before .before .before .before .before .before .before .args .n) (c .before .before .before .before .loop .i) (c .before .before .before .loop-test .taken))) (λ A. sym (c .before .matches-at .ensures A) ∙ c .if1 .taken)
 
--- src/search.rt:191:13
+-- src/search.rt:196:13
 parts-held-add-i : (t : ℕ) → parts-held-lts.Need-add-i (
   rooms-reads.Asked,
   rooms-reads.Learnt,
@@ -463,10 +407,8 @@ parts-held-add-i : (t : ℕ) → parts-held-lts.Need-add-i (
   part-of-reads.Learnt,
   roles-of-reads.Asked,
   roles-of-reads.Learnt,
-  back-reads.Asked,
-  back-reads.Learnt,
-  turned-reads.Asked,
-  turned-reads.Learnt,
+  outward-reads.Asked,
+  outward-reads.Learnt,
   matches-at-reads.Asked,
   matches-at-reads.Learnt,
   place-for-reads.Asked,
@@ -482,9 +424,9 @@ parts-held-add-i : (t : ℕ) → parts-held-lts.Need-add-i (
     parts-held-μ-loop
     parts-held-Inv-fillings
     parts-held-μ-fillings
-parts-held-add-i t c = omega (arith, c .before .before .before .loop-test .taken, c .before .before .before .before .before .before .before .before .before .before .before .before .before .before .pre .1 .0)
+parts-held-add-i t c = omega (arith, c .before .before .before .loop-test .taken, c .before .before .before .before .before .before .before .before .before .before .before .before .before .pre .1 .0)
 
--- src/search.rt:191:9
+-- src/search.rt:196:9
 parts-held-loop-less : (t : ℕ) → parts-held-lts.Need-loop-less (
   rooms-reads.Asked,
   rooms-reads.Learnt,
@@ -494,10 +436,8 @@ parts-held-loop-less : (t : ℕ) → parts-held-lts.Need-loop-less (
   part-of-reads.Learnt,
   roles-of-reads.Asked,
   roles-of-reads.Learnt,
-  back-reads.Asked,
-  back-reads.Learnt,
-  turned-reads.Asked,
-  turned-reads.Learnt,
+  outward-reads.Asked,
+  outward-reads.Learnt,
   matches-at-reads.Asked,
   matches-at-reads.Learnt,
   place-for-reads.Asked,
@@ -515,7 +455,7 @@ parts-held-loop-less : (t : ℕ) → parts-held-lts.Need-loop-less (
     parts-held-μ-fillings
 parts-held-loop-less t c = omega (arith, c .before .before .before .loop-test .taken)
 
--- src/search.rt:191:9
+-- src/search.rt:196:9
 parts-held-loop-again : (t : ℕ) → parts-held-lts.Need-loop-again (
   rooms-reads.Asked,
   rooms-reads.Learnt,
@@ -525,10 +465,8 @@ parts-held-loop-again : (t : ℕ) → parts-held-lts.Need-loop-again (
   part-of-reads.Learnt,
   roles-of-reads.Asked,
   roles-of-reads.Learnt,
-  back-reads.Asked,
-  back-reads.Learnt,
-  turned-reads.Asked,
-  turned-reads.Learnt,
+  outward-reads.Asked,
+  outward-reads.Learnt,
   matches-at-reads.Asked,
   matches-at-reads.Learnt,
   place-for-reads.Asked,
@@ -544,9 +482,9 @@ parts-held-loop-again : (t : ℕ) → parts-held-lts.Need-loop-again (
     parts-held-μ-loop
     parts-held-Inv-fillings
     parts-held-μ-fillings
-parts-held-loop-again t c = (scanning-next (c .before .before .before .before .before .before .before .before .before .before .before .before .before .before .args .file .now) (c .before .before .before .before .before .before .before .before .before .before .before .before .before .before .args .list .now) (c .before .before .before .before .before .before .before .before .before .before .before .before .before .before .args .n) (c .before .before .before .before .before .before .before .before .before .before .before .before .before .before .args .shape) (c .before .before .before .before .before .before .before .before .before .before .before .before .before .before .args .cube) (c .before .before .before .before .before .before .before .before .before .before .before .before .before .before .args .place) (c .before .before .before .before .before .before .before .before .before .before .before .rooms .ensures .0) (c .before .before .before .before .before .before .before .before .before .before .before .rooms .ensures .1) (c .before .before .before .before .before .before .before .before .before .before .before .before .before .before .pre .1 .1) (c .before .before .before .before .loop .inv .0) (c .before .before .before .loop-test .taken) (λ A. rw (c .before .before .turned .ensures) at (sym (c .before .matches-at .ensures A) ∙ c .if1 .left)), c .before .before .before .before .loop .inv .1)
+parts-held-loop-again t c = (scanning-next (c .before .before .before .before .before .before .before .before .before .before .before .before .before .args .file .now) (c .before .before .before .before .before .before .before .before .before .before .before .before .before .args .list .now) (c .before .before .before .before .before .before .before .before .before .before .before .before .before .args .n) (c .before .before .before .before .before .before .before .before .before .before .before .before .before .args .shape) (c .before .before .before .before .before .before .before .before .before .before .before .before .before .args .cube) (c .before .before .before .before .before .before .before .before .before .before .before .before .before .args .place) (c .before .before .before .before .before .before .before .before .before .before .rooms .ensures .0) (c .before .before .before .before .before .before .before .before .before .before .rooms .ensures .1) (c .before .before .before .before .before .before .before .before .before .before .before .before .before .pre .1 .1) (c .before .before .before .before .loop .inv .0) (c .before .before .before .loop-test .taken) (λ A. rw (c .before .before .outward .ensures) at (sym (c .before .matches-at .ensures A) ∙ c .if1 .left)), c .before .before .before .before .loop .inv .1)
 
--- src/search.rt:198:13
+-- src/search.rt:203:13
 parts-held-place-for-requires : (t : ℕ) → parts-held-lts.Need-place-for-requires (
   rooms-reads.Asked,
   rooms-reads.Learnt,
@@ -556,10 +494,8 @@ parts-held-place-for-requires : (t : ℕ) → parts-held-lts.Need-place-for-requ
   part-of-reads.Learnt,
   roles-of-reads.Asked,
   roles-of-reads.Learnt,
-  back-reads.Asked,
-  back-reads.Learnt,
-  turned-reads.Asked,
-  turned-reads.Learnt,
+  outward-reads.Asked,
+  outward-reads.Learnt,
   matches-at-reads.Asked,
   matches-at-reads.Learnt,
   place-for-reads.Asked,
@@ -577,7 +513,7 @@ parts-held-place-for-requires : (t : ℕ) → parts-held-lts.Need-place-for-requ
     parts-held-μ-fillings
 parts-held-place-for-requires t c κs = search needs
 
--- src/search.rt:199:12
+-- src/search.rt:204:12
 parts-held-is-whole-requires : (t : ℕ) → parts-held-lts.Need-is-whole-requires (
   rooms-reads.Asked,
   rooms-reads.Learnt,
@@ -587,10 +523,8 @@ parts-held-is-whole-requires : (t : ℕ) → parts-held-lts.Need-is-whole-requir
   part-of-reads.Learnt,
   roles-of-reads.Asked,
   roles-of-reads.Learnt,
-  back-reads.Asked,
-  back-reads.Learnt,
-  turned-reads.Asked,
-  turned-reads.Learnt,
+  outward-reads.Asked,
+  outward-reads.Learnt,
   matches-at-reads.Asked,
   matches-at-reads.Learnt,
   place-for-reads.Asked,
@@ -608,7 +542,7 @@ parts-held-is-whole-requires : (t : ℕ) → parts-held-lts.Need-is-whole-requir
     parts-held-μ-fillings
 parts-held-is-whole-requires t c κs = search needs
 
--- src/search.rt:200:13
+-- src/search.rt:205:13
 parts-held-returns : (t : ℕ) → parts-held-lts.Need-returns (
   rooms-reads.Asked,
   rooms-reads.Learnt,
@@ -618,10 +552,8 @@ parts-held-returns : (t : ℕ) → parts-held-lts.Need-returns (
   part-of-reads.Learnt,
   roles-of-reads.Asked,
   roles-of-reads.Learnt,
-  back-reads.Asked,
-  back-reads.Learnt,
-  turned-reads.Asked,
-  turned-reads.Learnt,
+  outward-reads.Asked,
+  outward-reads.Learnt,
   matches-at-reads.Asked,
   matches-at-reads.Learnt,
   place-for-reads.Asked,
@@ -637,9 +569,9 @@ parts-held-returns : (t : ℕ) → parts-held-lts.Need-returns (
     parts-held-μ-loop
     parts-held-Inv-fillings
     parts-held-μ-fillings
-parts-held-returns t c = scanning-stuck (c .before .before .before .before .before .before .before .before .before .before .before .before .before .before .args .file .now) (c .before .before .before .before .before .before .before .before .before .before .before .before .before .before .args .list .now) (c .before .before .before .before .before .before .before .before .before .before .before .before .before .before .args .n) (c .before .before .before .before .before .before .before .before .before .before .before .before .before .before .args .shape) (c .before .before .before .before .before .before .before .before .before .before .before .before .before .before .args .cube) (c .before .before .before .before .before .before .before .before .before .before .before .before .before .before .args .place) (c .before .before .before .before .before .before .before .before .before .before .before .rooms .ensures .0) (c .before .before .before .before .before .before .before .before .before .before .before .rooms .ensures .1) (c .before .before .before .before .before .before .before .before .before .before .before .before .before .before .pre .1 .1) (c .before .before .before .before .loop .inv .0) (c .before .before .before .before .before .before .roles-of .ensures) (omega (arith, c .before .before .before .loop-test .left)) (λ A. c .before .before .place-for .ensures .1 A (sym (c .before .is-whole .ensures) ∙ c .if2 .taken))
+parts-held-returns t c = scanning-stuck (c .before .before .before .before .before .before .before .before .before .before .before .before .before .args .file .now) (c .before .before .before .before .before .before .before .before .before .before .before .before .before .args .list .now) (c .before .before .before .before .before .before .before .before .before .before .before .before .before .args .n) (c .before .before .before .before .before .before .before .before .before .before .before .before .before .args .shape) (c .before .before .before .before .before .before .before .before .before .before .before .before .before .args .cube) (c .before .before .before .before .before .before .before .before .before .before .before .before .before .args .place) (c .before .before .before .before .before .before .before .before .before .before .rooms .ensures .0) (c .before .before .before .before .before .before .before .before .before .before .rooms .ensures .1) (c .before .before .before .before .before .before .before .before .before .before .before .before .before .pre .1 .1) (c .before .before .before .before .loop .inv .0) (c .before .before .before .before .before .roles-of .ensures) (omega (arith, c .before .before .before .loop-test .left)) (λ A. c .before .before .place-for .ensures .1 A (sym (c .before .is-whole .ensures) ∙ c .if2 .taken))
 
--- src/search.rt:205:13
+-- src/search.rt:210:13
 parts-held-parts-held-requires : (t : ℕ) → parts-held-lts.Need-parts-held-requires (
   rooms-reads.Asked,
   rooms-reads.Learnt,
@@ -649,10 +581,8 @@ parts-held-parts-held-requires : (t : ℕ) → parts-held-lts.Need-parts-held-re
   part-of-reads.Learnt,
   roles-of-reads.Asked,
   roles-of-reads.Learnt,
-  back-reads.Asked,
-  back-reads.Learnt,
-  turned-reads.Asked,
-  turned-reads.Learnt,
+  outward-reads.Asked,
+  outward-reads.Learnt,
   matches-at-reads.Asked,
   matches-at-reads.Learnt,
   place-for-reads.Asked,
@@ -668,9 +598,9 @@ parts-held-parts-held-requires : (t : ℕ) → parts-held-lts.Need-parts-held-re
     parts-held-μ-loop
     parts-held-Inv-fillings
     parts-held-μ-fillings
-parts-held-parts-held-requires t c κs = let l = c .before .before .before .before .loop .inv .0 .one in (subst (λ (k : Cube). weight k (c .before .before .place-for .result) < t) (sym (c .before .before .before .before .loop .inv .0 .is)) (let y = part-less (c .before .before .before .before .before .before .before .before .before .before .before .before .before .before .args .shape) (c .before .before .before .before .before .before .before .before .before .before .before .before .before .before .args .cube) (c .before .before .before .before .before .before .before .before .before .before .before .rooms .ensures .0) (c .before .before .before .before .before .before .before .before .before .before .before .rooms .ensures .1) (c .before .before .before .before .before .before .before .before .before .before .before .before .before .before .args .place) (c .before .before .before .before .before .before .before .before .before .before .before .before .before .before .pre .1 .1) (c .before .before .before .before .loop .x) (omega (arith, fillings-few (c .before .before .before .before .before .before .before .before .before .before .before .before .before .before .args .shape) (c .before .before .before .before .before .before .before .before .before .before .before .before .before .before .args .place), l)) (c .before .before .place-for .result) (sym (c .before .is-whole .ensures) ∙ c .if2 .left) in omega (arith, y, c .before .before .before .before .before .before .before .before .before .before .before .before .before .before .pre .0)), (c .before .before .before .before .before .before .before .before .before .before .before .before .before .before .pre .1 .0, c .before .before .place-for .ensures .0))
+parts-held-parts-held-requires t c κs = let l = c .before .before .before .before .loop .inv .0 .one in (subst (λ (k : Cube). weight k (c .before .before .place-for .result) < t) (sym (c .before .before .before .before .loop .inv .0 .is)) (let y = part-less (c .before .before .before .before .before .before .before .before .before .before .before .before .before .args .shape) (c .before .before .before .before .before .before .before .before .before .before .before .before .before .args .cube) (c .before .before .before .before .before .before .before .before .before .before .rooms .ensures .0) (c .before .before .before .before .before .before .before .before .before .before .rooms .ensures .1) (c .before .before .before .before .before .before .before .before .before .before .before .before .before .args .place) (c .before .before .before .before .before .before .before .before .before .before .before .before .before .pre .1 .1) (c .before .before .before .before .loop .x) (omega (arith, fillings-few (c .before .before .before .before .before .before .before .before .before .before .before .before .before .args .shape) (c .before .before .before .before .before .before .before .before .before .before .before .before .before .args .place), l)) (c .before .before .place-for .result) (sym (c .before .is-whole .ensures) ∙ c .if2 .left) in omega (arith, y, c .before .before .before .before .before .before .before .before .before .before .before .before .before .pre .0)), (c .before .before .before .before .before .before .before .before .before .before .before .before .before .pre .1 .0, c .before .before .place-for .ensures .0))
 
--- src/search.rt:207:13
+-- src/search.rt:212:13
 parts-held-returns-2 : (t : ℕ) → parts-held-lts.Need-returns-2 (
   rooms-reads.Asked,
   rooms-reads.Learnt,
@@ -680,10 +610,8 @@ parts-held-returns-2 : (t : ℕ) → parts-held-lts.Need-returns-2 (
   part-of-reads.Learnt,
   roles-of-reads.Asked,
   roles-of-reads.Learnt,
-  back-reads.Asked,
-  back-reads.Learnt,
-  turned-reads.Asked,
-  turned-reads.Learnt,
+  outward-reads.Asked,
+  outward-reads.Learnt,
   matches-at-reads.Asked,
   matches-at-reads.Learnt,
   place-for-reads.Asked,
@@ -699,9 +627,9 @@ parts-held-returns-2 : (t : ℕ) → parts-held-lts.Need-returns-2 (
     parts-held-μ-loop
     parts-held-Inv-fillings
     parts-held-μ-fillings
-parts-held-returns-2 t c = scanning-outside (c .before .before .before .before .before .before .before .before .before .before .before .before .before .before .before .before .before .args .file .now) (c .before .before .before .before .before .before .before .before .before .before .before .before .before .before .before .before .before .args .list .now) (c .before .before .before .before .before .before .before .before .before .before .before .before .before .before .before .before .before .args .n) (c .before .before .before .before .before .before .before .before .before .before .before .before .before .before .before .before .before .args .shape) (c .before .before .before .before .before .before .before .before .before .before .before .before .before .before .before .before .before .args .cube) (c .before .before .before .before .before .before .before .before .before .before .before .before .before .before .before .before .before .args .place) (c .before .before .before .before .before .before .before .before .before .before .before .before .before .before .rooms .ensures .0) (c .before .before .before .before .before .before .before .before .before .before .before .before .before .before .rooms .ensures .1) (c .before .before .before .before .before .before .before .before .before .before .before .before .before .before .before .before .before .pre .1 .1) (c .before .before .before .before .before .before .before .loop .inv .0) (c .before .before .parts-held .ensures) (not-true (c .before .before .parts-held .result .held) (c .if3 .taken))
+parts-held-returns-2 t c = scanning-outside (c .before .before .before .before .before .before .before .before .before .before .before .before .before .before .before .before .args .file .now) (c .before .before .before .before .before .before .before .before .before .before .before .before .before .before .before .before .args .list .now) (c .before .before .before .before .before .before .before .before .before .before .before .before .before .before .before .before .args .n) (c .before .before .before .before .before .before .before .before .before .before .before .before .before .before .before .before .args .shape) (c .before .before .before .before .before .before .before .before .before .before .before .before .before .before .before .before .args .cube) (c .before .before .before .before .before .before .before .before .before .before .before .before .before .before .before .before .args .place) (c .before .before .before .before .before .before .before .before .before .before .before .before .before .rooms .ensures .0) (c .before .before .before .before .before .before .before .before .before .before .before .before .before .rooms .ensures .1) (c .before .before .before .before .before .before .before .before .before .before .before .before .before .before .before .before .pre .1 .1) (c .before .before .before .before .before .before .before .loop .inv .0) (c .before .before .parts-held .ensures) (not-true (c .before .before .parts-held .result .held) (c .if3 .taken))
 
--- src/search.rt:187:20
+-- src/search.rt:192:20
 parts-held-add-x-2 : (t : ℕ) → parts-held-lts.Need-add-x-2 (
   rooms-reads.Asked,
   rooms-reads.Learnt,
@@ -711,10 +639,8 @@ parts-held-add-x-2 : (t : ℕ) → parts-held-lts.Need-add-x-2 (
   part-of-reads.Learnt,
   roles-of-reads.Asked,
   roles-of-reads.Learnt,
-  back-reads.Asked,
-  back-reads.Learnt,
-  turned-reads.Asked,
-  turned-reads.Learnt,
+  outward-reads.Asked,
+  outward-reads.Learnt,
   matches-at-reads.Asked,
   matches-at-reads.Learnt,
   place-for-reads.Asked,
@@ -730,9 +656,9 @@ parts-held-add-x-2 : (t : ℕ) → parts-held-lts.Need-add-x-2 (
     parts-held-μ-loop
     parts-held-Inv-fillings
     parts-held-μ-fillings
-parts-held-add-x-2 t c = omega (arith, fillings-few (c .before .before .before .before .before .before .before .before .before .before .before .before .before .before .before .before .before .args .shape) (c .before .before .before .before .before .before .before .before .before .before .before .before .before .before .before .before .before .args .place), c .before .before .before .before .before .before .before .loop .inv .0 .one)
+parts-held-add-x-2 t c = omega (arith, fillings-few (c .before .before .before .before .before .before .before .before .before .before .before .before .before .before .before .before .args .shape) (c .before .before .before .before .before .before .before .before .before .before .before .before .before .before .before .before .args .place), c .before .before .before .before .before .before .before .loop .inv .0 .one)
 
--- src/search.rt:187:5
+-- src/search.rt:192:5
 parts-held-fillings-less-2 : (t : ℕ) → parts-held-lts.Need-fillings-less-2 (
   rooms-reads.Asked,
   rooms-reads.Learnt,
@@ -742,10 +668,8 @@ parts-held-fillings-less-2 : (t : ℕ) → parts-held-lts.Need-fillings-less-2 (
   part-of-reads.Learnt,
   roles-of-reads.Asked,
   roles-of-reads.Learnt,
-  back-reads.Asked,
-  back-reads.Learnt,
-  turned-reads.Asked,
-  turned-reads.Learnt,
+  outward-reads.Asked,
+  outward-reads.Learnt,
   matches-at-reads.Asked,
   matches-at-reads.Learnt,
   place-for-reads.Asked,
@@ -761,9 +685,9 @@ parts-held-fillings-less-2 : (t : ℕ) → parts-held-lts.Need-fillings-less-2 (
     parts-held-μ-loop
     parts-held-Inv-fillings
     parts-held-μ-fillings
-parts-held-fillings-less-2 t c = omega (arith, c .before .before .before .before .before .before .before .loop .inv .0 .one, c .before .before .before .before .before .before .before .loop .inv .1, c .before .before .before .before .before .before .before .before .before .before .before .before .before .fillings2 .ensures)
+parts-held-fillings-less-2 t c = omega (arith, c .before .before .before .before .before .before .before .loop .inv .0 .one, c .before .before .before .before .before .before .before .loop .inv .1, c .before .before .before .before .before .before .before .before .before .before .before .before .fillings2 .ensures)
 
--- src/search.rt:187:5
+-- src/search.rt:192:5
 parts-held-fillings-again-2 : (t : ℕ) → parts-held-lts.Need-fillings-again-2 (
   rooms-reads.Asked,
   rooms-reads.Learnt,
@@ -773,10 +697,8 @@ parts-held-fillings-again-2 : (t : ℕ) → parts-held-lts.Need-fillings-again-2
   part-of-reads.Learnt,
   roles-of-reads.Asked,
   roles-of-reads.Learnt,
-  back-reads.Asked,
-  back-reads.Learnt,
-  turned-reads.Asked,
-  turned-reads.Learnt,
+  outward-reads.Asked,
+  outward-reads.Learnt,
   matches-at-reads.Asked,
   matches-at-reads.Learnt,
   place-for-reads.Asked,
@@ -792,9 +714,9 @@ parts-held-fillings-again-2 : (t : ℕ) → parts-held-lts.Need-fillings-again-2
     parts-held-μ-loop
     parts-held-Inv-fillings
     parts-held-μ-fillings
-parts-held-fillings-again-2 t c = scanning-held (c .before .before .before .before .before .before .before .before .before .before .before .before .before .before .before .before .before .args .file .now) (c .before .before .before .before .before .before .before .before .before .before .before .before .before .before .before .before .before .args .list .now) (c .before .before .before .before .before .before .before .before .before .before .before .before .before .before .before .before .before .args .n) (c .before .before .before .before .before .before .before .before .before .before .before .before .before .before .before .before .before .args .shape) (c .before .before .before .before .before .before .before .before .before .before .before .before .before .before .before .before .before .args .cube) (c .before .before .before .before .before .before .before .before .before .before .before .before .before .before .before .before .before .args .place) (c .before .before .before .before .before .before .before .before .before .before .before .before .before .before .rooms .ensures .0) (c .before .before .before .before .before .before .before .before .before .before .before .before .before .before .rooms .ensures .1) (c .before .before .before .before .before .before .before .before .before .before .before .before .before .before .before .before .before .pre .1 .1) (c .before .before .before .before .before .before .before .loop .inv .0) (c .before .before .parts-held .ensures) (not-false (c .before .before .parts-held .result .held) (c .if3 .left))
+parts-held-fillings-again-2 t c = scanning-held (c .before .before .before .before .before .before .before .before .before .before .before .before .before .before .before .before .args .file .now) (c .before .before .before .before .before .before .before .before .before .before .before .before .before .before .before .before .args .list .now) (c .before .before .before .before .before .before .before .before .before .before .before .before .before .before .before .before .args .n) (c .before .before .before .before .before .before .before .before .before .before .before .before .before .before .before .before .args .shape) (c .before .before .before .before .before .before .before .before .before .before .before .before .before .before .before .before .args .cube) (c .before .before .before .before .before .before .before .before .before .before .before .before .before .before .before .before .args .place) (c .before .before .before .before .before .before .before .before .before .before .before .before .before .rooms .ensures .0) (c .before .before .before .before .before .before .before .before .before .before .before .before .before .rooms .ensures .1) (c .before .before .before .before .before .before .before .before .before .before .before .before .before .before .before .before .pre .1 .1) (c .before .before .before .before .before .before .before .loop .inv .0) (c .before .before .parts-held .ensures) (not-false (c .before .before .parts-held .result .held) (c .if3 .left))
 
--- src/search.rt:172:1
+-- src/search.rt:177:1
 parts-held-returns-3 : (t : ℕ) → parts-held-lts.Need-returns-3 (
   rooms-reads.Asked,
   rooms-reads.Learnt,
@@ -804,10 +726,8 @@ parts-held-returns-3 : (t : ℕ) → parts-held-lts.Need-returns-3 (
   part-of-reads.Learnt,
   roles-of-reads.Asked,
   roles-of-reads.Learnt,
-  back-reads.Asked,
-  back-reads.Learnt,
-  turned-reads.Asked,
-  turned-reads.Learnt,
+  outward-reads.Asked,
+  outward-reads.Learnt,
   matches-at-reads.Asked,
   matches-at-reads.Learnt,
   place-for-reads.Asked,
@@ -835,10 +755,8 @@ pub +parts-held-spec : {M : Type 1} → statement M
   part-of-reads.Learnt,
   roles-of-reads.Asked,
   roles-of-reads.Learnt,
-  back-reads.Asked,
-  back-reads.Learnt,
-  turned-reads.Asked,
-  turned-reads.Learnt,
+  outward-reads.Asked,
+  outward-reads.Learnt,
   matches-at-reads.Asked,
   matches-at-reads.Learnt,
   place-for-reads.Asked,
@@ -860,9 +778,8 @@ pub +parts-held-spec : {M : Type 1} → statement M
     (parts-held-cast-part-of t)
     (parts-held-part-of-requires t)
     (parts-held-roles-of-requires t)
-    (parts-held-back-requires t)
     (parts-held-loop-holds t)
-    (parts-held-turned-requires t)
+    (parts-held-outward-requires t)
     (parts-held-matches-at-requires t)
     (parts-held-add-x t)
     (parts-held-fillings-less t)

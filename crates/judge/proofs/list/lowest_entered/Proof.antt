@@ -30,6 +30,6 @@ lowest-entered-spec = tie.close (tie.spec
     -- loop-less 54:5
     (λ c. search needs)
     -- loop-again 54:5
-    (λ c. so-far-next (c .before .before .before .before .loop .inv) (c .before .before .before .loop-test .taken) (sym (closed-by (c .before .before .before .before .before .before .before .args .file .now) (c .before .before .before .before .before .before .before .args .list .now) (c .before .before .before .before .before .before .before .args .n) (c .before .before .before .before .before .before .before .args .program) (c .before .before .before .before .before .before .before .pre) (c .before .before .before .before .loop .k) (c .before .before .before .loop-test .taken) _ (c .before .before .entry-closed .ensures)) ∙ not-false _ (c .if1 .left)))
+    (λ c. so-far-next (c .before .before .before .before .before .loop .inv) (c .before .before .before .before .loop-test .taken) (sym (closed-by (c .before .before .before .before .before .before .before .before .args .file .now) (c .before .before .before .before .before .before .before .before .args .list .now) (c .before .before .before .before .before .before .before .before .args .n) (c .before .before .before .before .before .before .before .before .args .program) (c .before .before .before .before .before .before .before .before .pre) (c .before .before .before .before .before .loop .k) (c .before .before .before .before .loop-test .taken) _ (c .before .before .before .entry-closed .ensures)) ∙ not-false _ (c .before .if1 .left)))
     -- returns-2 49:1
     (λ c. so-far-all (c .before .loop .inv) (omega (arith, c .loop-test .left))))
