@@ -110,6 +110,13 @@ fn line_for(input: &[u8], line: &mut [u8]) -> usize
 fn main() {
     let mut input = input_buffer();
     let n = io::read_full(STDIN_FILENO, &mut input);
+    // a read that failed is not the input's end, and what was read until then is not judged
+    let mut more = [0u8; 1];
+    if n <= 65536 {
+        if libc::read(STDIN_FILENO, &mut more) != 0 {
+            return;
+        }
+    }
     let mut line = [0u8; 64];
     let k = line_for(&input[..n], &mut line);
     io::write_all(STDOUT_FILENO, &line[..k]);
