@@ -10,10 +10,10 @@ use Rattle.pws.specs.declared.Message.{Message}
 use Rattle.pws.specs.Machine.{Memory, Configuration, put, putQueue}
 use Rattle.pws.specs.Insertion.{up}
 use Rattle.records.specs.declared.program.Shape.{Shape}
-use Rattle.records.specs.declared.entry.Queue.{Queue}
-use Rattle.records.specs.declared.entry.Cube.{Cube}
-use Rattle.records.specs.Cube.{noQueue, waitingOf, channelOf, configurationOf}
-use Rattle.records.proofs.CubeParts.{queue-put, four-put}
+use Rattle.reading.specs.declared.entry.Queue.{Queue}
+use Rattle.reading.specs.declared.entry.Cube.{Cube}
+use Rattle.reading.specs.Cube.{noQueue, waitingOf, channelOf, configurationOf}
+use Rattle.reading.proofs.CubeParts.{queue-put, four-put}
 use Rattle.before.specs.Kinds.{Sound}
 use Rattle.before.specs.Changes.{withMemory, withQueues, withStates, Changed, CubeFor, Remade, byNumber, allUp, Room, Sizes, Some}
 

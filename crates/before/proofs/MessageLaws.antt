@@ -15,9 +15,9 @@ use Rattle.pws.specs.Machine.{noMessage, labelled, lastLabelled}
 use Rattle.pws.specs.Insertion.{insert}
 use Rattle.lists.specs.Cubes.{withValues, setValue}
 use Rattle.records.specs.declared.program.Shape.{Shape}
-use Rattle.records.specs.declared.entry.Cube.{Cube}
-use Rattle.records.specs.Cube.{channelOf}
-use Rattle.records.proofs.CubeParts.{channel-length, channel-equal}
+use Rattle.reading.specs.declared.entry.Cube.{Cube}
+use Rattle.reading.specs.Cube.{channelOf}
+use Rattle.reading.proofs.CubeParts.{channel-length, channel-equal}
 use Rattle.before.specs.Kinds.{Sound}
 use Rattle.before.specs.Changes.{LastWrite}
 

@@ -11,9 +11,9 @@ use Rattle.pws.specs.Machine.{noMessage}
 use Rattle.lists.specs.Values.{meet, meetAll}
 use Rattle.lists.specs.Cubes.{messageOf, withValues, topmost, older, meetNewest}
 use Rattle.lists.specs.Predecessors.{joined, replaced}
-use Rattle.records.specs.declared.entry.Cube.{Cube}
-use Rattle.records.specs.Cube.{channelOf, configurationOf}
-use Rattle.records.proofs.CubeParts.{channel-length, channel-equal}
+use Rattle.reading.specs.declared.entry.Cube.{Cube}
+use Rattle.reading.specs.Cube.{channelOf, configurationOf}
+use Rattle.reading.proofs.CubeParts.{channel-length, channel-equal}
 use Rattle.matching.proofs.RoleLaws.{four-list}
 use Rattle.before.specs.Changes.{withMemory, withMessages, Changed}
 use Rattle.before.proofs.ChangeLaws.{changed-memory}

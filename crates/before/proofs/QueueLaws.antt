@@ -14,8 +14,8 @@ use Rattle.pws.specs.Machine.{isEmpty, newestWaiting, newestOr}
 use Rattle.lists.specs.Values.{alike}
 use Rattle.lists.specs.Cubes.{withoutLast, withLast}
 use Rattle.lists.specs.Predecessors.{endsAlike}
-use Rattle.records.specs.declared.entry.Queue.{Queue}
-use Rattle.records.specs.Cube.{noQueue, waitingOf}
+use Rattle.reading.specs.declared.entry.Queue.{Queue}
+use Rattle.reading.specs.Cube.{noQueue, waitingOf}
 use Rattle.matching.proofs.ValueLaws.{newest-at}
 use Rattle.before.specs.Changes.{Waits}
 

@@ -8,9 +8,9 @@ use lib.ListN.{length, getD, set}
 use Rattle.pws.specs.Machine.{Configuration, putQueue, isEmpty, lastWrite}
 use Rattle.lists.specs.Cubes.{memoryOf, setValue, withLast}
 use Rattle.lists.specs.Predecessors.{readMemory}
-use Rattle.records.specs.declared.entry.Queue.{Queue}
-use Rattle.records.specs.declared.entry.Cube.{Cube}
-use Rattle.records.specs.Cube.{noQueue, waitingOf, configurationOf}
+use Rattle.reading.specs.declared.entry.Queue.{Queue}
+use Rattle.reading.specs.declared.entry.Cube.{Cube}
+use Rattle.reading.specs.Cube.{noQueue, waitingOf, configurationOf}
 use Rattle.before.specs.Changes.{withMemory, withQueues, withParts, Changed, CubeFor, Waits, Sizes}
 use Rattle.before.proofs.QueueLaws.{put-sizes}
 use Rattle.before.proofs.ChangeLaws.{cube-equal, changed-then, changed-cube}

@@ -13,9 +13,9 @@ use Rattle.pws.specs.Entries.{FF}
 use Rattle.lists.specs.Cubes.{memoryOf, older, alikeNewest}
 use Rattle.lists.specs.Predecessors.{before, withoutNewest, serialiseKind, inside}
 use Rattle.records.specs.declared.program.Shape.{Shape}
-use Rattle.records.specs.declared.entry.Queue.{Queue}
-use Rattle.records.specs.declared.entry.Cube.{Cube}
-use Rattle.records.specs.Cube.{noQueue, waitingOf, configurationOf}
+use Rattle.reading.specs.declared.entry.Queue.{Queue}
+use Rattle.reading.specs.declared.entry.Cube.{Cube}
+use Rattle.reading.specs.Cube.{noQueue, waitingOf, configurationOf}
 use Rattle.records.proofs.ProgramLaws.{and-true}
 use Rattle.before.specs.Kinds.{Sound}
 use Rattle.before.specs.Changes.{withMemory, withQueues, Changed, CubeFor, Remade, Room, Waits}

@@ -11,9 +11,9 @@ use Rattle.pws.specs.Program as pws
 use Rattle.pws.specs.Program.{transition, TransitionOf}
 use Rattle.lists.specs.Predecessors.{has, cube, hasOperation, serialised, serialiseKind, updateKind, updateMemory}
 use Rattle.records.specs.declared.program.Shape.{Shape}
-use Rattle.records.specs.declared.entry.Cube.{Cube}
+use Rattle.reading.specs.declared.entry.Cube.{Cube}
 use Rattle.records.specs.ProgramPart.{shapeOf}
-use Rattle.records.specs.Cube.{configurationOf}
+use Rattle.reading.specs.Cube.{configurationOf}
 use Rattle.records.proofs.ProgramLaws.{and-true}
 use Rattle.before.specs.declared.Kind.{Kind}
 use Rattle.before.specs.Kinds.{kindOf, Named, hasTake, takeBefore, hasSerialise, serialiseBefore}

@@ -6,9 +6,9 @@ use lib.ListN.{getD}
 use Rattle.pws.specs.declared.Message.{Message}
 use Rattle.pws.specs.Machine.{Memory, Configuration, lastWrite}
 use Rattle.pws.specs.Insertion.{up}
-use Rattle.records.specs.declared.entry.Queue.{Queue}
-use Rattle.records.specs.declared.entry.Cube.{Cube}
-use Rattle.records.specs.Cube.{noQueue, waitingOf, configurationOf}
+use Rattle.reading.specs.declared.entry.Queue.{Queue}
+use Rattle.reading.specs.declared.entry.Cube.{Cube}
+use Rattle.reading.specs.Cube.{noQueue, waitingOf, configurationOf}
 
 abbrev pub withMemory : Configuration → Memory → Configuration
 withMemory e m = record { state = e .state; queue = e .queue; memory = m }

@@ -11,9 +11,9 @@ use Rattle.pws.specs.Machine.{Configuration, put, putQueue}
 use Rattle.lists.specs.Cubes.{topmost}
 use Rattle.lists.specs.Predecessors as lists
 use Rattle.records.specs.declared.program.Shape.{Shape}
-use Rattle.records.specs.declared.entry.Cube.{Cube}
+use Rattle.reading.specs.declared.entry.Cube.{Cube}
 use Rattle.records.specs.ProgramPart.{shapeOf}
-use Rattle.records.specs.Cube.{noQueue}
+use Rattle.reading.specs.Cube.{noQueue}
 use Rattle.before.specs.declared.Kind.{Kind}
 use Rattle.before.specs.declared.Kind.the-variants.{Undone, Waited, Inside, OnTop, Pointed}
 

@@ -24,11 +24,11 @@ use Rattle.lists.proofs.Cubes.{label-exists, entry-cube}
 use Rattle.lists.proofs.Cubes as cubes
 use Rattle.records.specs.declared.program.Shape.{Shape}
 use Rattle.records.specs.declared.program.Program.{Program}
-use Rattle.records.specs.declared.entry.Cube.{Cube}
+use Rattle.reading.specs.declared.entry.Cube.{Cube}
 use Rattle.records.specs.Records.{transitionAt}
 use Rattle.records.specs.ProgramPart.{shapeOf, programOf}
-use Rattle.records.specs.Cube.{noQueue, waitingOf, queueOf, configurationOf}
-use Rattle.records.proofs.CubeParts.{channel-length, queue-of, queue-none}
+use Rattle.reading.specs.Cube.{noQueue, waitingOf, queueOf, configurationOf}
+use Rattle.reading.proofs.CubeParts.{channel-length, queue-of, queue-none}
 use Rattle.contents.specs.Again.{transitionOf, entriesOf, cubeAt}
 use Rattle.contents.specs.Contents.{CubeRange}
 use Rattle.contents.proofs.Again.{transition-again}

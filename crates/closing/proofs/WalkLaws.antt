@@ -26,9 +26,9 @@ use Rattle.lists.specs.Decision.{held, closed}
 use Rattle.lists.proofs.Lists.{every-yes, yes-all}
 use Rattle.lists.proofs.Cubes.{take-has, label-exists, inside-yes}
 use Rattle.lists.proofs.Closed.{kind-in, step-in, predecessor-of}
-use Rattle.records.specs.declared.entry.Cube.{Cube}
-use Rattle.records.specs.Cube.{channelOf, configurationOf}
-use Rattle.records.proofs.CubeParts.{channel-length}
+use Rattle.reading.specs.declared.entry.Cube.{Cube}
+use Rattle.reading.specs.Cube.{channelOf, configurationOf}
+use Rattle.reading.proofs.CubeParts.{channel-length}
 use Rattle.before.specs.declared.Kind.{Kind}
 use Rattle.before.specs.declared.Kind.the-variants.{Undone, Waited, Inside, OnTop, Pointed}
 use Rattle.before.specs.Kinds.{kindOf}

@@ -14,9 +14,9 @@ use Rattle.lists.specs.Predecessors as lists
 use Rattle.lists.specs.Predecessors.{has, cube}
 use Rattle.lists.specs.Decision.{held}
 use Rattle.records.specs.declared.program.Program.{Program}
-use Rattle.records.specs.declared.entry.Cube.{Cube}
+use Rattle.reading.specs.declared.entry.Cube.{Cube}
 use Rattle.records.specs.ProgramPart.{shapeOf, programOf}
-use Rattle.records.specs.Cube.{configurationOf}
+use Rattle.reading.specs.Cube.{configurationOf}
 use Rattle.contents.specs.Again.{cubeAt, entriesOf}
 use Rattle.before.specs.declared.Kind.{Kind}
 use Rattle.before.specs.declared.Kind.the-variants.{Undone, Waited, Inside, OnTop, Pointed}

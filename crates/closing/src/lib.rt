@@ -11,7 +11,7 @@ ghost use Rattle.lists.specs.Predecessors as lists;
 ghost use Rattle.lists.specs.Predecessors.{has};
 ghost use Rattle.lists.specs.Decision.{held, closed};
 ghost use Rattle.records.specs.ProgramPart.{shapeOf, programOf};
-ghost use Rattle.records.specs.Cube.{configurationOf};
+ghost use Rattle.reading.specs.Cube.{configurationOf};
 ghost use Rattle.contents.specs.Again.{cubeAt, entriesOf};
 ghost use Rattle.before.specs.Changes.{CubeFor};
 ghost use Rattle.before.specs.Kinds.{Sound, kindOf};
@@ -29,8 +29,8 @@ use cover::search::Found;
 use cover::search::search;
 use matching::least;
 use pws::Step;
+use reading::entry::Cube;
 use records::bytes::both;
-use records::entry::Cube;
 use records::program::Program;
 use records::program::Shape;
 

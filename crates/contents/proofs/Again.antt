@@ -13,12 +13,12 @@ use Rattle.records.specs.declared.program.Refusal.{Refusal}
 use Rattle.records.specs.declared.program.Checked.{Checked}
 use Rattle.records.specs.declared.program.Checked.the-variants.{Fine, Refused}
 use Rattle.records.specs.declared.program.Program.{Program}
-use Rattle.records.specs.declared.evidence.Reading.{Reading}
+use Rattle.reading.specs.declared.evidence.Reading.{Reading}
 use Rattle.records.specs.Bytes.{byte}
 use Rattle.records.specs.Records.{isKind, transitionAt, stateAt, stepBody}
 use Rattle.records.specs.ProgramPart.{programFrom, programOf, targetsOf}
-use Rattle.records.specs.EvidencePart.{stepsOf, allowed, wroteFrom}
-use Rattle.records.specs.Reading.{partsOf, refused, list, run, readFile, readingRefused, readingWith, readingOf, areaAfter}
+use Rattle.reading.specs.EvidencePart.{stepsOf, allowed, wroteFrom}
+use Rattle.reading.specs.Reading.{partsOf, refused, list, run, readFile, readingRefused, readingWith, readingOf, areaAfter}
 use Rattle.records.proofs.RecordLaws.{fine-refused, refused-same}
 use Rattle.contents.specs.Again.{offsetAt, cubeAt, entriesOf, transitionOf, targetOf, placeOf}
 use Rattle.contents.specs.Contents.{ProgramSizes, CubeRange}

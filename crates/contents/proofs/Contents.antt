@@ -22,11 +22,11 @@ use Rattle.records.specs.declared.program.Program.{Program}
 use Rattle.records.specs.Bytes.{byte, le32}
 use Rattle.records.specs.Records.{checked, isKind, claimNumber, exists, stepBody, stepNames, stepNumber, stepAt, transitionAt}
 use Rattle.records.specs.ProgramPart.{unlessEnd, programFrom, programOf, targetsOf}
-use Rattle.records.specs.EvidencePart.{stepsFrom, stepsOf, EntriesRead, entriesFrom, allowed, wroteFrom}
-use Rattle.records.specs.Cube.{configurationOf, loadEntry}
-use Rattle.records.specs.Reading.{entries, steps, none, both, partsOf, refused, list, run, partsRead, readFile, readingRefused, readingWith, readingOf}
+use Rattle.reading.specs.EvidencePart.{stepsFrom, stepsOf, EntriesRead, entriesFrom, allowed, wroteFrom}
+use Rattle.reading.specs.Cube.{configurationOf, loadEntry}
+use Rattle.reading.specs.Reading.{entries, steps, none, both, partsOf, refused, list, run, partsRead, readFile, readingRefused, readingWith, readingOf}
 use Rattle.records.proofs.RecordLaws.{cut-fits, row-most, step-fine, entry-fine}
-use Rattle.records.proofs.ReadingLaws.{evidence-refused, evidence-entries, evidence-steps, parts-short, parts-refused, parts-both}
+use Rattle.reading.proofs.ReadingLaws.{evidence-refused, evidence-entries, evidence-steps, parts-short, parts-refused, parts-both}
 use Rattle.contents.specs.Again.{placeOf, entriesOf}
 use Rattle.contents.specs.Contents.{ListRead, StepOf, RunRead, CubeRange}
 use Rattle.contents.proofs.Tables.{table-length, table-of}

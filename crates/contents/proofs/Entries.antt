@@ -14,7 +14,7 @@ use Rattle.records.specs.declared.program.Checked.{Checked}
 use Rattle.records.specs.declared.program.Checked.the-variants.{Fine, Refused}
 use Rattle.records.specs.Bytes.{choose, le32, put32}
 use Rattle.records.specs.Records.{checked, entryNumber}
-use Rattle.records.specs.EvidencePart.{EntryRead, whole, bad, entryRead, EntriesRead, headThen, entryThen, entriesFrom, wroteFrom}
+use Rattle.reading.specs.EvidencePart.{EntryRead, whole, bad, entryRead, EntriesRead, headThen, entryThen, entriesFrom, wroteFrom}
 use Rattle.records.proofs.ByteLaws.{put32-length, le32-put32, le32-elsewhere}
 use Rattle.records.proofs.RecordLaws.{fine-refused, entry-fine}
 use Rattle.contents.proofs.Names.{no-true}

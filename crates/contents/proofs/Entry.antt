@@ -20,16 +20,16 @@ use Rattle.records.specs.declared.program.Shape.{Shape}
 use Rattle.records.specs.declared.program.Refusal.{Refusal}
 use Rattle.records.specs.declared.program.Checked.{Checked}
 use Rattle.records.specs.declared.program.Checked.the-variants.{Fine, Refused}
-use Rattle.records.specs.declared.entry.Loaded.{Loaded}
+use Rattle.reading.specs.declared.entry.Loaded.{Loaded}
 use Rattle.records.specs.Bytes.{choose, byte, cut}
 use Rattle.records.specs.Records.{checked, isKind, exists, stateNames, stateAt, pointerNames, pointerAt, entryNumber, messageAt, messageNumber, messageNames, waitingNumber, waitingNames}
 use Rattle.records.specs.ProgramPart.{shapeOf}
-use Rattle.records.specs.EvidencePart.{beginning, withMessage, withWaiting, extended, bodySize, bodyNumber, pointerFits, pointsFirst, pointersFit, someFirst, complete, whole, bad, atBoundary, finished, bodyThen, entryFrom, entryRead}
-use Rattle.records.specs.Cube.{configurationOf, loadsMessage, loadsWaiting, nothingLoaded, moreMessage, moreWaiting, loadFrom, loaded, loadEntry}
+use Rattle.reading.specs.EvidencePart.{beginning, withMessage, withWaiting, extended, bodySize, bodyNumber, pointerFits, pointsFirst, pointersFit, someFirst, complete, whole, bad, atBoundary, finished, bodyThen, entryFrom, entryRead}
+use Rattle.reading.specs.Cube.{configurationOf, loadsMessage, loadsWaiting, nothingLoaded, moreMessage, moreWaiting, loadFrom, loaded, loadEntry}
 use Rattle.records.proofs.ByteLaws.{byte-past}
 use Rattle.records.proofs.RecordLaws.{Good, good, entry-fine, cut-fits}
 use Rattle.records.proofs.ProgramLaws.{and-true}
-use Rattle.records.proofs.CubeLaws.{load-message, load-waiting, load-ends}
+use Rattle.reading.proofs.CubeLaws.{load-message, load-waiting, load-ends}
 use Rattle.contents.specs.Contents.{EntryRange, CubeRange}
 use Rattle.contents.proofs.Tables.{of-four}
 use Rattle.contents.proofs.Names.{or-cases, states-of, pointer-absent, message-in, waiting-in}

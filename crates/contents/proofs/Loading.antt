@@ -11,13 +11,13 @@ use lib.Dec.{ltb}
 use borrow.Author.Tests.{lt-leb, ltb-true}
 use Rattle.pws.specs.declared.Message.{Message}
 use Rattle.pws.specs.Machine.{Configuration, putQueue, noMessage}
-use Rattle.records.specs.declared.entry.Queue.{Queue}
-use Rattle.records.specs.declared.entry.Loaded.{Loaded}
+use Rattle.reading.specs.declared.entry.Queue.{Queue}
+use Rattle.reading.specs.declared.entry.Loaded.{Loaded}
 use Rattle.records.specs.Bytes.{byte}
 use Rattle.records.specs.Records.{messageAt}
-use Rattle.records.specs.EvidencePart.{beginning, withMessage, withWaiting}
-use Rattle.records.specs.Cube.{noQueue, emptyQueue, blankMessage, waitingOf, channelOf, queueOf, pushed, nothingLoaded, moreMessage, moreWaiting}
-use Rattle.records.proofs.CubeParts.{channel-equal, queue-of, queue-none, queue-put}
+use Rattle.reading.specs.EvidencePart.{beginning, withMessage, withWaiting}
+use Rattle.reading.specs.Cube.{noQueue, emptyQueue, blankMessage, waitingOf, channelOf, queueOf, pushed, nothingLoaded, moreMessage, moreWaiting}
+use Rattle.reading.proofs.CubeParts.{channel-equal, queue-of, queue-none, queue-put}
 use Rattle.records.proofs.ProgramLaws.{and-true}
 use Rattle.contents.proofs.Tables.{of-four}
 

@@ -19,7 +19,7 @@ use Rattle.records.specs.Records.{checked, inRange, isKind, shapeAt, shapeNumbe
 use Rattle.records.specs.ProgramPart.{unlessEnd, statesFrom, ofProcess, ofProcesses, atClaim, transitionsFrom, targetsFrom, programFrom, programOf, targetsOf}
 use Rattle.records.proofs.RecordLaws.{good, unless-fine, states-fine, transition-fine, target-fine}
 use Rattle.records.proofs.ProgramLaws.{and-true, transitions-most, targets-most}
-use Rattle.records.proofs.ReadingLaws.{ProgramFine, program-fine}
+use Rattle.reading.proofs.ReadingLaws.{ProgramFine, program-fine}
 use Rattle.contents.specs.Contents.{ProgramPartRead, ProgramSizes}
 use Rattle.contents.proofs.Tables.{table-length, table-number, of-four}
 use Rattle.contents.proofs.Names.{range-true, transition-of, states-of}

@@ -15,7 +15,7 @@ use Rattle.records.specs.declared.program.Counted.the-variants.{Records, Stoppe
 use Rattle.records.specs.Bytes.{choose}
 use Rattle.records.specs.Records.{checked, statesNumber, stepBody, stepAt}
 use Rattle.records.specs.ProgramPart.{unlessEnd, andThen, countThen, statesFrom, rowFrom}
-use Rattle.records.specs.EvidencePart.{stepsOf}
+use Rattle.reading.specs.EvidencePart.{stepsOf}
 use Rattle.records.proofs.RecordLaws.{fine-refused, unless-fine, row-most}
 use Rattle.contents.specs.Again.{placeOf}
 

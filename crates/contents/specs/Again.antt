@@ -5,11 +5,11 @@ use lib.ListN.{length}
 use Rattle.pws.specs.declared.Transition.{Transition}
 use Rattle.pws.specs.Machine.{Configuration}
 use Rattle.records.specs.declared.program.Program.{Program}
-use Rattle.records.specs.declared.entry.Cube.{Cube}
+use Rattle.reading.specs.declared.entry.Cube.{Cube}
 use Rattle.records.specs.Bytes.{byte, le32}
 use Rattle.records.specs.Records.{transitionAt}
 use Rattle.records.specs.ProgramPart.{tableFrom}
-use Rattle.records.specs.Cube.{configurationOf, loadEntry}
+use Rattle.reading.specs.Cube.{configurationOf, loadEntry}
 
 -- ---- entries, by the list of their offsets
 

@@ -10,9 +10,9 @@ use Rattle.pws.specs.Machine.{Configuration}
 use Rattle.pws.specs.Configurations.{StatesOf}
 use Rattle.pws.specs.Entries.{EntryOf, entry}
 use Rattle.records.specs.declared.program.Program as declared
-use Rattle.records.specs.declared.entry.Cube.{Cube}
-use Rattle.records.specs.EvidencePart.{allowed}
-use Rattle.records.specs.Cube.{noQueue}
+use Rattle.reading.specs.declared.entry.Cube.{Cube}
+use Rattle.reading.specs.EvidencePart.{allowed}
+use Rattle.reading.specs.Cube.{noQueue}
 
 -- the program and its targets
 pub record ProgramPartRead (P : Program) (ts : List (ℕ → ℕ)) : Type 0 where

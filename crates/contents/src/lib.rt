@@ -5,10 +5,10 @@ ghost use Prim.Native.Nat.{ℕ, _+_, _*_, _≤_, _<_, min};
 ghost use lib.ListN.{length, getD};
 ghost use Rattle.contents.specs.Again.{offsetAt, cubeAt, placeIn, transitionOf, targetOf};
 use pws::Transition;
+use reading::entry::Cube;
+use reading::entry::load_entry;
 use records::bytes::field;
 use records::bytes::number_at;
-use records::entry::Cube;
-use records::entry::load_entry;
 use records::program::Program;
 use records::program::transition_at;
 

@@ -11,12 +11,12 @@ use borrow.Author.Tests.{lt-ltb, le-ltb, le-leb, lt-leb, eq-eqb, ne-eqb}
 use Rattle.pws.specs.Machine.{allBelow}
 use Rattle.lists.specs.Matching.{matches}
 use Rattle.records.specs.declared.program.Shape.{Shape}
-use Rattle.records.specs.declared.entry.Cube.{Cube}
-use Rattle.records.specs.declared.entry.Loaded.{Loaded}
+use Rattle.reading.specs.declared.entry.Cube.{Cube}
+use Rattle.reading.specs.declared.entry.Loaded.{Loaded}
 use Rattle.records.specs.Bytes.{byte}
 use Rattle.records.specs.ProgramPart.{shapeOf}
-use Rattle.records.specs.Cube.{configurationOf, loadsMessage, loadsWaiting, nothingLoaded, moreMessage, moreWaiting, loadFrom, loaded, loadEntry}
-use Rattle.records.proofs.CubeLaws.{message-loads, load-message, load-waiting, load-ends, loaded-nothing}
+use Rattle.reading.specs.Cube.{configurationOf, loadsMessage, loadsWaiting, nothingLoaded, moreMessage, moreWaiting, loadFrom, loaded, loadEntry}
+use Rattle.reading.proofs.CubeLaws.{message-loads, load-message, load-waiting, load-ends, loaded-nothing}
 use Rattle.contents.specs.Again.{offsetAt, cubeAt}
 use Rattle.matching.specs.Relation.{relation}
 use Rattle.matching.specs.Roles.{Roles}

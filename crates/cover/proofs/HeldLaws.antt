@@ -23,11 +23,11 @@ use Rattle.lists.specs.Decision.{heldAt, held}
 use Rattle.lists.proofs.Lists.{any-number, number-any}
 use Rattle.lists.proofs.Splitting.{Valid, valid-place, Decided, held-decided, decided-yes, decided-no, covered-held, unmet-outside, split-held, split-fits}
 use Rattle.records.specs.declared.program.Shape.{Shape}
-use Rattle.records.specs.declared.entry.Cube.{Cube}
+use Rattle.reading.specs.declared.entry.Cube.{Cube}
 use Rattle.records.specs.Records.{valueCount}
 use Rattle.records.specs.ProgramPart.{shapeOf, tableFrom}
-use Rattle.records.specs.Cube.{noQueue, waitingOf, channelOf, queueOf, configurationOf}
-use Rattle.records.proofs.CubeParts.{channel-length, channel-message, queue-of}
+use Rattle.reading.specs.Cube.{noQueue, waitingOf, channelOf, queueOf, configurationOf}
+use Rattle.reading.proofs.CubeParts.{channel-length, channel-message, queue-of}
 use Rattle.contents.specs.Again.{cubeAt, entriesOf}
 use Rattle.contents.proofs.Tables.{table-length, table-number}
 use Rattle.matching.specs.Roles.{Roles}

@@ -16,11 +16,11 @@ use Rattle.lists.specs.Cubes.{withValues, setValue}
 use Rattle.lists.specs.Covering.{split, at}
 use Rattle.lists.proofs.Splitting.{Valid}
 use Rattle.records.specs.declared.program.Shape.{Shape}
-use Rattle.records.specs.declared.entry.Queue.{Queue}
-use Rattle.records.specs.declared.entry.Cube.{Cube}
+use Rattle.reading.specs.declared.entry.Queue.{Queue}
+use Rattle.reading.specs.declared.entry.Cube.{Cube}
 use Rattle.records.specs.ProgramPart.{shapeOf}
-use Rattle.records.specs.Cube.{noQueue, waitingOf, channelOf, queueOf, configurationOf}
-use Rattle.records.proofs.CubeParts.{channel-length, channel-message, channel-equal, queue-of, queue-put}
+use Rattle.reading.specs.Cube.{noQueue, waitingOf, channelOf, queueOf, configurationOf}
+use Rattle.reading.proofs.CubeParts.{channel-length, channel-message, channel-equal, queue-of, queue-put}
 use Rattle.matching.proofs.ValueLaws.{value-waits}
 use Rattle.cover.specs.declared.place.Place.{Place}
 use Rattle.cover.specs.declared.place.Place.the-variants.{Whole, Waiting, Sent}

@@ -9,8 +9,8 @@ use lib.Dec.{eqb, ltb}
 use borrow.Author.Tests.{ltb-true, eqb-true, lt-ltb, le-ltb}
 use Rattle.pws.specs.Machine.{noMessage}
 use Rattle.records.specs.declared.program.Shape.{Shape}
-use Rattle.records.specs.declared.entry.Cube.{Cube}
-use Rattle.records.specs.Cube.{noQueue, waitingOf}
+use Rattle.reading.specs.declared.entry.Cube.{Cube}
+use Rattle.reading.specs.Cube.{noQueue, waitingOf}
 use Rattle.records.proofs.ProgramLaws.{and-true}
 use Rattle.cover.specs.declared.place.Place.{Place}
 use Rattle.cover.specs.declared.place.Place.the-variants.{Whole, Waiting, Sent}

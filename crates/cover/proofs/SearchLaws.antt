@@ -13,9 +13,9 @@ use Rattle.lists.specs.Values.{fills, alike}
 use Rattle.lists.specs.Decision.{held}
 use Rattle.lists.specs.Matching.{matches}
 use Rattle.records.specs.declared.program.Shape.{Shape}
-use Rattle.records.specs.declared.entry.Cube.{Cube}
+use Rattle.reading.specs.declared.entry.Cube.{Cube}
 use Rattle.records.specs.ProgramPart.{shapeOf}
-use Rattle.records.specs.Cube.{configurationOf}
+use Rattle.reading.specs.Cube.{configurationOf}
 use Rattle.contents.specs.Again.{cubeAt, entriesOf}
 use Rattle.matching.specs.Roles.{Roles}
 use Rattle.cover.specs.declared.place.Place.{Place}

@@ -10,11 +10,11 @@ use Rattle.pws.specs.Machine.{noMessage}
 use Rattle.lists.specs.Covering as lists
 use Rattle.lists.specs.Cubes.{withValues}
 use Rattle.records.specs.declared.program.Shape.{Shape}
-use Rattle.records.specs.declared.entry.Queue.{Queue}
-use Rattle.records.specs.declared.entry.Cube.{Cube}
+use Rattle.reading.specs.declared.entry.Queue.{Queue}
+use Rattle.reading.specs.declared.entry.Cube.{Cube}
 use Rattle.records.specs.Bytes.{choose}
 use Rattle.records.specs.Records.{valueCount}
-use Rattle.records.specs.Cube.{noQueue, waitingOf}
+use Rattle.reading.specs.Cube.{noQueue, waitingOf}
 use Rattle.cover.specs.declared.place.Place.{Place}
 use Rattle.cover.specs.declared.place.Place.the-variants.{Whole, Waiting, Sent}
 

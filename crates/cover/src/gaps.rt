@@ -10,10 +10,10 @@ use matching::remains;
 use matching::tag_matches;
 use matching::waiting;
 use pws::Message;
+use reading::entry::Cube;
+use reading::entry::Queue;
 use records::bytes::both;
 use records::bytes::wide;
-use records::entry::Cube;
-use records::entry::Queue;
 use records::program::Shape;
 
 // One of them, and how many there are.

@@ -7,10 +7,10 @@ ghost use Rattle.cover.specs.Places.{isWhole, withWaiting, withSent, par
 use matching::least;
 use matching::waiting;
 use pws::Message;
+use reading::entry::Cube;
+use reading::entry::Queue;
 use records::bytes::both;
 use records::bytes::wide;
-use records::entry::Cube;
-use records::entry::Queue;
 use records::program::Shape;
 use records::program::value_count;
 

@@ -6,7 +6,7 @@ ghost use lib.ListN.{length, getD};
 ghost use Rattle.lists.specs.Matching.{matches};
 ghost use Rattle.lists.specs.Decision.{held};
 ghost use Rattle.records.specs.ProgramPart.{shapeOf};
-ghost use Rattle.records.specs.Cube.{configurationOf};
+ghost use Rattle.reading.specs.Cube.{configurationOf};
 ghost use Rattle.contents.specs.Again.{cubeAt, entriesOf};
 ghost use Rattle.matching.specs.Relation.{relation};
 ghost use Rattle.cover.specs.Places.{isWhole, isFree, proper};
@@ -25,9 +25,9 @@ use matching::least;
 use matching::queues_match;
 use matching::roles_of;
 use matching::states_match;
+use reading::entry::Cube;
+use reading::entry::load_entry;
 use records::bytes::field;
-use records::entry::Cube;
-use records::entry::load_entry;
 use records::program::Shape;
 
 // Entry i against a cube with the roles of its messages: exactly, it covers the cube; else it may meet it.

@@ -16,10 +16,10 @@ use Rattle.records.specs.declared.program.Program.{Program}
 use Rattle.records.specs.Bytes.{choose, byte, put32}
 use Rattle.records.specs.Records.{checked, claimNumber, entryNumber}
 use Rattle.records.specs.ProgramPart.{unlessEnd, programFrom}
-use Rattle.records.specs.EvidencePart.{EntryRead, whole, bad, entryRead, EntriesRead, headThen, entryThen, entriesFrom, allowed, wroteFrom}
-use Rattle.records.specs.Reading as reading
-use Rattle.records.specs.Reading.{Evidence, refusal, entries, steps, claimThen, evidenceFrom, Parts, partsOf, evidenceArea}
-use Rattle.records.proofs.ReadingLaws.{parts-refused, parts-both}
+use Rattle.reading.specs.EvidencePart.{EntryRead, whole, bad, entryRead, EntriesRead, headThen, entryThen, entriesFrom, allowed, wroteFrom}
+use Rattle.reading.specs.Reading as reading
+use Rattle.reading.specs.Reading.{Evidence, refusal, entries, steps, claimThen, evidenceFrom, Parts, partsOf, evidenceArea}
+use Rattle.reading.proofs.ReadingLaws.{parts-refused, parts-both}
 use Rattle.judge.specs.Judge.{usedOf, areaAfter}
 use Rattle.judge.proofs.Numbers.{each-choice}
 

@@ -42,7 +42,7 @@ use Rattle.records.specs.Records.{
   waitingNumber,
 }
 use Rattle.records.specs.ProgramPart.{unlessEnd, statesFrom, rowFrom, transitionsFrom, atClaim, targetsFrom, rowsFrom, restFrom, programFrom}
-use Rattle.records.specs.EvidencePart.{
+use Rattle.reading.specs.EvidencePart.{
   stepsFrom,
   stepsOf,
   extended,
@@ -60,7 +60,7 @@ use Rattle.records.specs.EvidencePart.{
   entriesFrom,
   allowed,
 }
-use Rattle.records.specs.Reading.{Evidence, entries, steps, claimThen, evidenceFrom, programThen, partsOf, partsRead, readFile}
+use Rattle.reading.specs.Reading.{Evidence, entries, steps, claimThen, evidenceFrom, programThen, partsOf, partsRead, readFile}
 use Rattle.judge.specs.Judge.{Verdict, ofFile, judged}
 use Rattle.judge.specs.Cases.{Row, file, below, notBelow, Holds, caseA, Each, no-row, row, cases}
 

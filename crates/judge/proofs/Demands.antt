@@ -14,7 +14,7 @@ use Rattle.pws.proofs.Simulation.{simulation}
 use Rattle.lists.specs.Verdict as lists
 use Rattle.lists.specs.Decision as decision
 use Rattle.lists.proofs.Verdict.{verdict-unique, verdict-judged, safe-visited}
-use Rattle.records.specs.Reading as reading
+use Rattle.reading.specs.Reading as reading
 use Rattle.contents.specs.Contents.{ListRead}
 use Rattle.contents.proofs.Contents.{list-read, run-read}
 use Rattle.replay.specs.Replay as runs

@@ -8,11 +8,11 @@ use Rattle.pws.specs.Program as pws
 use Rattle.records.specs.declared.program.Refusal.{Refusal}
 use Rattle.records.specs.declared.program.Checked.the-variants.{Fine, Refused}
 use Rattle.records.specs.declared.program.Program.{Program}
-use Rattle.records.specs.declared.evidence.Reading.{Reading}
+use Rattle.reading.specs.declared.evidence.Reading.{Reading}
 use Rattle.records.specs.ProgramPart.{refusalOf, programOf, targetsOf}
-use Rattle.records.specs.EvidencePart.{stepsOf, allowed}
-use Rattle.records.specs.Cube.{configurationOf}
-use Rattle.records.specs.Reading as reading
+use Rattle.reading.specs.EvidencePart.{stepsOf, allowed}
+use Rattle.reading.specs.Cube.{configurationOf}
+use Rattle.reading.specs.Reading as reading
 use Rattle.contents.specs.Again.{cubeAt, entriesOf}
 use Rattle.contents.proofs.Tables.{table-length}
 use Rattle.contents.proofs.Rows.{steps-length}

@@ -14,10 +14,10 @@ use Rattle.lists.specs.Verdict as lists
 use Rattle.lists.specs.Verdict.{noTarget}
 use Rattle.lists.specs.Decision.{targetHeld, looksStarted, closed}
 use Rattle.records.specs.declared.program.Program.{Program}
-use Rattle.records.specs.declared.entry.Cube.{Cube}
+use Rattle.reading.specs.declared.entry.Cube.{Cube}
 use Rattle.records.specs.Records.{stateAt}
 use Rattle.records.specs.ProgramPart.{shapeOf, programOf, targetsOf}
-use Rattle.records.specs.Cube.{configurationOf}
+use Rattle.reading.specs.Cube.{configurationOf}
 use Rattle.contents.specs.Again.{cubeAt, entriesOf, targetOf}
 use Rattle.contents.proofs.Tables.{table-length, table-number}
 use Rattle.contents.proofs.Again.{target-again}

@@ -46,7 +46,7 @@ use Rattle.records.specs.ProgramPart.{
   restFrom,
   programFrom,
 }
-use Rattle.records.specs.EvidencePart.{
+use Rattle.reading.specs.EvidencePart.{
   stepsFrom,
   bodyNumber,
   EntryRead,
@@ -63,8 +63,8 @@ use Rattle.records.specs.EvidencePart.{
   entryThen,
   entriesFrom,
 }
-use Rattle.records.specs.Reading.{Evidence, refusal, entries, steps, claimThen, evidenceFrom, both, partsOf, FileRead, refused, list, run, listRead, partsRead, readFile}
-use Rattle.records.proofs.ReadingLaws.{parts-short, parts-refused, parts-both}
+use Rattle.reading.specs.Reading.{Evidence, refusal, entries, steps, claimThen, evidenceFrom, both, partsOf, FileRead, refused, list, run, listRead, partsRead, readFile}
+use Rattle.reading.proofs.ReadingLaws.{parts-short, parts-refused, parts-both}
 
 -- ---- what a refusal is
 

@@ -7,8 +7,8 @@ use lib.Dec.{ltb}
 use Rattle.lists.specs.Verdict as lists
 use Rattle.lists.specs.Decision as decision
 use Rattle.records.specs.Bytes.{choose}
-use Rattle.records.specs.EvidencePart.{allowed}
-use Rattle.records.specs.Reading as reading
+use Rattle.reading.specs.EvidencePart.{allowed}
+use Rattle.reading.specs.Reading as reading
 use Rattle.replay.specs.Replay as runs
 
 pub data Verdict : Type 0 where

@@ -12,11 +12,11 @@ use Rattle.pws.specs.Program as pws
 use Rattle.pws.specs.Machine.{Memory, noMessage, lastWrite, allBelow}
 use Rattle.pws.specs.Tagged.{Tagged, table, anyBelow, roles, isLive, taggedFrom, tagged}
 use Rattle.records.specs.declared.program.Shape.{Shape}
-use Rattle.records.specs.declared.entry.Cube.{Cube}
+use Rattle.reading.specs.declared.entry.Cube.{Cube}
 use Rattle.records.specs.ProgramPart.{shapeOf}
-use Rattle.records.specs.Cube.{channelOf, configurationOf}
+use Rattle.reading.specs.Cube.{channelOf, configurationOf}
 use Rattle.records.proofs.ProgramLaws.{and-true}
-use Rattle.records.proofs.CubeParts.{channel-length}
+use Rattle.reading.proofs.CubeParts.{channel-length}
 use Rattle.lists.specs.Values.{pairwise}
 use Rattle.lists.specs.Matching.{same, subsequence, messageMatches, tagMatches}
 use Rattle.matching.specs.Relation.{relation}

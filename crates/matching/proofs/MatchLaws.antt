@@ -7,10 +7,10 @@ use lib.ListN.{getD}
 use lib.Dec.{eqb}
 use Rattle.pws.specs.Machine.{allBelow}
 use Rattle.records.specs.declared.program.Shape.{Shape}
-use Rattle.records.specs.declared.entry.Cube.{Cube}
+use Rattle.reading.specs.declared.entry.Cube.{Cube}
 use Rattle.records.specs.ProgramPart.{shapeOf}
-use Rattle.records.specs.Cube.{noQueue, waitingOf, configurationOf}
-use Rattle.records.proofs.CubeParts.{queue-of}
+use Rattle.reading.specs.Cube.{noQueue, waitingOf, configurationOf}
+use Rattle.reading.proofs.CubeParts.{queue-of}
 use Rattle.lists.specs.Matching.{queueMatches, matches}
 use Rattle.matching.specs.Relation.{relation}
 use Rattle.matching.specs.Match.{Sizes, queueRow, channelMatches}

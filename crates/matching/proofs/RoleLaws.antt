@@ -14,9 +14,9 @@ use borrow.Author.Tests.{ltb-true, ltb-false, leb-true, leb-false, eqb-true, eq-
 use Rattle.pws.specs.declared.Message.{Message}
 use Rattle.pws.specs.Machine.{Memory, noMessage, labelled, lastLabelled, lastWrite}
 use Rattle.records.specs.Bytes.{choose}
-use Rattle.records.specs.Cube.{channelOf}
+use Rattle.reading.specs.Cube.{channelOf}
 use Rattle.records.proofs.ProgramLaws.{and-true}
-use Rattle.records.proofs.CubeParts.{channel-length}
+use Rattle.reading.proofs.CubeParts.{channel-length}
 use Rattle.matching.specs.Roles.{Roles, withLabel}
 use Rattle.matching.proofs.Below.{and-false}
 

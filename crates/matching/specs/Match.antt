@@ -6,10 +6,10 @@ use lib.ListN.{getD}
 use Rattle.pws.specs.Machine.{allBelow}
 use Rattle.pws.specs.Tagged.{tagged}
 use Rattle.records.specs.declared.program.Shape.{Shape}
-use Rattle.records.specs.declared.entry.Cube.{Cube}
+use Rattle.reading.specs.declared.entry.Cube.{Cube}
 use Rattle.records.specs.ProgramPart.{shapeOf}
-use Rattle.records.specs.declared.entry.Queue.{Queue}
-use Rattle.records.specs.Cube.{noQueue, waitingOf, configurationOf}
+use Rattle.reading.specs.declared.entry.Queue.{Queue}
+use Rattle.reading.specs.Cube.{noQueue, waitingOf, configurationOf}
 use Rattle.lists.specs.Matching.{subsequence, queueMatches, tagMatches}
 use Rattle.matching.specs.Relation.{relation}
 use Rattle.matching.specs.Roles.{Roles}

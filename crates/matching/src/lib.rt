@@ -5,7 +5,7 @@ ghost use Prim.Native.Nat.{ℕ, _+_, _*_, _≤_, _<_, min};
 ghost use lib.ListN.{length, getD};
 ghost use mathlib.Core.Bool.{_&&_};
 ghost use lib.Dec.{eqb, ltb};
-ghost use Rattle.records.specs.Cube.{waitingOf, configurationOf};
+ghost use Rattle.reading.specs.Cube.{waitingOf, configurationOf};
 ghost use Rattle.lists.specs.Values.{pairwise};
 ghost use Rattle.lists.specs.Matching.{same, queueMatches, messageMatches, matches};
 ghost use Rattle.matching.specs.Relation.{relation};
@@ -14,11 +14,11 @@ ghost use Rattle.matching.specs.Match.{Suits, queueRow, channelMatches};
 ghost use Rattle.pws.specs.Machine.{allBelow};
 ghost use Rattle.records.specs.ProgramPart.{shapeOf};
 use pws::Message;
+use reading::entry::Cube;
+use reading::entry::Queue;
+use reading::evidence::either;
 use records::bytes::both;
 use records::bytes::wide;
-use records::entry::Cube;
-use records::entry::Queue;
-use records::evidence::either;
 use records::program::Shape;
 
 // A value of an entry and one of a cube: exactly, the first may stand for the second; else they may have a value in common.

@@ -24,8 +24,8 @@ use Rattle.records.specs.Records.{
   stepAt,
 }
 use Rattle.records.specs.ProgramPart.{unlessEnd, statesFrom, rowFrom, transitionsFrom, atClaim, targetsFrom, rowsFrom, restFrom, programFrom}
-use Rattle.records.specs.EvidencePart.{stepsFrom, stepsOf}
-use Rattle.records.specs.Reading.{evidenceFrom, partsOf, readFile}
+use Rattle.reading.specs.EvidencePart.{stepsFrom, stepsOf}
+use Rattle.reading.specs.Reading.{evidenceFrom, partsOf, readFile}
 use Rattle.replay.specs.Cases.{ofRun, Holds, Each, no-row, row, cases}
 
 pub cases-hold : Each Holds cases

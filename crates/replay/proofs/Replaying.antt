@@ -20,7 +20,7 @@ use Rattle.records.specs.declared.program.Program.{Program}
 use Rattle.records.specs.Bytes.{choose, byte}
 use Rattle.records.specs.Records.{isKind, stateAt, stepBody, stepAt}
 use Rattle.records.specs.ProgramPart.{tableFrom, shapeOf, programOf, targetsOf}
-use Rattle.records.specs.EvidencePart.{stepsOf}
+use Rattle.reading.specs.EvidencePart.{stepsOf}
 use Rattle.replay.specs.declared.step.Answer.{Answer}
 use Rattle.replay.specs.declared.step.Answer.the-variants.{Permitted, Refused}
 use Rattle.replay.specs.declared.step.Run.{Run}

@@ -12,7 +12,7 @@ use Rattle.pws.specs.declared.Message.{Message}
 use Rattle.pws.specs.Machine.{Configuration, allBelow}
 use Rattle.records.specs.declared.program.Shape.{Shape}
 use Rattle.records.specs.ProgramPart.{shapeOf}
-use Rattle.records.specs.Cube.{channelOf}
+use Rattle.reading.specs.Cube.{channelOf}
 use Rattle.lists.specs.Lists.{forBelow}
 use Rattle.lists.specs.Cubes.{anyMessage}
 use Rattle.lists.specs.Shapes.{allowed, longest, queueShapes}

@@ -17,8 +17,8 @@ use Rattle.pws.specs.Configurations.{Fits}
 use Rattle.pws.specs.Entries.{ValueOrFF}
 use Rattle.records.specs.declared.program.Shape.{Shape}
 use Rattle.records.specs.ProgramPart.{shapeOf}
-use Rattle.records.specs.Cube.{channelOf}
-use Rattle.records.proofs.CubeParts.{channel-equal, four-put}
+use Rattle.reading.specs.Cube.{channelOf}
+use Rattle.reading.proofs.CubeParts.{channel-equal, four-put}
 use Rattle.lists.specs.Lists.{forBelow, forEach}
 use Rattle.lists.specs.Cubes.{anyMessage}
 use Rattle.lists.specs.Shapes.{Outline, choices, allowed, outlines, longest, outlineMemory, memoryShapes, queueShapes, shapeCubes}

@@ -6,9 +6,9 @@ use mathlib.Core.List.{List, map}
 use native.Mathlib.Omega.{arith}
 use Rattle.pws.specs.declared.Message.{Message}
 use Rattle.records.specs.declared.program.Shape.{Shape}
-use Rattle.records.specs.declared.entry.Cube.{Cube}
+use Rattle.reading.specs.declared.entry.Cube.{Cube}
 use Rattle.records.specs.ProgramPart.{shapeOf}
-use Rattle.records.specs.Cube.{configurationOf}
+use Rattle.reading.specs.Cube.{configurationOf}
 use Rattle.lists.specs.Shapes.{queueShapes}
 use Rattle.lists.specs.Decision.{held}
 use Rattle.targets.specs.ShapeCube.{outlineOf, emptyShape, ShapeCube, withWaiting}

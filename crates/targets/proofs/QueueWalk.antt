@@ -9,9 +9,9 @@ use Rattle.pws.specs.Machine.{Configuration, putQueue}
 use Rattle.pws.specs.Entries.{FF}
 use Rattle.pws.proofs.Facts.{putQueue-each}
 use Rattle.records.specs.declared.program.Shape.{Shape}
-use Rattle.records.specs.declared.entry.Cube.{Cube}
-use Rattle.records.specs.Cube.{queueOf, configurationOf}
-use Rattle.records.proofs.CubeParts.{queue-put}
+use Rattle.reading.specs.declared.entry.Cube.{Cube}
+use Rattle.reading.specs.Cube.{queueOf, configurationOf}
+use Rattle.reading.proofs.CubeParts.{queue-put}
 use Rattle.lists.specs.Lists.{forEach}
 use Rattle.lists.specs.Shapes.{Outline, rowShapes, queueShapes}
 use Rattle.targets.specs.ShapeCube.{Roomy, emptyShape, oneFree, withWaiting}

@@ -13,8 +13,8 @@ use Rattle.pws.specs.declared.Message.{Message}
 use Rattle.pws.specs.Machine.{Memory, noMessage}
 use Rattle.records.specs.declared.program.Shape.{Shape}
 use Rattle.records.specs.ProgramPart.{shapeOf}
-use Rattle.records.specs.Cube.{noQueue, emptyQueue, waitingOf, channelOf, queueOf}
-use Rattle.records.proofs.CubeParts.{queue-of, queue-none}
+use Rattle.reading.specs.Cube.{noQueue, emptyQueue, waitingOf, channelOf, queueOf}
+use Rattle.reading.proofs.CubeParts.{queue-of, queue-none}
 use Rattle.lists.specs.Lists.{any}
 use Rattle.lists.specs.Shapes.{outlineMemory}
 use Rattle.lists.proofs.Lists.{early-or}

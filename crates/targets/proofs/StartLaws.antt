@@ -10,11 +10,11 @@ use borrow.Author.Tests.{ne-eqb}
 use Rattle.pws.specs.Machine.{isEmpty, allBelow, noneWaiting, noMessage}
 use Rattle.pws.specs.Configurations.{inTarget}
 use Rattle.records.specs.declared.program.Shape.{Shape}
-use Rattle.records.specs.declared.entry.Queue.{Queue}
-use Rattle.records.specs.declared.entry.Cube.{Cube}
+use Rattle.reading.specs.declared.entry.Queue.{Queue}
+use Rattle.reading.specs.declared.entry.Cube.{Cube}
 use Rattle.records.specs.ProgramPart.{shapeOf}
-use Rattle.records.specs.Cube.{waitingOf, queueOf, configurationOf}
-use Rattle.records.proofs.CubeParts.{channel-length}
+use Rattle.reading.specs.Cube.{waitingOf, queueOf, configurationOf}
+use Rattle.reading.proofs.CubeParts.{channel-length}
 use Rattle.lists.specs.Values.{fills}
 use Rattle.lists.specs.Decision.{looksStarted}
 use Rattle.targets.specs.Sizes.{Small, startsOf}

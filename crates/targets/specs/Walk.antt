@@ -12,7 +12,7 @@ use Rattle.pws.specs.Configurations.{Fits}
 use Rattle.pws.specs.Entries.{FF, ValueOrFF}
 use Rattle.records.specs.declared.program.Shape.{Shape}
 use Rattle.records.specs.ProgramPart.{shapeOf}
-use Rattle.records.specs.Cube.{channelOf, configurationOf}
+use Rattle.reading.specs.Cube.{channelOf, configurationOf}
 use Rattle.lists.specs.Lists.{forEach, every}
 use Rattle.lists.specs.Cubes.{anyMessage}
 use Rattle.lists.specs.Shapes.{Outline, allowed, outlines, longest, queueShapes}

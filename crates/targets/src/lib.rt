@@ -8,7 +8,7 @@ ghost use lib.Dec.{eqb, ltb};
 ghost use Rattle.pws.specs.Program.{Program};
 ghost use Rattle.pws.specs.Machine.{isEmpty, allBelow, labelled};
 ghost use Rattle.records.specs.ProgramPart.{shapeOf};
-ghost use Rattle.records.specs.Cube.{waitingOf, queueOf, channelOf, configurationOf};
+ghost use Rattle.reading.specs.Cube.{waitingOf, queueOf, channelOf, configurationOf};
 ghost use Rattle.lists.specs.Lists.{any};
 ghost use Rattle.lists.specs.Values.{fills};
 ghost use Rattle.lists.specs.Cubes.{anyMessage};
@@ -23,11 +23,11 @@ use cover::search::Found;
 use cover::search::search;
 use matching::least;
 use pws::Message;
+use reading::entry::Cube;
+use reading::entry::Queue;
+use reading::evidence::either;
 use records::bytes::both;
 use records::bytes::wide;
-use records::entry::Cube;
-use records::entry::Queue;
-use records::evidence::either;
 use records::program::Shape;
 
 // ---- starts (section 4)

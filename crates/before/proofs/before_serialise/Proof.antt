@@ -3,8 +3,8 @@ use Rattle.before.proofs.ChangeLaws.{few, nine, sound-sizes, sound-some
 use Rattle.before.proofs.ReadLaws.{few-wait}
 use Rattle.before.proofs.QueueLaws.{length-mapped}
 use Rattle.before.specs.Changes.{Waits}
-use Rattle.records.proofs.CubeParts.{queue-of}
-use Rattle.records.specs.Cube.{waitingOf}
+use Rattle.reading.proofs.CubeParts.{queue-of}
+use Rattle.reading.specs.Cube.{waitingOf}
 use Rattle.pws.specs.declared.Message.{Message}
 use lib.ListN.{getD}
 use native.Mathlib.Omega.{arith}

@@ -1,5 +1,5 @@
 use Rattle.before.proofs.NewestLaws.{older-length}
-use Rattle.records.specs.Cube.{configurationOf}
+use Rattle.reading.specs.Cube.{configurationOf}
 use Rattle.lists.specs.Cubes.{older, alikeNewest}
 use lib.Dec.{leb, ltb}
 use mathlib.Core.Bool.{_&&_}

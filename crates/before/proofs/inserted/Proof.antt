@@ -1,5 +1,5 @@
 use Rattle.before.proofs.ChangeLaws.{changed-memory}
-use Rattle.records.specs.Cube.{channelOf, configurationOf}
+use Rattle.reading.specs.Cube.{channelOf, configurationOf}
 use Rattle.pws.specs.Insertion.{insert, insertInto}
 use native.Mathlib.Omega.{arith}
 use mathlib.Core.Path.{_≡_, ap, _∙_}

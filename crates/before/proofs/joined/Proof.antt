@@ -2,7 +2,7 @@ use Rattle.before.proofs.NewestLaws.{joined-none, joined-some}
 use Rattle.before.proofs.ChangeLaws.{changed-equal}
 use Rattle.before.proofs.QueueLaws.{length-mapped}
 use Rattle.before.specs.Changes.{withMessages}
-use Rattle.records.specs.declared.entry.Cube.{Cube}
+use Rattle.reading.specs.declared.entry.Cube.{Cube}
 use Rattle.pws.specs.declared.Message.{Message}
 use lib.ListN.{set}
 use native.Mathlib.Omega.{arith}

@@ -1,5 +1,5 @@
 use Rattle.before.proofs.MessageLaws.{last-next}
-use Rattle.records.specs.Cube.{channelOf}
+use Rattle.reading.specs.Cube.{channelOf}
 use Rattle.pws.specs.Machine.{noMessage, labelled, lastLabelled}
 use lib.ListN.{getD}
 use native.Mathlib.Omega.{arith}

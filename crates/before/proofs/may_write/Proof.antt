@@ -1,5 +1,5 @@
-use Rattle.records.proofs.CubeParts.{queue-of}
-use Rattle.records.specs.Cube.{waitingOf}
+use Rattle.reading.proofs.CubeParts.{queue-of}
+use Rattle.reading.specs.Cube.{waitingOf}
 use Rattle.lists.specs.Predecessors.{endsAlike}
 use Rattle.pws.specs.Machine.{newestWaiting}
 use mathlib.Core.List.{List}

@@ -1,6 +1,6 @@
 use Rattle.matching.proofs.Below.{all-false, Each, each-begin, each-next, each-all}
-use Rattle.records.proofs.CubeParts.{queue-of}
-use Rattle.records.specs.Cube.{waitingOf, queueOf}
+use Rattle.reading.proofs.CubeParts.{queue-of}
+use Rattle.reading.specs.Cube.{waitingOf, queueOf}
 use Rattle.pws.specs.Machine.{isEmpty, allBelow}
 use borrow.Author.Tests.{not-true, not-false}
 use native.Mathlib.Omega.{arith}

@@ -1,5 +1,5 @@
 use Rattle.before.proofs.NewestLaws.{older-channel}
-use Rattle.records.specs.Cube.{channelOf}
+use Rattle.reading.specs.Cube.{channelOf}
 use Rattle.pws.specs.Machine.{lastLabelled}
 use Rattle.pws.specs.declared.Message.{Message}
 use native.Mathlib.Omega.{arith}

@@ -1,6 +1,6 @@
 use Rattle.before.proofs.ChangeLaws.{changed-memory}
-use Rattle.records.proofs.CubeParts.{four-put}
-use Rattle.records.specs.Cube.{configurationOf}
+use Rattle.reading.proofs.CubeParts.{four-put}
+use Rattle.reading.specs.Cube.{configurationOf}
 use Rattle.pws.specs.Machine.{point}
 use lib.ListN.{length, set}
 use native.Mathlib.Omega.{arith}

@@ -1,5 +1,5 @@
-use Rattle.records.proofs.CubeParts.{queue-of}
-use Rattle.records.specs.Cube.{waitingOf}
+use Rattle.reading.proofs.CubeParts.{queue-of}
+use Rattle.reading.specs.Cube.{waitingOf}
 use Rattle.pws.specs.Machine.{isEmpty}
 use mathlib.Core.Path.{sym, ap, _∙_}
 use borrow.Author.Needs.{needs}

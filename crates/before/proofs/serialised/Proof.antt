@@ -1,4 +1,4 @@
-use Rattle.records.proofs.CubeParts.{channel-length}
+use Rattle.reading.proofs.CubeParts.{channel-length}
 use Rattle.pws.specs.Machine.{labelled}
 use Rattle.pws.specs.declared.Message.{Message}
 use lib.Dec.{ltb}

@@ -1,7 +1,7 @@
 use Rattle.before.proofs.QueueLaws.{length-mapped}
 use Rattle.before.proofs.ChangeLaws.{changed-equal, changed-memory}
 use Rattle.before.proofs.MessageLaws.{set-value}
-use Rattle.records.specs.Cube.{channelOf, configurationOf}
+use Rattle.reading.specs.Cube.{channelOf, configurationOf}
 use Rattle.lists.specs.Cubes.{memoryOf, setValue}
 use Rattle.pws.specs.declared.Message.{Message}
 use lib.ListN.{set}

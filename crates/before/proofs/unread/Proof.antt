@@ -1,8 +1,8 @@
 use Rattle.before.proofs.QueueLaws.{length-mapped}
 use Rattle.before.proofs.ReadLaws.{read-kept, read-set, small}
 use Rattle.before.specs.Changes.{Waits}
-use Rattle.records.proofs.CubeParts.{queue-of}
-use Rattle.records.specs.Cube.{waitingOf}
+use Rattle.reading.proofs.CubeParts.{queue-of}
+use Rattle.reading.specs.Cube.{waitingOf}
 use Rattle.lists.specs.Cubes.{withLast}
 use Rattle.pws.specs.Machine.{isEmpty}
 use native.Mathlib.Omega.{arith}

@@ -1,7 +1,7 @@
 use Rattle.before.proofs.NewestLaws.{older-length}
 use Rattle.before.proofs.ChangeLaws.{changed-then}
 use Rattle.before.specs.Changes.{withMemory, Changed}
-use Rattle.records.specs.Cube.{configurationOf}
+use Rattle.reading.specs.Cube.{configurationOf}
 use Rattle.lists.specs.Predecessors.{before, joined}
 use Rattle.lists.specs.Cubes.{older}
 use Rattle.pws.specs.Machine.{Configuration, point}

@@ -2,8 +2,8 @@ use Rattle.before.proofs.QueueLaws.{length-mapped}
 use Rattle.before.proofs.ReadLaws.{put-cube, small}
 use Rattle.before.specs.Changes.{Waits}
 use Rattle.before.specs.Kinds.{kindOf}
-use Rattle.records.proofs.CubeParts.{queue-of}
-use Rattle.records.specs.Cube.{waitingOf}
+use Rattle.reading.proofs.CubeParts.{queue-of}
+use Rattle.reading.specs.Cube.{waitingOf}
 use Rattle.lists.specs.Predecessors.{unwritten}
 use mathlib.Core.List.{List}
 use mathlib.Core.Path.{sym, ap, subst, _∙_}

@@ -1,5 +1,5 @@
-use Rattle.records.proofs.CubeParts.{channel-message}
-use Rattle.records.specs.Cube.{configurationOf}
+use Rattle.reading.proofs.CubeParts.{channel-message}
+use Rattle.reading.specs.Cube.{configurationOf}
 use Rattle.pws.specs.Machine.{message, lastWrite}
 use Rattle.pws.specs.declared.Message.{Message}
 use lib.ListN.{getD}

@@ -1,8 +1,8 @@
 use mathlib.Core.Path.{_≡_, subst}
 use Rattle.lists.specs.Decision.{closed}
-use Rattle.records.specs.declared.entry.Cube.{Cube}
+use Rattle.reading.specs.declared.entry.Cube.{Cube}
 use Rattle.records.specs.ProgramPart.{programOf}
-use Rattle.records.specs.Cube.{configurationOf}
+use Rattle.reading.specs.Cube.{configurationOf}
 use Rattle.contents.specs.Again.{entriesOf}
 use Rattle.closing.specs.Walk.{Walkable}
 use borrow.Author.Needs.{needs}

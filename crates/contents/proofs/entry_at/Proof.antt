@@ -1,5 +1,5 @@
 use mathlib.Core.Path.{ap, _∙_}
-use Rattle.records.specs.Cube.{loadEntry}
+use Rattle.reading.specs.Cube.{loadEntry}
 use borrow.Author.Needs.{needs}
 use Rattle.contents.proofs.entry_at.Statement.{statement}
 use Rattle.contents.proofs.entry_at.Tie as tie

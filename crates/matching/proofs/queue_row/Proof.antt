@@ -6,7 +6,7 @@ use lib.ListN.{getD}
 use Rattle.pws.specs.Machine.{allBelow}
 use Rattle.matching.proofs.Below.{all-false, Each, each-begin, each-next, each-all}
 use borrow.Author.Tests.{not-true, not-false}
-use Rattle.records.specs.Cube.{noQueue, waitingOf}
+use Rattle.reading.specs.Cube.{noQueue, waitingOf}
 use Rattle.lists.specs.Matching.{queueMatches}
 use Rattle.matching.specs.Relation.{relation}
 use Rattle.matching.specs.Match.{queueRow}

@@ -1,0 +1,5 @@
+pub mod EntryLaws
+pub mod ListLaws
+pub mod ReadingLaws
+pub mod CubeLaws
+pub mod CubeParts

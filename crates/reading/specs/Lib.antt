@@ -1,0 +1,4 @@
+pub mod EvidencePart
+pub mod Tally
+pub mod Reading
+pub mod Cube

@@ -1,0 +1,550 @@
+// The evidence part of a file: the claim, then entries or steps (document 01, "Records").
+ghost use mathlib.Core.Path.{_≡_};
+ghost use mathlib.Core.Bool.{_||_};
+ghost use mathlib.Core.List.{[]};
+ghost use Prim.Native.Nat.{ℕ, _+_, _*_, _≤_, _<_};
+ghost use lib.ListN.{length, getD};
+ghost use Rattle.records.specs.Records.{checked, claimNumber, messageNumber, waitingNumber, isStep, stepBody, exists, stepNames, stepNumber, stepAt, pointerAt, pointerName, pointerNames, entryNumber, valueName, valueNames, messageNames, waitingNames};
+ghost use Rattle.reading.specs.EvidencePart.{stepsFrom, bodySize, pointerFits, pointsFirst, pointersFit, someFirst, complete, atBoundary, entryRead, entriesFrom, allowed, wroteFrom};
+ghost use Rattle.reading.specs.Reading.{partsOf, evidenceFrom, evidenceReading, countReading, readingOf, readingRefused, areaAfter, evidenceArea, listArea};
+ghost use Rattle.reading.specs.Tally.{queueAt, numberBy, Room, tallied, endOf, endRefusal, countOf};
+use pws::Step;
+use records::bytes::both;
+use records::bytes::byte_at;
+use records::bytes::cut;
+use records::bytes::field;
+use records::bytes::store_number;
+use records::bytes::wide;
+use records::program::Checked;
+use records::program::Counted;
+use records::program::Program;
+use records::program::Refusal;
+use records::program::Row;
+use records::program::Shape;
+use records::program::answer;
+use records::program::first_number;
+use records::program::is_kind;
+use records::program::read_program;
+use records::program::refusal_of;
+use records::program::state_names;
+use records::program::stop_of;
+use records::program::unless_end;
+use records::program::value_count;
+
+pub fn either(a: bool, b: bool) -> bool
+    ensures { λ r. ⌜ r ≡ (a || b) ⌝ }
+{
+    if a { true } else { b }
+}
+
+// ---- the claim and the steps
+
+pub fn check_claim(file: &[u8], at: usize) -> Checked
+    ensures { λ r. ⌜ r ≡ checked (claimNumber (now (file .entry)) at) at ⌝ }
+{
+    answer(
+        first_number(
+            !is_kind(file, at, 15),
+            cut(file, at, 1),
+            false,
+            false,
+            !(field(file, at, 1) <= 1),
+        ),
+        at,
+    )
+}
+
+pub fn is_step(file: &[u8], at: usize) -> bool
+    ensures { λ r. ⌜ r ≡ isStep (now (file .entry)) at ⌝ }
+{
+    either(
+        is_kind(file, at, 32),
+        either(is_kind(file, at, 33), is_kind(file, at, 34)),
+    )
+}
+
+pub fn step_body(file: &[u8], at: usize) -> usize
+    ensures { λ r. ⌜ r ≡ stepBody (now (file .entry)) at ⌝ }
+{
+    if is_kind(file, at, 33) { 2 } else { 1 }
+}
+
+pub fn pair_exists(shape: Shape, process: u8, variable: u8) -> bool
+    ensures { λ r. ⌜ r ≡ exists shape process variable ⌝ }
+{
+    both(
+        wide(process) < shape.processes,
+        wide(variable) < shape.variables,
+    )
+}
+
+pub fn step_names(file: &[u8], at: usize, shape: Shape, transitions: usize) -> bool
+    ensures { λ r. ⌜ r ≡ stepNames shape transitions (now (file .entry)) at ⌝ }
+{
+    let first = field(file, at, 1);
+    if is_kind(file, at, 32) {
+        return wide(first) < transitions;
+    }
+    if is_kind(file, at, 33) {
+        return pair_exists(shape, first, field(file, at, 2));
+    }
+    wide(first) < shape.processes
+}
+
+// n of them stand before it.
+pub fn check_step(file: &[u8], at: usize, shape: Shape, transitions: usize, n: usize) -> Checked
+    ensures { λ r. ⌜ r ≡ checked (stepNumber shape transitions (now (file .entry)) at n) at ⌝ }
+{
+    let names = step_names(file, at, shape, transitions);
+    answer(
+        first_number(
+            !is_step(file, at),
+            cut(file, at, step_body(file, at)),
+            1024 <= n,
+            false,
+            !names,
+        ),
+        at,
+    )
+}
+
+// The step of the record at a place.
+pub fn step_at(file: &[u8], at: usize) -> Step
+    ensures { λ r. ⌜ r ≡ stepAt (now (file .entry)) at ⌝ }
+{
+    let first = wide(field(file, at, 1));
+    if is_kind(file, at, 32) {
+        return Step::Take { transition: first };
+    }
+    if is_kind(file, at, 33) {
+        return Step::Serialise {
+            process: first,
+            variable: wide(field(file, at, 2)),
+        };
+    }
+    Step::Update { process: first }
+}
+
+// The steps, to the file's end.
+pub fn steps_from(file: &[u8], at: usize, shape: Shape, transitions: usize) -> Counted
+    ensures { λ r. ⌜ r ≡ stepsFrom shape transitions (now (file .entry)) at ⌝ }
+{
+    let mut k = at;
+    let mut n = 0;
+    while k < file.len() {
+        let answer = check_step(file, k, shape, transitions, n);
+        let Checked::Fine = answer else {
+            return Counted::Stopped(refusal_of(answer));
+        };
+        k += 1 + step_body(file, k);
+        n += 1;
+    }
+    Counted::Records(n)
+}
+
+// ---- an entry
+
+pub fn pointer_name(shape: Shape, p: usize, pointer: u8) -> bool
+    ensures { λ r. ⌜ r ≡ pointerName shape p pointer ⌝ }
+{
+    either(p < shape.processes, pointer == 0)
+}
+
+pub fn pointer_names(file: &[u8], at: usize, shape: Shape) -> bool
+    ensures { λ r. ⌜ r ≡ pointerNames shape (now (file .entry)) at ⌝ }
+{
+    let a = pointer_name(shape, 0, field(file, at, 5));
+    let b = pointer_name(shape, 1, field(file, at, 6));
+    let c = pointer_name(shape, 2, field(file, at, 7));
+    let d = pointer_name(shape, 3, field(file, at, 8));
+    both(a, both(b, both(c, d)))
+}
+
+// The 10 of an entry.
+pub fn check_entry(file: &[u8], at: usize, shape: Shape, states: [u8; 4], full: bool) -> Checked
+    ensures { λ r. ⌜ r ≡ checked (entryNumber shape states (now (file .entry)) at full) at ⌝ }
+{
+    let names = both(
+        state_names(file, at, shape, states),
+        pointer_names(file, at, shape),
+    );
+    answer(
+        first_number(
+            !is_kind(file, at, 16),
+            cut(file, at, 8),
+            full,
+            false,
+            !names,
+        ),
+        at,
+    )
+}
+
+pub fn value_name(shape: Shape, variable: usize, value: u8) -> bool
+    ensures { λ r. ⌜ r ≡ valueName shape variable value ⌝ }
+{
+    if variable < shape.variables {
+        return either(value == 255, value < value_count(shape, variable));
+    }
+    value == 0
+}
+
+pub fn value_names(file: &[u8], at: usize, shape: Shape) -> bool
+    ensures { λ r. ⌜ r ≡ valueNames shape (now (file .entry)) at ⌝ }
+{
+    let a = value_name(shape, 0, field(file, at, 3));
+    let b = value_name(shape, 1, field(file, at, 4));
+    let c = value_name(shape, 2, field(file, at, 5));
+    let d = value_name(shape, 3, field(file, at, 6));
+    both(a, both(b, both(c, d)))
+}
+
+pub fn message_names(file: &[u8], at: usize, shape: Shape) -> bool
+    ensures { λ r. ⌜ r ≡ messageNames shape (now (file .entry)) at ⌝ }
+{
+    both(
+        pair_exists(shape, field(file, at, 1), field(file, at, 2)),
+        value_names(file, at, shape),
+    )
+}
+
+pub fn waiting_names(file: &[u8], at: usize, shape: Shape) -> bool
+    ensures { λ r. ⌜ r ≡ waitingNames shape (now (file .entry)) at ⌝ }
+{
+    let variable = field(file, at, 2);
+    both(
+        pair_exists(shape, field(file, at, 1), variable),
+        value_name(shape, wide(variable), field(file, at, 3)),
+    )
+}
+
+pub fn body_size(file: &[u8], at: usize) -> usize
+    ensures { λ r. ⌜ r ≡ bodySize (now (file .entry)) at ⌝ }
+{
+    if is_kind(file, at, 17) { 7 } else { 4 }
+}
+
+pub fn at_boundary(file: &[u8], at: usize) -> bool
+    ensures { λ r. ⌜ r ≡ atBoundary (now (file .entry)) at ⌝ }
+{
+    either(file.len() <= at, is_kind(file, at, 16))
+}
+
+// How much of the latest entry was read: its messages, and the waiting values of process p and variable v at 4 p + v.
+pub struct Tally {
+    pub messages: usize,
+    pub waiting: [u8; 16],
+}
+
+pub fn of_sixteen(sixteen: [u8; 16], q: usize) -> u8
+    ensures { λ r. ⌜ r ≡ getD sixteen q 0 ⌝ }
+{
+    if q < 16 {
+        return sixteen[q];
+    }
+    0
+}
+
+// The place of the count of the queue that the 12 at a place names.
+pub fn queue_at(file: &[u8], at: usize) -> usize
+    ensures { λ r. ⌜ r ≡ queueAt (now (file .entry)) at ⌝ }
+{
+    4 * wide(field(file, at, 1)) + wide(field(file, at, 2))
+}
+
+pub fn message_number(file: &[u8], at: usize, shape: Shape, messages: usize) -> u8
+    ensures { λ r. ⌜ r ≡ messageNumber shape (now (file .entry)) at messages ⌝ }
+{
+    first_number(
+        false,
+        cut(file, at, 6),
+        16 <= messages,
+        false,
+        !message_names(file, at, shape),
+    )
+}
+
+pub fn waiting_number(file: &[u8], at: usize, shape: Shape, waiting: u8) -> u8
+    ensures { λ r. ⌜ r ≡ waitingNumber shape (now (file .entry)) at waiting ⌝ }
+{
+    let full = both(
+        pair_exists(shape, field(file, at, 1), field(file, at, 2)),
+        8 <= waiting,
+    );
+    first_number(
+        false,
+        cut(file, at, 3),
+        full,
+        false,
+        !waiting_names(file, at, shape),
+    )
+}
+
+pub fn body_number(file: &[u8], at: usize, shape: Shape, tally: Tally) -> u8
+    ensures { λ r. ⌜ r ≡ numberBy shape (now (file .entry)) at tally ⌝ }
+{
+    if is_kind(file, at, 17) {
+        return message_number(file, at, shape, tally.messages);
+    }
+    if is_kind(file, at, 18) {
+        let waiting = tally.waiting;
+        return waiting_number(file, at, shape, of_sixteen(waiting, queue_at(file, at)));
+    }
+    2
+}
+
+// Where an entry ends, or why it is refused.
+pub enum EntryEnd {
+    Next(usize),
+    Bad(Refusal),
+}
+
+// The counts with the record at a place, which was found fine.
+fn tallied(file: &[u8], at: usize, tally: Tally) -> Tally
+    requires { ⌜ Room (now file) at tally ⌝ }
+    ensures { λ r. ⌜ r ≡ tallied (now (file .entry)) at tally ⌝ }
+{
+    let mut next = tally;
+    if is_kind(file, at, 17) {
+        next.messages = tally.messages + 1;
+        return next;
+    }
+    let q = queue_at(file, at);
+    let n = tally.waiting[q];
+    next.waiting[q] = n + 1;
+    next
+}
+
+pub fn pointer_fits(shape: Shape, messages: usize, p: usize, pointer: u8) -> bool
+    ensures { λ r. ⌜ r ≡ pointerFits shape messages p pointer ⌝ }
+{
+    if p < shape.processes {
+        return both(1 <= pointer, wide(pointer) <= messages);
+    }
+    true
+}
+
+pub fn points_first(shape: Shape, p: usize, pointer: u8) -> bool
+    ensures { λ r. ⌜ r ≡ pointsFirst shape p pointer ⌝ }
+{
+    both(p < shape.processes, pointer == 1)
+}
+
+// Each pointer of the 10 at a place names one of so many messages.
+pub fn pointers_fit(file: &[u8], at: usize, shape: Shape, messages: usize) -> bool
+    ensures { λ r. ⌜ r ≡ pointersFit shape messages (pointerAt (now (file .entry)) at) ⌝ }
+{
+    let a = pointer_fits(shape, messages, 0, field(file, at, 5));
+    let b = pointer_fits(shape, messages, 1, field(file, at, 6));
+    let c = pointer_fits(shape, messages, 2, field(file, at, 7));
+    let d = pointer_fits(shape, messages, 3, field(file, at, 8));
+    both(a, both(b, both(c, d)))
+}
+
+// Some pointer of it is 1.
+pub fn some_first(file: &[u8], at: usize, shape: Shape) -> bool
+    ensures { λ r. ⌜ r ≡ someFirst shape (pointerAt (now (file .entry)) at) ⌝ }
+{
+    let a = points_first(shape, 0, field(file, at, 5));
+    let b = points_first(shape, 1, field(file, at, 6));
+    let c = points_first(shape, 2, field(file, at, 7));
+    let d = points_first(shape, 3, field(file, at, 8));
+    either(a, either(b, either(c, d)))
+}
+
+pub fn is_complete(file: &[u8], at: usize, shape: Shape, messages: usize) -> bool
+    ensures { λ r. ⌜ r ≡ complete shape messages (pointerAt (now (file .entry)) at) ⌝ }
+{
+    both(
+        1 <= messages,
+        both(
+            pointers_fit(file, at, shape, messages),
+            some_first(file, at, shape),
+        ),
+    )
+}
+
+// The records of the entry whose 10 stands at a place and is fine.
+fn entry_from(file: &[u8], start: usize, shape: Shape) -> EntryEnd
+    requires { ⌜ (start + 9 ≤ length (now file)) × (shape .processes ≤ 4) × (shape .variables ≤ 4) ⌝ }
+    ensures { λ r. ⌜ r ≡ endOf (entryRead shape (now (file .entry)) start) ⌝ }
+{
+    let none = [0u8; 16];
+    let mut tally = Tally {
+        messages: 0,
+        waiting: none,
+    };
+    let mut k = start + 9;
+    while !at_boundary(file, k) {
+        let answer = answer(body_number(file, k, shape, tally), k);
+        let Checked::Fine = answer else {
+            return EntryEnd::Bad(refusal_of(answer));
+        };
+        tally = tallied(file, k, tally);
+        k += body_size(file, k);
+    }
+    if is_complete(file, start, shape, tally.messages) {
+        return EntryEnd::Next(k);
+    }
+    EntryEnd::Bad(Refusal {
+        number: 7,
+        place: start,
+    })
+}
+
+fn end_refusal(end: EntryEnd) -> Refusal
+    ensures { λ r. ⌜ r ≡ endRefusal end ⌝ }
+{
+    match end {
+        EntryEnd::Next(_) => Refusal {
+            number: 0,
+            place: 0,
+        },
+        EntryEnd::Bad(refusal) => refusal,
+    }
+}
+
+// The entries, to the file's end. The place of each one's 10 is written into the list, four bytes each, least significant first.
+fn entries_from(
+    file: &[u8],
+    at: usize,
+    shape: Shape,
+    states: [u8; 4],
+    allowed: usize,
+    list: &mut [u8],
+) -> Counted
+    requires { ⌜ (shape .processes ≤ 4) × (shape .variables ≤ 4) × (allowed ≤ 524288) ⌝ }
+    ensures { λ r. ⌜ r ≡ countOf (entriesFrom allowed shape states (now (file .entry)) at [] []) ⌝ }
+    ensures { λ r. ⌜ now (list .exit) ≡ wroteFrom 0 (entriesFrom allowed shape states (now (file .entry)) at [] [] .offsets) (now (list .entry)) ⌝ }
+{
+    let mut k = at;
+    let mut n = 0;
+    while k < file.len() {
+        let head = check_entry(file, k, shape, states, allowed <= n);
+        let Checked::Fine = head else {
+            return Counted::Stopped(refusal_of(head));
+        };
+        let end = entry_from(file, k, shape);
+        let EntryEnd::Next(next) = end else {
+            return Counted::Stopped(end_refusal(end));
+        };
+        store_number(list, 4 * n, k);
+        n += 1;
+        k = next;
+    }
+    Counted::Records(n)
+}
+
+// ---- the whole reading
+
+// What a file holds: its program, its claim, and its entries (claim 0) or steps (claim 1).
+pub struct Contents {
+    pub program: Program,
+    pub claim: u8,
+    pub evidence: Row,
+}
+
+pub struct Reading {
+    pub answer: Checked,
+    pub contents: Contents,
+}
+
+fn reading_refused(refusal: Refusal) -> Reading
+    ensures { λ r. ⌜ r ≡ readingRefused refusal ⌝ }
+{
+    let none = [0u8; 4];
+    Reading {
+        answer: Checked::Refused(refusal),
+        contents: Contents {
+            program: Program {
+                shape: Shape {
+                    processes: 0,
+                    variables: 0,
+                    values: 0,
+                },
+                states: none,
+                initial: none,
+                transitions: Row { at: 0, count: 0 },
+                targets: Row { at: 0, count: 0 },
+                claim: 0,
+            },
+            claim: 0,
+            evidence: Row { at: 0, count: 0 },
+        },
+    }
+}
+
+// The contents with so many records of evidence, or the refusal of one.
+fn reading_with(program: Program, claim: u8, counted: Counted) -> Reading
+    requires { ⌜ program .claim + 2 < 18446744073709551616 ⌝ }
+    ensures { λ r. ⌜ r ≡ countReading program claim counted ⌝ }
+{
+    let Counted::Records(n) = counted else {
+        return reading_refused(stop_of(counted));
+    };
+    Reading {
+        answer: Checked::Fine,
+        contents: Contents {
+            program: program,
+            claim: claim,
+            evidence: Row {
+                at: program.claim + 2,
+                count: n,
+            },
+        },
+    }
+}
+
+// Entries that a work area of so many bytes allows.
+pub fn entries_allowed(area: usize) -> usize
+    ensures { λ r. ⌜ r ≡ allowed area ⌝ }
+{
+    if area < 16384 {
+        return 0;
+    }
+    let most = (area - 16384) / 4;
+    if most < 524288 { most } else { 524288 }
+}
+
+// From the claim on.
+fn read_evidence(file: &[u8], program: Program, work: &mut [u8]) -> Reading
+    requires { ⌜ (32768 ≤ length (now work)) × (program .shape .processes ≤ 4) × (program .shape .variables ≤ 4) ⌝ }
+    ensures { λ r. ⌜ r ≡ evidenceReading program (evidenceFrom (now (file .entry)) (program .claim) program (length (now (work .entry)))) ⌝ }
+    ensures { λ r. ⌜ now (work .exit) ≡ evidenceArea (evidenceFrom (now (file .entry)) (program .claim) program (length (now (work .entry)))) (now (work .entry)) ⌝ }
+{
+    let at = program.claim;
+    let claim = unless_end(file, at, check_claim(file, at));
+    let Checked::Fine = claim else {
+        return reading_refused(refusal_of(claim));
+    };
+    let shape = program.shape;
+    if field(file, at, 1) == 0 {
+        let states = program.states;
+        let most = entries_allowed(work.len());
+        let listed = entries_from(file, at + 2, shape, states, most, &mut work[16384..]);
+        return reading_with(program, 0, listed);
+    }
+    let transitions = program.transitions;
+    let taken = steps_from(file, at + 2, shape, transitions.count);
+    reading_with(program, 1, taken)
+}
+
+// The file's contents or the first refusal; the offsets of its entries go into the work area, from byte 16,384 on.
+pub fn read(file: &[u8], work: &mut [u8]) -> Reading
+    ensures { λ r. ⌜ r ≡ readingOf (partsOf (now (file .entry)) (length (now (work .entry)))) ⌝ }
+    ensures { λ r. ⌜ now (work .exit) ≡ areaAfter (partsOf (now (file .entry)) (length (now (work .entry)))) (now (work .entry)) ⌝ }
+{
+    if work.len() < 32768 {
+        return reading_refused(Refusal {
+            number: 8,
+            place: 0,
+        });
+    }
+    let part = read_program(file, 0);
+    let answer = part.answer;
+    let Checked::Fine = answer else {
+        return reading_refused(refusal_of(answer));
+    };
+    let program = part.program;
+    read_evidence(file, program, work)
+}
