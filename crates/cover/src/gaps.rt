@@ -23,7 +23,7 @@ pub struct Gaps {
 }
 
 // With this one more, if the entry has a value there and the cube has none.
-pub fn note(gaps: Gaps, entry: u8, cube: u8, place: Place) -> Gaps {
+fn note(gaps: Gaps, entry: u8, cube: u8, place: Place) -> Gaps {
     let n = gaps.count;
     if n == 255 {
         return gaps;
@@ -37,7 +37,7 @@ pub fn note(gaps: Gaps, entry: u8, cube: u8, place: Place) -> Gaps {
     }
 }
 
-pub fn message_gaps(gaps: Gaps, entry: Message, cube: Message, number: usize) -> Gaps {
+fn message_gaps(gaps: Gaps, entry: Message, cube: Message, number: usize) -> Gaps {
     let a = entry.snapshot;
     let b = cube.snapshot;
     let one = note(
@@ -79,7 +79,7 @@ pub fn message_gaps(gaps: Gaps, entry: Message, cube: Message, number: usize) ->
 }
 
 // The messages as they are matched, newest first.
-pub fn channel_gaps(
+fn channel_gaps(
     gaps: Gaps,
     shape: Shape,
     a: Cube,
@@ -115,7 +115,7 @@ pub fn channel_gaps(
 }
 
 // The waiting values as they are matched, oldest first.
-pub fn queue_gaps(gaps: Gaps, a: Queue, b: Queue, process: usize, variable: usize) -> Gaps {
+fn queue_gaps(gaps: Gaps, a: Queue, b: Queue, process: usize, variable: usize) -> Gaps {
     let n = waiting(a);
     let m = waiting(b);
     let mut all = gaps;
@@ -159,7 +159,13 @@ fn row_gaps(gaps: Gaps, variables: usize, a: [Queue; 16], b: [Queue; 16], proces
 }
 
 // All gaps between an entry and a cube.
-pub fn gaps_between(shape: Shape, a: Cube, left: [u8; 20], b: Cube, right: [u8; 20]) -> Gaps {
+pub(crate) fn gaps_between(
+    shape: Shape,
+    a: Cube,
+    left: [u8; 20],
+    b: Cube,
+    right: [u8; 20],
+) -> Gaps {
     let n = least(shape.processes, 4);
     let variables = shape.variables;
     let before = a.queues;
