@@ -1,0 +1,39 @@
+-- Starts, sequences of steps and targets of the PSO machine (report, 4.1 and 4.2).
+use Prim.Native.Nat.{ℕ, _<_, _≤_}
+use mathlib.Core.Path.{_≡_}
+use mathlib.Core.Bool.{Bool, true, false, cond}
+use mathlib.Core.List.{List, [], _∷_}
+use lib.ListN.{length, getD}
+use lib.Dec.{T}
+use Rattle.pws.specs.Program.{Shape, Program}
+use Rattle.pso.specs.declared.PsoStep.{PsoStep}
+use Rattle.pso.specs.Machine.{Item, PsoConfiguration, psoMay, psoAfter}
+
+-- a memory that a run may start from: any value in each variable, and 0 in the room of those that the shape does not have
+pub record MemoryOf (S : Shape) (memory : List ℕ) : Type 0 where
+  pub room : length memory ≡ 4
+  pub values : (v : ℕ) → v < S .variables → getD memory v 0 < S .values v
+  pub absent : (v : ℕ) → S .variables ≤ v → getD memory v 0 ≡ 0
+
+-- a start with this memory: initial local states, empty buffers
+pub record PsoStart (P : Program) (memory : List ℕ) (d : PsoConfiguration) : Type 0 where
+  pub permitted : MemoryOf (P .shape) memory
+  pub states : (p : ℕ) → p < P .shape .processes → d .state p ≡ P .initial p
+  pub buffers : (p v : ℕ) → p < P .shape .processes → v < P .shape .variables → d .buffer p v ≡ []
+  pub starts : d .memory ≡ memory
+
+-- from d the machine takes each step in turn, and ends in e
+pub data PsoTakes (P : Program) : PsoConfiguration → List PsoStep → PsoConfiguration → Type 0 where
+  done : {d : PsoConfiguration} → PsoTakes P d [] d
+  step : {d e : PsoConfiguration} {us : List PsoStep} (u : PsoStep) → T (psoMay P d u) → PsoTakes P (psoAfter P d u) us e
+      → PsoTakes P d (u ∷ us) e
+
+-- e is visited on the way of the steps us from d: at the start, and after every step taken, up to the first that is refused
+pub data PsoVisited (P : Program) : PsoConfiguration → List PsoStep → PsoConfiguration → Type 0 where
+  start : {d : PsoConfiguration} {us : List PsoStep} → PsoVisited P d us d
+  later : {d e : PsoConfiguration} {us : List PsoStep} (u : PsoStep) → T (psoMay P d u) → PsoVisited P (psoAfter P d u) us e
+      → PsoVisited P d (u ∷ us) e
+
+-- a configuration is in a target when its local states are the target's, whatever buffers and memory are
+abbrev pub PsoInTarget : Shape → (ℕ → ℕ) → PsoConfiguration → Type 0
+PsoInTarget S target d = (p : ℕ) → p < S .processes → d .state p ≡ target p
