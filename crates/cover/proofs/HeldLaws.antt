@@ -35,7 +35,7 @@ use Rattle.matching.proofs.ValueLaws.{value-waits}
 use Rattle.cover.specs.declared.place.Place.{Place}
 use Rattle.cover.specs.declared.place.Place.the-variants.{Whole, Waiting, Sent}
 use Rattle.cover.specs.Places.{partOf, valueFree, waitsFree, sentFree, isFree, placeOf, proper, fillings, NoneFree}
-use Rattle.cover.specs.Search.{Searchable, Against, Stuck}
+use Rattle.cover.specs.Search.{SearchableNear, Against, Stuck}
 use Rattle.cover.proofs.PlaceLaws.{true-not-false, waits-free, sent-free}
 use Rattle.cover.proofs.PartLaws.{waiting-is, waiting-part, waiting-valid, waiting-at, sent-is, sent-part, sent-valid, sent-at}
 
@@ -111,7 +111,7 @@ module _ (S : pws.Shape) (R : pws.ShapeInRange S) (es : List Configuration) (oes
 
 -- ---- over the entries of a file
 
-module _ {f list : List ℕ} {n : ℕ} {s : Shape} {c : Cube} (Z : Searchable f list n s c) where
+module _ {f list : List ℕ} {n : ℕ} {s : Shape} {c : Cube} (Z : SearchableNear f list n s c) where
   es : List Configuration
   es = entriesOf f list n
 
@@ -180,7 +180,7 @@ module _ {f list : List ℕ} {n : ℕ} {s : Shape} {c : Cube} (Z : Searchable f 
     all-few v l x m = let k = Z .shape .values v l in omega arith
 
     -- the parts are searched for as the whole is
-    pub searchable-part : (a : Place) → proper s c a ≡ true → (x : ℕ) → x < fillings s a → Searchable f list n s (partOf c a x)
+    pub searchable-part : (a : Place) → proper s c a ≡ true → (x : ℕ) → x < fillings s a → SearchableNear f list n s (partOf c a x)
     searchable-part Whole e x l = Z
     searchable-part (Waiting p v j) e x l =
         let w = waits-free s c p v j e in

@@ -21,7 +21,7 @@ use Rattle.matching.specs.Roles.{Roles}
 use Rattle.cover.specs.declared.place.Place.{Place}
 use Rattle.cover.specs.declared.place.Place.the-variants.{Whole, Waiting, Sent}
 use Rattle.cover.specs.Places.{partOf, proper, fillings}
-use Rattle.cover.specs.Search.{Searchable, Against, outward, Stuck}
+use Rattle.cover.specs.Search.{SearchableNear, Against, outward, Stuck}
 use Rattle.cover.proofs.PlaceLaws.{true-not-false}
 use Rattle.cover.proofs.EntryLaws.{outward-onto}
 use Rattle.cover.proofs.HeldLaws.{against, cube-covered, cube-stuck, searchable-part, parts-all, parts-one}
@@ -62,7 +62,7 @@ module _ (f list : List ℕ) (n : ℕ) (s : Shape) (c : Cube) (a : Place) where
   -- the first x parts are held
   pub record Parts (x : ℕ) : Type 0 where
     pub most : x ≤ fillings s a
-    pub held : Searchable f list n s c → (k : ℕ) → k < x → held (shapeOf s) (entriesOf f list n) (configurationOf (partOf c a k)) ≡ true
+    pub held : SearchableNear f list n s c → (k : ℕ) → k < x → held (shapeOf s) (entriesOf f list n) (configurationOf (partOf c a k)) ≡ true
 
   -- the first i entries, in turn, do not cover the part
   pub record Scanning (part : Cube) (right : List ℕ) (from x i : ℕ) : Type 0 where
@@ -75,7 +75,7 @@ module _ (f list : List ℕ) (n : ℕ) (s : Shape) (c : Cube) (a : Place) where
   pub parts-begin : Parts 0
   parts-begin = record { most = omega arith; held = λ Z k l. absurd (omega arith) }
 
-  pub parts-next : {x : ℕ} → Parts x → x < fillings s a → (Searchable f list n s c → held (shapeOf s) (entriesOf f list n) (configurationOf (partOf c a x)) ≡ true) → Parts (x + 1)
+  pub parts-next : {x : ℕ} → Parts x → x < fillings s a → (SearchableNear f list n s c → held (shapeOf s) (entriesOf f list n) (configurationOf (partOf c a x)) ≡ true) → Parts (x + 1)
   parts-next {x} w l g =
       record {
         most = omega arith;
@@ -103,8 +103,8 @@ module _ (f list : List ℕ) (n : ℕ) (s : Shape) (c : Cube) (a : Place) where
           ];
         }
 
-    part-searchable : Searchable f list n s c → Searchable f list n s part
-    part-searchable Z = subst (Searchable f list n s) (sym (w .is)) (searchable-part Z sixteen twenty a ok x (w .one))
+    part-searchable : SearchableNear f list n s c → SearchableNear f list n s part
+    part-searchable Z = subst (SearchableNear f list n s) (sym (w .is)) (searchable-part Z sixteen twenty a ok x (w .one))
 
     part-held : {b : Bool} → held (shapeOf s) (entriesOf f list n) (configurationOf part) ≡ b → held (shapeOf s) (entriesOf f list n) (configurationOf (partOf c a x)) ≡ b
     part-held e = ap (λ (k : Cube). held (shapeOf s) (entriesOf f list n) (configurationOf k)) (sym (w .is)) ∙ e
@@ -116,7 +116,7 @@ module _ (f list : List ℕ) (n : ℕ) (s : Shape) (c : Cube) (a : Place) where
           parts-next (w .parts) (w .one) (λ Z. let Y = part-searchable Z in part-held (cube-covered Y k l (g (against Y roles))))
 
       -- none covers it, and it can't be split
-      pub scanning-stuck : n ≤ i → (Against s part right → Stuck f list n s part) → Searchable f list n s c → false ≡ held (shapeOf s) (entriesOf f list n) (configurationOf c)
+      pub scanning-stuck : n ≤ i → (Against s part right → Stuck f list n s part) → SearchableNear f list n s c → false ≡ held (shapeOf s) (entriesOf f list n) (configurationOf c)
       scanning-stuck l g Z =
           let Y = part-searchable Z in
           let A = against Y roles in
@@ -125,21 +125,21 @@ module _ (f list : List ℕ) (n : ℕ) (s : Shape) (c : Cube) (a : Place) where
           (g A))))
 
     -- its own parts decide it
-    pub scanning-held : {h : Bool} → (Searchable f list n s part → h ≡ held (shapeOf s) (entriesOf f list n) (configurationOf part)) → h ≡ true → Parts (x + 1)
+    pub scanning-held : {h : Bool} → (SearchableNear f list n s part → h ≡ held (shapeOf s) (entriesOf f list n) (configurationOf part)) → h ≡ true → Parts (x + 1)
     scanning-held g e = parts-next (w .parts) (w .one) (λ Z. part-held (sym (g (part-searchable Z)) ∙ e))
 
-    pub scanning-outside : {h : Bool} → (Searchable f list n s part → h ≡ held (shapeOf s) (entriesOf f list n) (configurationOf part)) → h ≡ false
-        → Searchable f list n s c → h ≡ held (shapeOf s) (entriesOf f list n) (configurationOf c)
+    pub scanning-outside : {h : Bool} → (SearchableNear f list n s part → h ≡ held (shapeOf s) (entriesOf f list n) (configurationOf part)) → h ≡ false
+        → SearchableNear f list n s c → h ≡ held (shapeOf s) (entriesOf f list n) (configurationOf c)
     scanning-outside g e Z = e ∙ sym (parts-one Z sixteen twenty a ok x (w .one) (part-held (sym (g (part-searchable Z)) ∙ e)))
 
   pub parts-done : length (c .queues) ≡ 16 → length (c .messages) ≡ 20 → proper s c a ≡ true → {x : ℕ} → Parts x → fillings s a ≤ x
-      → Searchable f list n s c → true ≡ held (shapeOf s) (entriesOf f list n) (configurationOf c)
+      → SearchableNear f list n s c → true ≡ held (shapeOf s) (entriesOf f list n) (configurationOf c)
   parts-done m t e w l Z = sym (parts-all Z m t a e (λ k y. w .held Z k (omega arith)))
 
 -- no more entries are asked for than are searched
 pub counted : (f list : List ℕ) (m n : ℕ) (s : Shape) (c : Cube) {h : Bool} → m ≡ min n 524288
-    → (Searchable f list m s c → h ≡ held (shapeOf s) (entriesOf f list m) (configurationOf c)) → Searchable f list n s c → h ≡ held (shapeOf s) (entriesOf f list n) (configurationOf c)
+    → (SearchableNear f list m s c → h ≡ held (shapeOf s) (entriesOf f list m) (configurationOf c)) → SearchableNear f list n s c → h ≡ held (shapeOf s) (entriesOf f list n) (configurationOf c)
 counted f list m n s c {h} e g Z =
     let l = Z .count in
     let d : m ≡ n = omega arith in
-    subst (λ (k : ℕ). Searchable f list k s c → h ≡ held (shapeOf s) (entriesOf f list k) (configurationOf c)) d g Z
+    subst (λ (k : ℕ). SearchableNear f list k s c → h ≡ held (shapeOf s) (entriesOf f list k) (configurationOf c)) d g Z

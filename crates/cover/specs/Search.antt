@@ -17,15 +17,29 @@ use Rattle.records.specs.ProgramPart.{shapeOf}
 use Rattle.reading.specs.Cube.{configurationOf}
 use Rattle.contents.specs.Again.{cubeAt}
 use Rattle.matching.specs.Roles.{Roles}
+use Rattle.summary.specs.Summary.{Summed}
 use Rattle.cover.specs.Places.{NoneFree}
 
-pub record Searchable (f list : List ℕ) (n : ℕ) (s : Shape) (c : Cube) : Type 0 where
+pub record SearchableNear (f list : List ℕ) (n : ℕ) (s : Shape) (c : Cube) : Type 0 where
   pub count : n ≤ 524288
   pub shape : ShapeInRange (shapeOf s)
   pub entries : (k : ℕ) → k < n → Fits (ValueOrFF (shapeOf s)) (shapeOf s) (configurationOf (cubeAt f list k))
   pub fits : Fits (ValueOrFF (shapeOf s)) (shapeOf s) (configurationOf c)
   pub messages : c .count ≤ 20
   pub waiting : (p v : ℕ) → length (configurationOf c .queue p v) ≤ 9
+
+-- the same with the list's summary
+pub record Searchable (f list sum : List ℕ) (n : ℕ) (s : Shape) (c : Cube) : Type 0 where
+  pub count : n ≤ 524288
+  pub shape : ShapeInRange (shapeOf s)
+  pub entries : (k : ℕ) → k < n → Fits (ValueOrFF (shapeOf s)) (shapeOf s) (configurationOf (cubeAt f list k))
+  pub summed : Summed f list sum n s
+  pub fits : Fits (ValueOrFF (shapeOf s)) (shapeOf s) (configurationOf c)
+  pub messages : c .count ≤ 20
+  pub waiting : (p v : ℕ) → length (configurationOf c .queue p v) ≤ 9
+
+abbrev pub nearOf : {f list sum : List ℕ} {n : ℕ} {s : Shape} {c : Cube} → Searchable f list sum n s c → SearchableNear f list n s c
+nearOf Z = record { count = Z .count; shape = Z .shape; entries = Z .entries; fits = Z .fits; messages = Z .messages; waiting = Z .waiting }
 
 -- a cube with the roles of its messages
 pub record Against (s : Shape) (c : Cube) (held : List ℕ) : Type 0 where

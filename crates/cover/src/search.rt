@@ -10,7 +10,7 @@ ghost use Rattle.reading.specs.Cube.{configurationOf};
 ghost use Rattle.contents.specs.Again.{cubeAt, entriesOf};
 ghost use Rattle.matching.specs.Relation.{relation};
 ghost use Rattle.cover.specs.Places.{isWhole, isFree, proper};
-ghost use Rattle.cover.specs.Search.{Searchable, Against, outward, Stuck};
+ghost use Rattle.cover.specs.Search.{Searchable, SearchableNear, Against, outward, Stuck};
 use crate::gaps::Gaps;
 use crate::gaps::gaps_between;
 use crate::place::Place;
@@ -184,7 +184,7 @@ fn parts_held(
     near: usize,
 ) -> Found
     requires { ⌜ (n ≤ 524288) × (proper shape cube place ≡ true) ⌝ }
-    ensures { λ r. ⌜ (Searchable (now (file .entry)) (now (list .entry)) n shape cube → r .held ≡ held (shapeOf shape) (entriesOf (now (file .entry)) (now (list .entry)) n) (configurationOf cube)) ⌝ }
+    ensures { λ r. ⌜ (SearchableNear (now (file .entry)) (now (list .entry)) n shape cube → r .held ≡ held (shapeOf shape) (entriesOf (now (file .entry)) (now (list .entry)) n) (configurationOf cube)) ⌝ }
 {
     let sizes = rooms(cube);
     let m = fillings(shape, place);
@@ -220,16 +220,24 @@ fn parts_held(
 }
 
 // Is every filling of the cube above the list of n entries? The search begins near the entry of a number.
-pub fn search(file: &[u8], list: &[u8], n: usize, shape: Shape, cube: Cube, near: usize) -> Found
-    ensures { λ r. ⌜ (Searchable (now (file .entry)) (now (list .entry)) n shape cube → r .held ≡ held (shapeOf shape) (entriesOf (now (file .entry)) (now (list .entry)) n) (configurationOf cube)) ⌝ }
+pub fn search_near(
+    file: &[u8],
+    list: &[u8],
+    n: usize,
+    shape: Shape,
+    cube: Cube,
+    near: usize,
+) -> Found
+    ensures { λ r. ⌜ (SearchableNear (now (file .entry)) (now (list .entry)) n shape cube → r .held ≡ held (shapeOf shape) (entriesOf (now (file .entry)) (now (list .entry)) n) (configurationOf cube)) ⌝ }
 {
     let count = least(n, 524288);
     parts_held(file, list, count, shape, cube, Place::Whole, near)
 }
 
-pub fn is_held(file: &[u8], list: &[u8], n: usize, shape: Shape, cube: Cube) -> bool
-    ensures { λ r. ⌜ (Searchable (now (file .entry)) (now (list .entry)) n shape cube → r ≡ held (shapeOf shape) (entriesOf (now (file .entry)) (now (list .entry)) n) (configurationOf cube)) ⌝ }
+// Is every filling of the cube above the list of n entries? `sum` is the list's summary.
+pub fn search(file: &[u8], list: &[u8], sum: &[u8], n: usize, shape: Shape, cube: Cube) -> bool
+    ensures { λ r. ⌜ (Searchable (now (file .entry)) (now (list .entry)) (now (sum .entry)) n shape cube → r ≡ held (shapeOf shape) (entriesOf (now (file .entry)) (now (list .entry)) n) (configurationOf cube)) ⌝ }
 {
-    let found = search(file, list, n, shape, cube, 0);
+    let found = search_near(file, list, n, shape, cube, 0);
     found.held
 }
