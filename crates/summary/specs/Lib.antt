@@ -1,1 +1,3 @@
+pub mod Slots
+pub mod Groups
 pub mod Summary

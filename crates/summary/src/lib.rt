@@ -1,1 +1,12 @@
-// The summary of a list: its entries in groups by local states, in eight bytes for each entry allowed.
+// The summary of a list (request N2): its entries in groups by local states, in eight bytes for each entry allowed. Whatever bytes it holds, a walk
+// over it ends, and what it leads to is held against the file: a summary that came back changed can't make a wrong cover.
+
+mod adding;
+mod slots;
+
+pub use adding::leader_of;
+pub use adding::summarise;
+pub use slots::first_link;
+pub use slots::linked;
+pub use slots::marked;
+pub use slots::next_link;

@@ -1,0 +1,15 @@
+use mathlib.Core.Path.{_≡_, refl, sym, ap, ap₂, _∙_}
+use Rattle.reading.specs.Cube.{loadEntry}
+use borrow.Author.Needs.{needs}
+use Rattle.summary.proofs.adding.states_at.Statement.{statement}
+use Rattle.summary.proofs.adding.states_at.Tie as tie
+
+pub states-at-spec : {M : Type 1} → statement M
+unfolding loadEntry
+states-at-spec = tie.close (tie.spec
+    (λ c κs. search needs)
+    (λ c κs. search needs)
+    (λ c κs. search needs)
+    (λ c κs. search needs)
+    (λ c κs. search needs)
+    (λ c. cc))
