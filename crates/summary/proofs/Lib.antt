@@ -5,3 +5,4 @@ pub mod GroupLaws
 pub mod LeaderLaws
 pub mod AddedLaws
 pub mod WalkLaws
+pub mod OnwardLaws

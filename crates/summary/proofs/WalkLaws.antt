@@ -30,13 +30,14 @@ leads-yes x a b d e = rw (ne-eqb x 0 d) e
 
 module _ (f list sum : List ℕ) (n : ℕ) (s : Shape) (states : List ℕ) where
   pub record Walking (below link : ℕ) : Type 0 where
+    pub most : below ≤ n
     pub fuel : ℕ
     pub enough : below < fuel
     pub rest : leaderOf f list s sum n states ≡ leaderFrom f list s sum states fuel below link
 
   pub walking-begin : {number link : ℕ} → number ≡ statesNumber s states → link ≡ headLink sum (homeOf number n) → Walking n link
   unfolding leaderOf
-  walking-begin e d = record { fuel = suc n; enough = omega arith; rest = rw (d, e) }
+  walking-begin e d = record { most = omega arith; fuel = suc n; enough = omega arith; rest = rw (d, e) }
 
   module _ {below link : ℕ} (w : Walking below link) {next : ℕ} (e : next ≡ linked link) where
     some : (fuel : ℕ) → below < fuel → leaderOf f list s sum n states ≡ leaderFrom f list s sum states fuel below link → (g : ℕ) × (fuel ≡ suc g)
@@ -73,6 +74,7 @@ module _ (f list sum : List ℕ) (n : ℕ) (s : Shape) (states : List ℕ) where
         unfolding before
         walking-on x y z =
             record {
+              most = omega (arith, w .most);
               fuel = before;
               enough = let r = some (w .fuel) (w .enough) (w .rest) in let u = w .enough in omega (arith, r .1);
               rest = rw z (on ∙ rw (sym x ∙ y));

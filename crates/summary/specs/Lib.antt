@@ -1,3 +1,4 @@
 pub mod Slots
 pub mod Groups
 pub mod Summary
+pub mod Walks

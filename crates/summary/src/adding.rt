@@ -56,7 +56,7 @@ fn leads_at(
 }
 
 // The first entry with these local states, counted from 1; 0 if there is none.
-pub fn leader_of(
+pub(crate) fn leader_of(
     file: &[u8],
     list: &[u8],
     sum: &[u8],
@@ -65,7 +65,7 @@ pub fn leader_of(
     states: [u8; 4],
 ) -> usize
     ensures { λ r. ⌜ r ≡ leaderOf (now (file .entry)) (now (list .entry)) shape (now (sum .entry)) n states ⌝ }
-    ensures { λ r. ⌜ r < 1048576 ⌝ }
+    ensures { λ r. ⌜ (r < 1048576) × (r ≤ n) ⌝ }
 {
     let mut below = n;
     let mut link = first_link(sum, n, states_number(shape, states));

@@ -3,10 +3,9 @@
 
 mod adding;
 mod slots;
+mod walking;
 
-pub use adding::leader_of;
 pub use adding::summarise;
-pub use slots::first_link;
-pub use slots::linked;
-pub use slots::marked;
-pub use slots::next_link;
+pub use walking::Walk;
+pub use walking::onward;
+pub use walking::walk_from;

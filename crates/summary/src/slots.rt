@@ -40,13 +40,13 @@ fn put_word(sum: &mut [u8], i: usize, x: usize)
 // ---- links
 
 // The entry that a link leads to, counted from 1; 0 for none.
-pub fn linked(link: usize) -> usize
+pub(crate) fn linked(link: usize) -> usize
     ensures { λ r. ⌜ r ≡ linked link ⌝ }
 {
     link % 1048576
 }
 
-pub fn marked(link: usize) -> usize
+pub(crate) fn marked(link: usize) -> usize
     ensures { λ r. ⌜ r ≡ marked link ⌝ }
 {
     link / 1048576
@@ -65,7 +65,7 @@ pub(crate) fn head_link(sum: &[u8], k: usize) -> usize
 }
 
 // The link after entry k.
-pub fn next_link(sum: &[u8], k: usize) -> usize
+pub(crate) fn next_link(sum: &[u8], k: usize) -> usize
     ensures { λ r. ⌜ r ≡ nextLink (now (sum .entry)) k ⌝ }
 {
     if sum.len() / 8 < k {
@@ -144,7 +144,7 @@ pub(crate) fn mark_of(number: u64) -> usize
 }
 
 // The first link of the chain of a number.
-pub fn first_link(sum: &[u8], n: usize, number: u64) -> usize
+pub(crate) fn first_link(sum: &[u8], n: usize, number: u64) -> usize
     ensures { λ r. ⌜ r ≡ headLink (now (sum .entry)) (homeOf number n) ⌝ }
 {
     head_link(sum, home_of(number, n))

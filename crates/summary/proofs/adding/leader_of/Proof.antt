@@ -35,11 +35,11 @@ linked-requires c κs = search needs
 
 -- src/adding.rt:75:13
 returns : tie.Need-returns Inv-loop μ-loop
-returns c = (walking-end (c .before .before .before .before .before .before .before .before .args .file .now) (c .before .before .before .before .before .before .before .before .args .list .now) (c .before .before .before .before .before .before .before .before .args .sum .now) (c .before .before .before .before .before .before .before .before .args .n) (c .before .before .before .before .before .before .before .before .args .shape) (c .before .before .before .before .before .before .before .before .args .states) (c .before .before .loop .inv) (c .before .linked .ensures) (c .if1 .taken), omega arith)
+returns c = (walking-end (c .before .before .before .before .before .before .before .before .args .file .now) (c .before .before .before .before .before .before .before .before .args .list .now) (c .before .before .before .before .before .before .before .before .args .sum .now) (c .before .before .before .before .before .before .before .before .args .n) (c .before .before .before .before .before .before .before .before .args .shape) (c .before .before .before .before .before .before .before .before .args .states) (c .before .before .loop .inv) (c .before .linked .ensures) (c .if1 .taken), (omega arith, omega arith))
 
 -- src/adding.rt:78:13
 returns-2 : tie.Need-returns-2 Inv-loop μ-loop
-returns-2 c = (walking-past (c .before .before .before .before .before .before .before .before .before .args .file .now) (c .before .before .before .before .before .before .before .before .before .args .list .now) (c .before .before .before .before .before .before .before .before .before .args .sum .now) (c .before .before .before .before .before .before .before .before .before .args .n) (c .before .before .before .before .before .before .before .before .before .args .shape) (c .before .before .before .before .before .before .before .before .before .args .states) (c .before .before .before .loop .inv) (c .before .before .linked .ensures) (c .before .if1 .left) (c .if2 .taken), omega arith)
+returns-2 c = (walking-past (c .before .before .before .before .before .before .before .before .before .args .file .now) (c .before .before .before .before .before .before .before .before .before .args .list .now) (c .before .before .before .before .before .before .before .before .before .args .sum .now) (c .before .before .before .before .before .before .before .before .before .args .n) (c .before .before .before .before .before .before .before .before .before .args .shape) (c .before .before .before .before .before .before .before .before .before .args .states) (c .before .before .before .loop .inv) (c .before .before .linked .ensures) (c .before .if1 .left) (c .if2 .taken), (omega arith, omega arith))
 
 -- src/adding.rt:80:17
 sub-j : tie.Need-sub-j Inv-loop μ-loop
@@ -51,7 +51,7 @@ leads-at-requires c κs = search needs
 
 -- src/adding.rt:82:13
 returns-3 : tie.Need-returns-3 Inv-loop μ-loop
-returns-3 c = (walking-found (c .before .before .before .before .before .before .before .before .before .before .before .args .file .now) (c .before .before .before .before .before .before .before .before .before .before .before .args .list .now) (c .before .before .before .before .before .before .before .before .before .before .before .args .sum .now) (c .before .before .before .before .before .before .before .before .before .before .before .args .n) (c .before .before .before .before .before .before .before .before .before .before .before .args .shape) (c .before .before .before .before .before .before .before .before .before .before .before .args .states) (c .before .before .before .before .before .loop .inv) (c .before .before .before .before .linked .ensures) (c .before .before .before .if1 .left) (c .before .before .if2 .left) (c .before .leads-at .ensures) (c .if3 .taken), omega (arith, c .before .before .before .before .linked .ensures))
+returns-3 c = (walking-found (c .before .before .before .before .before .before .before .before .before .before .before .args .file .now) (c .before .before .before .before .before .before .before .before .before .before .before .args .list .now) (c .before .before .before .before .before .before .before .before .before .before .before .args .sum .now) (c .before .before .before .before .before .before .before .before .before .before .before .args .n) (c .before .before .before .before .before .before .before .before .before .before .before .args .shape) (c .before .before .before .before .before .before .before .before .before .before .before .args .states) (c .before .before .before .before .before .loop .inv) (c .before .before .before .before .linked .ensures) (c .before .before .before .if1 .left) (c .before .before .if2 .left) (c .before .leads-at .ensures) (c .if3 .taken), (omega (arith, c .before .before .before .before .linked .ensures), omega (arith, c .before .before .if2 .left, c .before .before .before .before .before .loop .inv .most)))
 
 -- src/adding.rt:85:9
 next-link-requires : tie.Need-next-link-requires Inv-loop μ-loop

@@ -1,0 +1,36 @@
+-- The entries that may match a cube, one after another: those of the chain of its key's number, and then the first entry of the group of its states.
+use Prim.Native.Nat.{ℕ, suc, _+_, _<_, _≤_}
+use mathlib.Core.Path.{_≡_}
+use mathlib.Core.Logic.{_⊎_}
+use mathlib.Core.Bool.{Bool, true, false, cond}
+use mathlib.Core.List.{List}
+use Rattle.records.specs.declared.program.Shape.{Shape}
+use Rattle.summary.specs.declared.walking.Walk.{Walk}
+use Rattle.summary.specs.Slots.{markOf, Met}
+use Rattle.summary.specs.Groups.{leaderOf}
+
+module _ (f list sum : List ℕ) (n : ℕ) (s : Shape) (states : List ℕ) where
+  -- entry k is still to come
+  abbrev pub Left : ℕ → ℕ → ℕ → Bool → ℕ → Type 0
+  Left number below link led k = Met sum below link k (markOf number) ⊎ ((led ≡ false) × (leaderOf f list s sum n states ≡ suc k))
+
+  -- how far a walk can still go
+  abbrev pub ahead : ℕ → Bool → ℕ
+  ahead below led = below + cond led 0 1
+
+  -- what comes after the chain
+  pub record Led (led : Bool) (w : Walk) : Type 0 where
+    pub bounded : w .below ≡ 0
+    pub stops : w .link ≡ 0
+    pub passed : w .led ≡ true
+    pub exists : w .entry ≤ n
+    pub met : led ≡ true → w .entry ≡ 0
+    pub first : led ≡ false → w .entry ≡ leaderOf f list s sum n states
+
+  -- w is the next entry, counted from 1, and what is still to come after it; or there is none
+  pub record Onward (number below link : ℕ) (led : Bool) (w : Walk) : Type 0 where
+    pub bounded : w .below ≤ n
+    pub none : w .entry ≡ 0 → (k : ℕ) → Left number below link led k → ⊥
+    pub exists : w .entry ≤ n
+    pub shorter : (w .entry ≡ 0 → ⊥) → ahead (w .below) (w .led) < ahead below led
+    pub rest : (w .entry ≡ 0 → ⊥) → (k : ℕ) → Left number below link led k → (w .entry ≡ suc k) ⊎ Left number (w .below) (w .link) (w .led) k
