@@ -1,5 +1,3 @@
 pub mod Relation
 pub mod Roles
 pub mod Match
-pub mod Number
-pub mod Tags

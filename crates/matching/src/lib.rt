@@ -13,8 +13,6 @@ ghost use Rattle.matching.specs.Roles.{withLabel, Roles, sameRow, sameRo
 ghost use Rattle.matching.specs.Match.{Suits, queueRow, channelMatches};
 ghost use Rattle.pws.specs.Machine.{allBelow};
 ghost use Rattle.records.specs.ProgramPart.{shapeOf};
-ghost use Rattle.matching.specs.Number.{statesNumber, numberOf};
-ghost use Rattle.matching.specs.Tags.{tagsOf};
 use pws::Message;
 use reading::entry::Cube;
 use reading::entry::Queue;
@@ -319,22 +317,4 @@ pub fn entry_matches(
         return false;
     }
     channel_matches(exact, shape, a, left, b, right)
-}
-
-pub fn tags_of(shape: Shape, cube: Cube) -> [u64; 20]
-    ensures { λ r. ⌜ r ≡ tagsOf shape cube ⌝ }
-{
-    [0u64; 20]
-}
-
-pub fn states_number(shape: Shape, states: [u8; 4]) -> u64
-    ensures { λ r. ⌜ r ≡ statesNumber shape states ⌝ }
-{
-    0
-}
-
-pub fn number_of(shape: Shape, cube: Cube, tags: [u64; 20]) -> u64
-    ensures { λ r. ⌜ (tags ≡ tagsOf shape cube → r ≡ numberOf shape cube) ⌝ }
-{
-    0
 }
