@@ -2,7 +2,7 @@
 ghost use mathlib.Core.Path.{_≡_};
 ghost use Prim.Native.Nat.{ℕ, min};
 ghost use Rattle.matching.specs.Tags.{tagsOf};
-ghost use Rattle.matching.specs.Number.{stir, packedStates, packedQueues, statesNumber, numberOf};
+ghost use Rattle.matching.specs.Number.{stir, packedStates, emptyBit, packedQueues, statesNumber, numberOf};
 use crate::values::least;
 use crate::values::waiting;
 use reading::entry::Cube;
@@ -19,6 +19,12 @@ fn stir(h: u64) -> u64
     d ^ d << 32
 }
 
+fn number(x: u8) -> u64
+    ensures { λ r. ⌜ r ≡ x ⌝ }
+{
+    x as u64
+}
+
 fn packed_states(processes: usize, states: [u8; 4]) -> u64
     ensures { λ r. ⌜ r ≡ packedStates (min processes 4) states ⌝ }
 {
@@ -30,10 +36,13 @@ fn packed_states(processes: usize, states: [u8; 4]) -> u64
     h
 }
 
-fn number(x: u8) -> u64
-    ensures { λ r. ⌜ r ≡ x ⌝ }
+fn empty_bit(queue: Queue) -> u64
+    ensures { λ r. ⌜ r ≡ emptyBit queue ⌝ }
 {
-    x as u64
+    if waiting(queue) == 0 {
+        return 1;
+    }
+    0
 }
 
 // h, with a bit behind it for each queue: is it empty?
@@ -46,8 +55,7 @@ fn packed_queues(shape: Shape, queues: [Queue; 16], h: u64) -> u64
     for p in 0..n {
         for v in 0..m {
             let queue = queues[4 * p + v];
-            let bit = if waiting(queue) == 0 { 1 } else { 0 };
-            packed = packed << 1 ^ bit;
+            packed = packed << 1 ^ empty_bit(queue);
         }
     }
     packed

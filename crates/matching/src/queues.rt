@@ -8,12 +8,12 @@ ghost use Rattle.reading.specs.Cube.{waitingOf};
 ghost use Rattle.lists.specs.Matching.{queueMatches};
 ghost use Rattle.matching.specs.Relation.{relation};
 ghost use Rattle.matching.specs.Match.{queueRow};
-use reading::entry::Queue;
-use records::bytes::both;
-use records::program::Shape;
 use crate::values::least;
 use crate::values::related;
 use crate::values::waiting;
+use reading::entry::Queue;
+use records::bytes::both;
+use records::program::Shape;
 
 pub fn states_match(processes: usize, a: [u8; 4], b: [u8; 4]) -> bool
     ensures { λ r. ⌜ r ≡ allBelow (min processes 4) (λ p. eqb (getD a p 0) (getD b p 0)) ⌝ }

@@ -1,6 +1,6 @@
 // Tags of messages: what a message is to each process, and its label, in one number.
 ghost use mathlib.Core.Path.{_≡_};
-ghost use Prim.Native.Nat.{ℕ, _*_, _^_, _<_, _≤_};
+ghost use Prim.Native.Nat.{ℕ, _+_, _*_, _%_, _^_, _<_, _≤_, min};
 ghost use Rattle.matching.specs.Roles.{Roles, withLabel, Labels};
 ghost use Rattle.matching.specs.Tags.{labelNumber, memoryOf, tagsOf, lowestPointer};
 use crate::values::least;
@@ -75,6 +75,13 @@ fn role_bit(q: usize) -> u64
     65536 << q
 }
 
+// The next of five turns.
+fn turned(k: usize) -> usize
+    ensures { λ r. ⌜ (k < 5 → r ≡ (k + 1) % 5) ⌝ }
+{
+    if k < 4 { k + 1 } else { 0 }
+}
+
 // The tags of a cube's messages, oldest first, and 0 past them.
 pub fn tags_of(shape: Shape, cube: Cube) -> [u64; 20]
     ensures { λ r. ⌜ r ≡ tagsOf shape cube ⌝ }
@@ -91,9 +98,15 @@ pub fn tags_of(shape: Shape, cube: Cube) -> [u64; 20]
         if both(k <= variables, both(0 < i, i <= n)) {
             tags[i - 1] += role_bit(q);
         }
-        k = if k == 4 { 0 } else { k + 1 };
+        k = turned(k);
     }
     tags
+}
+
+fn lesser(a: u8, b: u8) -> u8
+    ensures { λ r. ⌜ r ≡ min a b ⌝ }
+{
+    if a <= b { a } else { b }
 }
 
 // The number of the first message from the lowest pointer on.
@@ -103,10 +116,7 @@ pub fn lowest(shape: Shape, pointers: [u8; 4]) -> u8
     let n = least(shape.processes, 4);
     let mut low = 255;
     for p in 0..n {
-        let pointer = pointers[p];
-        if pointer < low {
-            low = pointer;
-        }
+        low = lesser(low, pointers[p]);
     }
     if low == 0 { 1 } else { low }
 }

@@ -1,22 +1,14 @@
-use native.Mathlib.Omega.{arith}
+use Rattle.matching.specs.Relation.{relation}
+use Rattle.matching.proofs.TagLaws.{tags-differ, tags-agree}
 use borrow.Author.Needs.{needs}
 use Rattle.matching.proofs.channel.message_matches.Statement.{statement}
 use Rattle.matching.proofs.channel.message_matches.Tie as tie
-use Rattle.matching.proofs.channel.message_matches.Reads as reads
-use Rattle.matching.proofs.channel.message_matches.Lts as lts
-use Rattle.matching.proofs.values.values_related.Reads as values-related-reads
-
--- src/channel.rt:27:9
-returns : tie.Need-returns
-returns c = search needs
-
--- src/channel.rt:31:5
-values-related-requires : tie.Need-values-related-requires
-values-related-requires c κs = search needs
-
--- src/channel.rt:23:1
-returns-2 : tie.Need-returns-2
-returns-2 c = search needs
 
 pub message-matches-spec : {M : Type 1} → statement M
-message-matches-spec = tie.close (tie.spec returns values-related-requires returns-2)
+message-matches-spec = tie.close (tie.spec
+    -- returns
+    (λ c m n e f. tags-differ (relation (c .before .args .exact)) (c .before .args .a) (c .before .args .b) m n (c .if1 .taken) e f)
+    -- values-related-requires
+    (λ c κs. search needs)
+    -- returns-2
+    (λ c m n e f. tags-agree (relation (c .before .before .before .before .args .exact)) (c .before .before .before .before .args .a) (c .before .before .before .before .args .b) m n (record { process = search needs; variable = search needs }) (record { process = search needs; variable = search needs }) (c .before .before .before .if1 .left) (c .values-related .ensures) e f))

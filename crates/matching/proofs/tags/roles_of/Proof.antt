@@ -1,4 +1,4 @@
-use Prim.Native.Nat.{_-_, _≤_}
+use Prim.Native.Nat.{_-_, _≤_, min}
 use mathlib.Core.Path.{_≡_}
 use mathlib.Core.List.{[], _∷_}
 use native.Mathlib.Omega.{arith}
@@ -47,4 +47,4 @@ roles-of-spec = tie.close (tie.spec
     -- loop-again 124:5
     (λ c. (rw (c .with-label .ensures) (roles-next (c .before .before .before .loop .inv .0)), omega (arith, c .before .before .loop-test .taken)))
     -- returns 113:1
-    (λ c l. let e : c .before .loop .i ≡ c .before .before .before .before .before .args .cube .count = omega (arith, c .loop-test .left, c .before .loop .inv .1, c .before .before .least .ensures) in let x : length (c .before .before .before .before .before .args .cube .pointers) ≡ 4 = search needs in rw (four-list (c .before .before .before .before .before .args .cube .pointers) x) at (rw e at (roles-all (getD (c .before .before .before .before .before .args .cube .pointers) 0 0 ∷ getD (c .before .before .before .before .before .args .cube .pointers) 1 0 ∷ getD (c .before .before .before .before .before .args .cube .pointers) 2 0 ∷ getD (c .before .before .before .before .before .args .cube .pointers) 3 0 ∷ []) (c .before .loop .inv .0)))))
+    (λ c. let e : c .before .loop .i ≡ min (c .before .before .before .before .before .args .cube .count) 20 = omega (arith, c .loop-test .left, c .before .loop .inv .1, c .before .before .least .ensures) in let x : length (c .before .before .before .before .before .args .cube .pointers) ≡ 4 = search needs in rw (four-list (c .before .before .before .before .before .args .cube .pointers) x) at (rw e at (roles-all (getD (c .before .before .before .before .before .args .cube .pointers) 0 0 ∷ getD (c .before .before .before .before .before .args .cube .pointers) 1 0 ∷ getD (c .before .before .before .before .before .args .cube .pointers) 2 0 ∷ getD (c .before .before .before .before .before .args .cube .pointers) 3 0 ∷ []) (c .before .loop .inv .0)))))
