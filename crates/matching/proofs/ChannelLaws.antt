@@ -1,67 +1,46 @@
--- Messages with their roles, matched newest first.
-use Prim.Native.Nat.{ℕ, zero, suc, _+_, _-_, _*_, _<_, _≤_, min}
+-- Messages with their roles, matched newest first by their tags.
+use Prim.Native.Nat.{ℕ, zero, suc, _+_, _-_, _*_, _<_, _≤_, min, max}
 use mathlib.Core.Path.{_≡_, refl, sym, ap, ap₂, _∙_}
-use mathlib.Core.Bool.{Bool, true, false, cond, _&&_}
+use mathlib.Core.Bool.{Bool, true, false, cond, _&&_, _||_}
 use mathlib.Core.List.{List, [], _∷_}
 use native.Mathlib.Omega.{arith}
+use native.Mathlib.Decide.{decLe}
 use lib.ListN.{length, getD}
-use lib.Dec.{eqb, leb, ltb}
-use borrow.Author.Tests.{ltb-true, lt-ltb}
+use lib.Dec.{eqb, leb}
+use borrow.Author.Tests.{le-leb, lt-leb}
 use Rattle.pws.specs.declared.Message.{Message}
-use Rattle.pws.specs.Program as pws
-use Rattle.pws.specs.Machine.{Memory, noMessage, lastWrite, allBelow}
-use Rattle.pws.specs.Tagged.{Tagged, table, anyBelow, roles, isLive, taggedFrom, tagged}
+use Rattle.pws.specs.Machine.{noMessage}
+use Rattle.pws.specs.Tagged.{Tagged, anyBelow, roles, isLive, taggedFrom}
 use Rattle.records.specs.declared.program.Shape.{Shape}
 use Rattle.reading.specs.declared.entry.Cube.{Cube}
 use Rattle.records.specs.ProgramPart.{shapeOf}
 use Rattle.reading.specs.Cube.{channelOf, configurationOf}
-use Rattle.records.proofs.ProgramLaws.{and-true}
 use Rattle.reading.proofs.CubeParts.{channel-length}
 use Rattle.lists.specs.Values.{pairwise}
 use Rattle.lists.specs.Matching.{same, subsequence, messageMatches, tagMatches}
 use Rattle.matching.specs.Relation.{relation}
-use Rattle.matching.specs.Roles.{Roles, sameRow, sameRoles, liveFor}
+use Rattle.matching.specs.Tags.{mask, labelNumber, tagOf, tagsOf, lowestBelow, lowestPointer}
 use Rattle.matching.specs.Match.{Sizes, Suits, channelMatches}
-use Rattle.matching.proofs.Below.{all-equal, any-equal, table-pairs}
+use Rattle.matching.proofs.Below.{or-true}
+use Rattle.matching.proofs.TagLaws.{roles-test, tag-is}
+use Rattle.matching.proofs.MarkLaws.{tags-at}
 
--- ---- roles
+-- ---- the lowest pointer
 
-module _ (s : Shape) (few : s .processes ≤ 4) (narrow : s .variables ≤ 4) where
-  abbrev S : pws.Shape
-  S = shapeOf s
+low-or : (a b i : ℕ) → leb (min a b) i ≡ leb b i || leb a i
+low-or a b i = elim (decLe b i) [
+  | yes d ↦ le-leb (min a b) i (omega arith) ∙ sym (ap (λ (x : Bool). x || leb a i) (le-leb b i d))
+  | no d ↦ elim (decLe a i) [
+    | yes e ↦ le-leb (min a b) i (omega arith) ∙ sym (ap₂ _||_ (lt-leb b i (omega arith)) (le-leb a i e))
+    | no e ↦ lt-leb (min a b) i (omega arith) ∙ sym (ap₂ _||_ (lt-leb b i (omega arith)) (lt-leb a i (omega arith)))
+  ]
+]
 
-  few-is : min (s .processes) 4 ≡ s .processes
-  few-is = omega arith
-
-  narrow-is : min (s .variables) 4 ≡ s .variables
-  narrow-is = omega arith
-
-  pub live-is : (zs : List ℕ) (ms : List Message) (i : ℕ) → liveFor s zs i ≡ isLive S (record { channel = ms; pointer = λ p. getD zs p 0 }) i
-  unfolding liveFor
-  live-is zs ms i = ap (λ (n : ℕ). anyBelow n (λ p. leb (getD zs p 0) i)) few-is
-
-  module _ {a b : List ℕ} {m n : Memory} (A : Roles a m) (B : Roles b n) where
-    row-is : (i j p : ℕ) → p < 4
-        → sameRow (s .variables) a i b j p ≡ pairwise same (eqb (m .pointer p) i ∷ table (s .variables) (λ v. eqb (lastWrite m p v) i)) (eqb (n .pointer p) j ∷ table (s .variables) (λ v. eqb (lastWrite n p v) j))
-    unfolding sameRow
-    row-is i j p l = ap₂ _&&_
-        (ap₂ (λ (x y : ℕ). same (eqb x i) (eqb y j)) (A .pointer p l) (B .pointer p l))
-        (ap (λ (k : ℕ). allBelow k (λ v. same (eqb (getD a (5 * p + 1 + v) 0) i) (eqb (getD b (5 * p + 1 + v) 0) j))) narrow-is
-        ∙ all-equal (s .variables) _ (λ v. same (eqb (lastWrite m p v) i) (eqb (lastWrite n p v) j))
-        (λ v k. ap₂ (λ (x y : ℕ). same (eqb x i) (eqb y j)) (A .written p v l (omega arith)) (B .written p v l (omega arith)))
-        ∙ sym (table-pairs same (s .variables) (λ v. eqb (lastWrite m p v) i) (λ v. eqb (lastWrite n p v) j)))
-
-    pub roles-is : (i j : ℕ) → sameRoles s a i b j ≡ pairwise (pairwise same) (roles S m i) (roles S n j)
-    unfolding sameRoles
-    roles-is i j =
-        ap (λ (k : ℕ). allBelow k (sameRow (s .variables) a i b j)) few-is
-        ∙ all-equal (s .processes) (sameRow (s .variables) a i b j) _ (λ p l. row-is i j p (omega arith))
-        ∙ sym (table-pairs (pairwise same) (s .processes) (λ p. eqb (m .pointer p) i ∷ table (s .variables) (λ v. eqb (lastWrite m p v) i)) (λ p. eqb (n .pointer p) j ∷ table (s .variables) (λ v. eqb (lastWrite n p v) j)))
+low-any : (n : ℕ) (zs : List ℕ) (i : ℕ) → i < 255 → anyBelow n (λ p. leb (getD zs p 0) i) ≡ leb (lowestBelow n zs) i
+low-any zero zs i l = sym (lt-leb 255 i l)
+low-any (suc n) zs i l = ap (_||_ (leb (getD zs n 0) i)) (low-any n zs i l) ∙ sym (low-or (lowestBelow n zs) (getD zs n 0) i)
 
 -- ---- the messages up to a number
-
-pub some-positive : (i : ℕ) (b : Bool) → ltb 0 i && b ≡ true → 0 < i
-some-positive i b e = ltb-true 0 i (and-true (ltb 0 i) b e .0)
 
 abbrev pub tag : Shape → Cube → ℕ → Tagged
 tag s a i = record { message = getD (a .messages) (i - 1) noMessage; roles = roles (shapeOf s) (configurationOf a .memory) i }
@@ -69,31 +48,48 @@ tag s a i = record { message = getD (a .messages) (i - 1) noMessage; roles = rol
 abbrev pub upTo : Shape → Cube → ℕ → List Tagged
 upTo s a i = taggedFrom (shapeOf s) (configurationOf a .memory) (channelOf (a .messages) i)
 
-module _ (s : Shape) (few : s .processes ≤ 4) (narrow : s .variables ≤ 4) (a : Cube) where
-  live : (n : ℕ) → isLive (shapeOf s) (configurationOf a .memory) (suc (length (channelOf (a .messages) n))) ≡ liveFor s (a .pointers) (suc n)
-  live n = ap (λ (k : ℕ). isLive (shapeOf s) (configurationOf a .memory) (suc k)) (channel-length (a .messages) n) ∙ sym (live-is s few narrow (a .pointers) (channelOf (a .messages) (a .count)) (suc n))
+module _ (s : Shape) (few : s .processes ≤ 4) (a : Cube) where
+  live : (n : ℕ) → n < 254 → isLive (shapeOf s) (configurationOf a .memory) (suc (length (channelOf (a .messages) n))) ≡ leb (lowestBelow (min (s .processes) 4) (a .pointers)) (suc n)
+  live n l =
+      let e : s .processes ≡ min (s .processes) 4 = omega arith in
+      ap (λ (k : ℕ). isLive (shapeOf s) (configurationOf a .memory) (suc k)) (channel-length (a .messages) n)
+      ∙ low-any (s .processes) (a .pointers) (suc n) (omega arith)
+      ∙ ap (λ (k : ℕ). leb (lowestBelow k (a .pointers)) (suc n)) e
 
   abbrev consed : ℕ → ℕ → List Tagged
   consed n k = record { message = getD (a .messages) n noMessage; roles = roles (shapeOf s) (configurationOf a .memory) (suc k) } ∷ upTo s a n
 
-  pub up-none : (i : ℕ) → ltb 0 i && liveFor s (a .pointers) i ≡ false → upTo s a i ≡ []
-  up-none zero e = refl
-  up-none (suc n) e = rw (live n ∙ ap (λ (k : Bool). k && liveFor s (a .pointers) (suc n)) (sym (lt-ltb 0 (suc n) (omega arith))) ∙ e) refl
+  pub up-none : (i : ℕ) → i ≤ 20 → i < lowestPointer s (a .pointers) → upTo s a i ≡ []
+  unfolding lowestPointer
+  up-none zero l e = refl
+  up-none (suc n) l e = rw (live n (omega arith) ∙ lt-leb (lowestBelow (min (s .processes) 4) (a .pointers)) (suc n) (omega arith)) refl
 
-  pub up-some : (i : ℕ) → ltb 0 i && liveFor s (a .pointers) i ≡ true → upTo s a i ≡ tag s a i ∷ upTo s a (i - 1)
-  up-some zero e = let l = some-positive 0 (liveFor s (a .pointers) 0) e in absurd (omega arith)
-  up-some (suc n) e =
+  pub up-some : (i : ℕ) → i ≤ 20 → lowestPointer s (a .pointers) ≤ i → upTo s a i ≡ tag s a i ∷ upTo s a (i - 1)
+  unfolding lowestPointer
+  up-some zero l e = absurd (omega arith)
+  up-some (suc n) l e =
       let z : suc n - 1 ≡ n = omega arith in
-      rw z (rw (live n ∙ and-true (ltb 0 (suc n)) _ e .1) (ap (consed n) (channel-length (a .messages) n)))
+      rw z (rw (live n (omega arith) ∙ le-leb (lowestBelow (min (s .processes) 4) (a .pointers)) (suc n) (omega arith)) (ap (consed n) (channel-length (a .messages) n)))
+
+pub low-positive : (s : Shape) (zs : List ℕ) → 0 < lowestPointer s zs
+unfolding lowestPointer
+low-positive s zs = omega arith
 
 -- ---- the loop
 
 module _ (exact : Bool) (s : Shape) (a : Cube) (left : List ℕ) (b : Cube) (right : List ℕ) where
   -- what is left to match up to i and j decides the whole
   pub record Newest (i j : ℕ) : Type 0 where
-    pub first : i ≤ 20
-    pub second : j ≤ 20
+    pub first : i ≤ min (a .count) 20
+    pub second : j ≤ min (b .count) 20
     pub same : Suits s a left b right → subsequence (tagMatches (relation exact)) (upTo s a i) (upTo s b j) ≡ channelMatches s exact a b
+
+  -- what the test of messages i and j says
+  abbrev pub Tested : Bool → ℕ → ℕ → Type 0
+  Tested r i j =
+      (m n : ℕ) → getD left (i - 1) 0 ≡ 65536 * m + labelNumber (getD (a .messages) (i - 1) noMessage)
+      → getD right (j - 1) 0 ≡ 65536 * n + labelNumber (getD (b .messages) (j - 1) noMessage)
+      → r ≡ eqb m n && messageMatches (relation exact) (getD (a .messages) (i - 1) noMessage) (getD (b .messages) (j - 1) noMessage)
 
   pub newest-begin : (i j : ℕ) → i ≡ min (a .count) 20 → j ≡ min (b .count) 20 → Newest i j
   unfolding channelMatches
@@ -110,54 +106,62 @@ module _ (exact : Bool) (s : Shape) (a : Cube) (left : List ℕ) (b : Cube) (rig
       }
 
   module _ {i j : ℕ} (w : Newest i j) where
-    pub newest-all : ltb 0 i && liveFor s (a .pointers) i ≡ false → Suits s a left b right → true ≡ channelMatches s exact a b
+    pub newest-all : i < lowestPointer s (a .pointers) → Suits s a left b right → true ≡ channelMatches s exact a b
     newest-all e z =
-        ap (λ (xs : List Tagged). subsequence (tagMatches (relation exact)) xs (upTo s b j)) (sym (up-none s (z .sizes .processes) (z .sizes .variables) a i e)) ∙ w .same z
+        ap (λ (xs : List Tagged). subsequence (tagMatches (relation exact)) xs (upTo s b j)) (sym (up-none s (z .sizes .processes) a i (omega (arith, w .first)) e)) ∙ w .same z
 
-    module _ (e : ltb 0 i && liveFor s (a .pointers) i ≡ true) where
+    module _ (e : lowestPointer s (a .pointers) ≤ i) where
       some-left : (z : Suits s a left b right) → upTo s a i ≡ tag s a i ∷ upTo s a (i - 1)
-      some-left z = up-some s (z .sizes .processes) (z .sizes .variables) a i e
+      some-left z = up-some s (z .sizes .processes) a i (omega (arith, w .first)) e
 
-      pub newest-none : ltb 0 j && liveFor s (b .pointers) j ≡ false → Suits s a left b right → false ≡ channelMatches s exact a b
+      pub newest-none : j < lowestPointer s (b .pointers) → Suits s a left b right → false ≡ channelMatches s exact a b
       newest-none f z =
-          ap₂ (subsequence (tagMatches (relation exact))) (sym (some-left z)) (sym (up-none s (z .sizes .processes) (z .sizes .variables) b j f)) ∙ w .same z
+          ap₂ (subsequence (tagMatches (relation exact))) (sym (some-left z)) (sym (up-none s (z .sizes .processes) b j (omega (arith, w .second)) f)) ∙ w .same z
 
-      module _ (f : ltb 0 j && liveFor s (b .pointers) j ≡ true) where
+      module _ (f : lowestPointer s (b .pointers) ≤ j) where
         both-sides : (z : Suits s a left b right)
             → subsequence (tagMatches (relation exact)) (tag s a i ∷ upTo s a (i - 1)) (tag s b j ∷ upTo s b (j - 1)) ≡ channelMatches s exact a b
         both-sides z =
-            ap₂ (subsequence (tagMatches (relation exact))) (sym (some-left z)) (sym (up-some s (z .sizes .processes) (z .sizes .variables) b j f)) ∙ w .same z
+            ap₂ (subsequence (tagMatches (relation exact))) (sym (some-left z)) (sym (up-some s (z .sizes .processes) b j (omega (arith, w .second)) f)) ∙ w .same z
 
-        tags : (c : Bool) → sameRoles s left i right j && messageMatches (relation exact) (getD (a .messages) (i - 1) noMessage) (getD (b .messages) (j - 1) noMessage) ≡ c
-            → (z : Suits s a left b right) → tagMatches (relation exact) (tag s a i) (tag s b j) ≡ c
-        tags c g z =
+        tested : (r : Bool) → Tested r i j → (z : Suits s a left b right) → tagMatches (relation exact) (tag s a i) (tag s b j) ≡ r
+        tested r t z =
             ap (λ (k : Bool). k && messageMatches (relation exact) (getD (a .messages) (i - 1) noMessage) (getD (b .messages) (j - 1) noMessage))
-            (sym (roles-is s (z .sizes .processes) (z .sizes .variables) (z .leftRoles) (z .rightRoles) i j))
-            ∙ g
+            (roles-test (shapeOf s) (z .sizes .variables) (configurationOf a .memory) i (configurationOf b .memory) j (omega (arith, low-positive s (a .pointers))) (omega (arith, low-positive s (b .pointers))))
+            ∙ sym (t (M a i) (M b j) (held a left (z .leftTags) (z .sizes .left) i (omega (arith, w .first)) (omega (arith, low-positive s (a .pointers))) (omega (arith, w .first)))
+            (held b right (z .rightTags) (z .sizes .right) j (omega (arith, w .second)) (omega (arith, low-positive s (b .pointers))) (omega (arith, w .second))))
+          where
+            M : Cube → ℕ → ℕ
+            M c n = mask (s .processes) (s .variables) (configurationOf c .memory) n
 
-        numbered : {k l : ℕ} → k ≡ i → l ≡ j → sameRoles s left i right j && messageMatches (relation exact) (getD (a .messages) (i - 1) noMessage) (getD (b .messages) (j - 1) noMessage) ≡ sameRoles s left i right j && messageMatches (relation exact) (getD (a .messages) (k - 1) noMessage) (getD (b .messages) (l - 1) noMessage)
-        numbered x y =
-            ap₂ (λ (k l : ℕ). sameRoles s left i right j && messageMatches (relation exact) (getD (a .messages) (k - 1) noMessage) (getD (b .messages) (l - 1) noMessage)) (sym x) (sym y)
+            held : (c : Cube) (tags : List ℕ) → tags ≡ tagsOf s c → c .count ≤ 20 → (n : ℕ) → n ≤ 20 → 1 ≤ n → n ≤ c .count
+                → getD tags (n - 1) 0 ≡ 65536 * M c n + labelNumber (getD (c .messages) (n - 1) noMessage)
+            held c tags e l n x y u =
+                let f : suc (n - 1) ≡ n = omega arith in
+                ap (λ (ts : List ℕ). getD ts (n - 1) 0) e
+                ∙ tags-at s c (n - 1) (omega arith) (omega arith)
+                ∙ ap (tagOf s c) f
+                ∙ tag-is s (z .sizes .processes) (z .sizes .variables) c l n
 
         step : (c : Bool) (x y : Tagged) (us vs : List Tagged) → tagMatches (relation exact) x y ≡ c
             → subsequence (tagMatches (relation exact)) (x ∷ us) (y ∷ vs) ≡ cond c (subsequence (tagMatches (relation exact)) us vs) (subsequence (tagMatches (relation exact)) (x ∷ us) vs)
         step true x y us vs g = ap (λ (k : Bool). elim k [ true ↦ subsequence (tagMatches (relation exact)) us vs | false ↦ subsequence (tagMatches (relation exact)) (x ∷ us) vs ]) g
         step false x y us vs g = ap (λ (k : Bool). elim k [ true ↦ subsequence (tagMatches (relation exact)) us vs | false ↦ subsequence (tagMatches (relation exact)) (x ∷ us) vs ]) g
 
-        pub newest-match : {k l : ℕ} → k ≡ i → l ≡ j → sameRoles s left i right j && messageMatches (relation exact) (getD (a .messages) (k - 1) noMessage) (getD (b .messages) (l - 1) noMessage) ≡ true → Newest (i - 1) (j - 1)
-        newest-match {k} {l} x y g =
+        pub newest-match : {r : Bool} → Tested r i j → r ≡ true → Newest (i - 1) (j - 1)
+        newest-match {r} t g =
             record {
               first = omega (arith, w .first);
               second = omega (arith, w .second);
-              same = λ z. sym (step true (tag s a i) (tag s b j) (upTo s a (i - 1)) (upTo s b (j - 1)) (tags true (numbered x y ∙ g) z)) ∙ both-sides z;
+              same = λ z. sym (step true (tag s a i) (tag s b j) (upTo s a (i - 1)) (upTo s b (j - 1)) (tested r t z ∙ g)) ∙ both-sides z;
             }
 
-        pub newest-skip : {k l : ℕ} → k ≡ i → l ≡ j → sameRoles s left i right j && messageMatches (relation exact) (getD (a .messages) (k - 1) noMessage) (getD (b .messages) (l - 1) noMessage) ≡ false → Newest i (j - 1)
-        newest-skip {k} {l} x y g =
+        pub newest-skip : {r : Bool} → Tested r i j → r ≡ false → Newest i (j - 1)
+        newest-skip {r} t g =
             record {
               first = w .first;
               second = omega (arith, w .second);
               same = λ z.
                   ap (λ (us : List Tagged). subsequence (tagMatches (relation exact)) us (upTo s b (j - 1))) (some-left z)
-                  ∙ sym (step false (tag s a i) (tag s b j) (upTo s a (i - 1)) (upTo s b (j - 1)) (tags false (numbered x y ∙ g) z)) ∙ both-sides z;
+                  ∙ sym (step false (tag s a i) (tag s b j) (upTo s a (i - 1)) (upTo s b (j - 1)) (tested r t z ∙ g)) ∙ both-sides z;
             }

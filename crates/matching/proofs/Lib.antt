@@ -1,5 +1,11 @@
 pub mod ValueLaws
 pub mod Below
+pub mod SumLaws
+pub mod TagLaws
 pub mod RoleLaws
+pub mod MarkLaws
 pub mod ChannelLaws
 pub mod MatchLaws
+pub mod KeyLaws
+pub mod NumberLaws
+pub mod PackLaws

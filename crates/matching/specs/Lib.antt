@@ -1,3 +1,6 @@
 pub mod Relation
+pub mod Tags
 pub mod Roles
 pub mod Match
+pub mod Key
+pub mod Number

@@ -1,5 +1,6 @@
 -- The parts of a match between an entry and a cube, as the code holds them.
 use Prim.Native.Nat.{ℕ, _+_, _*_, _≤_, min}
+use mathlib.Core.Path.{_≡_}
 use mathlib.Core.Bool.{Bool}
 use mathlib.Core.List.{List}
 use lib.ListN.{getD}
@@ -12,7 +13,7 @@ use Rattle.reading.specs.declared.entry.Queue.{Queue}
 use Rattle.reading.specs.Cube.{noQueue, waitingOf, configurationOf}
 use Rattle.lists.specs.Matching.{subsequence, queueMatches, tagMatches}
 use Rattle.matching.specs.Relation.{relation}
-use Rattle.matching.specs.Roles.{Roles}
+use Rattle.matching.specs.Tags.{tagsOf}
 
 -- the shape and the cubes have the sizes that the code has room for
 pub record Sizes (s : Shape) (a b : Cube) : Type 0 where
@@ -21,10 +22,11 @@ pub record Sizes (s : Shape) (a b : Cube) : Type 0 where
   pub left : a .count ≤ 20
   pub right : b .count ≤ 20
 
+-- and beside each cube stand its tags
 pub record Suits (s : Shape) (a : Cube) (left : List ℕ) (b : Cube) (right : List ℕ) : Type 0 where
   pub sizes : Sizes s a b
-  pub leftRoles : Roles left (configurationOf a .memory)
-  pub rightRoles : Roles right (configurationOf b .memory)
+  pub leftTags : left ≡ tagsOf s a
+  pub rightTags : right ≡ tagsOf s b
 
 -- the queues of process p
 unfoldable pub queueRow : ℕ → Bool → List Queue → List Queue → ℕ → Bool

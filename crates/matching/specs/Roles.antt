@@ -1,16 +1,14 @@
 -- Roles as the code holds them, in twenty places: no statement rests on these definitions but through `Roles`.
-use Prim.Native.Nat.{ℕ, _+_, _*_, _<_, min}
+use Prim.Native.Nat.{ℕ, _+_, _*_, _<_, _≤_}
 use mathlib.Core.Path.{_≡_}
 use mathlib.Core.Bool.{Bool, _&&_}
 use mathlib.Core.List.{List}
-use lib.ListN.{getD, set}
-use lib.Dec.{eqb, leb, ltb}
+use lib.ListN.{length, getD, set}
+use lib.Dec.{leb, ltb}
 use Rattle.pws.specs.declared.Message.{Message}
-use Rattle.pws.specs.Machine.{Memory, lastWrite, allBelow}
-use Rattle.pws.specs.Tagged.{anyBelow}
-use Rattle.records.specs.declared.program.Shape.{Shape}
+use Rattle.pws.specs.Machine.{Memory, noMessage, lastWrite}
 use Rattle.records.specs.Bytes.{choose}
-use Rattle.lists.specs.Matching.{same}
+use Rattle.matching.specs.Tags.{labelNumber}
 
 -- of process p, at 5 p the message that it points at, and at 5 p + 1 + v its LastWrite of v
 pub record Roles (roles : List ℕ) (m : Memory) : Type 0 where
@@ -23,14 +21,9 @@ withLabel roles m n =
     (λ _. choose (leb n (getD roles (5 * m .process + 1 + m .variable) 0)) (λ _. roles) (λ _. set roles (5 * m .process + 1 + m .variable) n))
     (λ _. roles)
 
--- messages i and j are the same to process p, by their roles a and b
-unfoldable pub sameRow : ℕ → List ℕ → ℕ → List ℕ → ℕ → ℕ → Bool
-sameRow variables a i b j p =
-    same (eqb (getD a (5 * p) 0) i) (eqb (getD b (5 * p) 0) j)
-    && allBelow (min variables 4) (λ v. same (eqb (getD a (5 * p + 1 + v) 0) i) (eqb (getD b (5 * p + 1 + v) 0) j))
-
-unfoldable pub sameRoles : Shape → List ℕ → ℕ → List ℕ → ℕ → Bool
-sameRoles s a i b j = allBelow (min (s .processes) 4) (sameRow (s .variables) a i b j)
-
-unfoldable pub liveFor : Shape → List ℕ → ℕ → Bool
-liveFor s pointers i = anyBelow (min (s .processes) 4) (λ p. leb (getD pointers p 0) i)
+-- the labels of the first n of twenty messages
+pub record Labels (labels : List ℕ) (messages : List Message) (n : ℕ) : Type 0 where
+  pub room : length labels ≡ 20
+  pub here : (i : ℕ) → i < n → getD labels i 0 ≡ labelNumber (getD messages i noMessage)
+  pub past : (i : ℕ) → n ≤ i → getD labels i 0 ≡ 0
+  pub low : (i : ℕ) → getD labels i 0 < 65536

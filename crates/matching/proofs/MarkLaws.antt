@@ -1,0 +1,211 @@
+-- Labels and roles, written into the tags one after the other.
+use Prim.Native.Nat.{ℕ, zero, suc, _+_, _-_, _*_, _/_, _%_, _^_, _<_, _≤_, min}
+use mathlib.Core.Path.{_≡_, refl, sym, ap, ap₂, subst, _∙_}
+use mathlib.Core.Bool.{Bool, true, false, cond, _&&_, true≢false}
+use mathlib.Core.List.{List, [], _∷_}
+use native.Mathlib.Omega.{arith}
+use native.Mathlib.Numerals.{unary-clauses}
+use native.Mathlib.Decide.{decLe, decLt, ℕ-discrete}
+use lib.ListN.{length, getD, set, length-set}
+use lib.Seq.{getD-set-same, getD-set-other, ext-getD}
+use lib.Dec.{eqb, ltb, leb}
+use lib.Pow.{pow-mono}
+use borrow.Author.Tests.{ltb-true, leb-true, lt-ltb, le-ltb, le-leb, eq-eqb, ne-eqb}
+use Rattle.pws.specs.declared.Message.{Message}
+use Rattle.pws.specs.Machine.{Memory, noMessage}
+use Rattle.records.specs.declared.program.Shape.{Shape}
+use Rattle.records.proofs.ProgramLaws.{and-true}
+use Rattle.reading.specs.declared.entry.Cube.{Cube}
+use Rattle.matching.specs.Tags.{sumBelow, listBelow, roleOf, roleAt, mask, labelNumber, memoryOf, tagOf, tagsOf}
+use Rattle.matching.specs.Roles.{Roles, Labels}
+use Rattle.matching.proofs.SumLaws.{bits}
+use Rattle.matching.proofs.TagLaws.{role-exists, role-absent}
+
+-- ---- lists of twenty
+
+pub list-length : (n : ℕ) (f : ℕ → ℕ) → length (listBelow n f) ≡ n
+list-length zero f = refl
+list-length (suc n) f = ap suc (list-length n (λ i. f (suc i)))
+
+pub list-at : (n : ℕ) (f : ℕ → ℕ) (i : ℕ) → i < n → getD (listBelow n f) i 0 ≡ f i
+list-at zero f i l = absurd (omega arith)
+list-at (suc n) f zero l = refl
+list-at (suc n) f (suc i) l = list-at n (λ k. f (suc k)) i (omega arith)
+
+pub tags-length : (s : Shape) (c : Cube) → length (tagsOf s c) ≡ 20
+unfolding tagsOf
+tags-length s c = list-length 20 (λ i. cond (ltb i (min (c .count) 20)) (tagOf s c (suc i)) 0)
+
+pub tags-at : (s : Shape) (c : Cube) (i : ℕ) → i < c .count → i < 20 → getD (tagsOf s c) i 0 ≡ tagOf s c (suc i)
+unfolding tagsOf
+tags-at s c i l k =
+    list-at 20 (λ i. cond (ltb i (min (c .count) 20)) (tagOf s c (suc i)) 0) i k
+    ∙ rw (lt-ltb i (min (c .count) 20) (omega arith)) refl
+
+-- ---- label by label
+
+pub record LabelsTo (labels : List ℕ) (ms : List Message) (n i : ℕ) : Type 0 where
+  pub most : i ≤ n
+  pub to : Labels labels ms i
+
+pub labels-begin : (ms : List Message) (n : ℕ) {labels : List ℕ} → length labels ≡ 20 → ((i : ℕ) → getD labels i 0 ≡ 0) → LabelsTo labels ms n 0
+labels-begin ms n e f =
+    record {
+      most = omega arith;
+      to = record { room = e; here = λ i l. absurd (omega arith); past = λ i l. f i; low = λ i. omega (arith, f i) };
+    }
+
+pub labels-next : {labels : List ℕ} {ms : List Message} {n i x : ℕ} → LabelsTo labels ms n i → i < n → n ≤ 20 → x ≡ labelNumber (getD ms i noMessage) → x < 65536
+    → LabelsTo (set labels i x) ms n (i + 1)
+labels-next {labels} {ms} {n} {i} {x} w l m e k =
+    record {
+      most = omega arith;
+      to = record {
+        room = length-set labels i x ∙ w .to .room;
+        here = λ j a. elim (ℕ-discrete j i) [
+          | yes d ↦ ap (λ (z : ℕ). getD (set labels i x) z 0) d ∙ new ∙ e ∙ ap (λ (z : ℕ). labelNumber (getD ms z noMessage)) (sym d)
+          | no d ↦ old j d ∙ w .to .here j (omega arith)
+        ];
+        past = λ j a. old j (λ d. omega arith) ∙ w .to .past j (omega arith);
+        low = λ j. elim (ℕ-discrete j i) [
+          | yes d ↦ omega (arith, ap (λ (z : ℕ). getD (set labels i x) z 0) d, new)
+          | no d ↦ omega (arith, old j d, w .to .low j)
+        ];
+      };
+    }
+  where
+    new : getD (set labels i x) i 0 ≡ x
+    new = getD-set-same labels i x 0 (omega (arith, w .to .room))
+
+    old : (j : ℕ) → (j ≡ i → ⊥) → getD (set labels i x) j 0 ≡ getD labels j 0
+    old j d = getD-set-other labels i j x 0 d
+
+-- ---- role by role
+
+pub role-held : {roles : List ℕ} {m : Memory} → Roles roles m → (variables : ℕ) → variables ≤ 4 → (q k : ℕ) → q < 20 → k ≡ q % 5 → k ≤ variables → roleAt variables m q ≡ getD roles q 0
+role-held {roles} {m} R variables narrow q k l e a = at k (q / 5) (omega arith) (omega arith) (omega arith) a
+  where
+    at : (k p : ℕ) → q ≡ 5 * p + k → k < 5 → p < 4 → k ≤ variables → roleAt variables m q ≡ getD roles q 0
+    at zero p e f g a = role-exists variables m q p 0 e f a ∙ sym (R .pointer p g) ∙ ap (λ (z : ℕ). getD roles z 0) (omega arith)
+    at (suc v) p e f g a = role-exists variables m q p (suc v) e f a ∙ sym (R .written p v g (omega arith)) ∙ ap (λ (z : ℕ). getD roles z 0) (omega arith)
+
+module _ (variables n : ℕ) (m : Memory) (ms : List Message) where
+  -- the bits of the roles below q, in the tag of the message i + 1
+  abbrev before : ℕ → ℕ → ℕ
+  before q i = bits (λ q. eqb (roleAt variables m q) (suc i)) q
+
+  pub record Marked (tags : List ℕ) (q k : ℕ) : Type 0 where
+    pub room : length tags ≡ 20
+    pub here : (i : ℕ) → i < n → getD tags i 0 ≡ 65536 * before q i + labelNumber (getD ms i noMessage)
+    pub past : (i : ℕ) → n ≤ i → getD tags i 0 ≡ 0
+    pub low : (i : ℕ) → getD tags i 0 < 65536 * 2 ^ q
+    pub turn : k ≡ q % 5
+
+  pub marked-begin : {labels : List ℕ} → Labels labels ms n → Marked labels 0 0
+  marked-begin w = record { room = w .room; here = λ i l. omega (arith, w .here i l); past = w .past; low = λ i. omega (arith, w .low i); turn = omega arith }
+
+  module _ {tags roles : List ℕ} {q k : ℕ} (w : Marked tags q k) (R : Roles roles m) (narrow : variables ≤ 4) (few : n ≤ 20) (l : q < 20) where
+    one-more : (b : Bool) (i : ℕ) → eqb (roleAt variables m q) (suc i) ≡ b → before (q + 1) i ≡ before q i + cond b (2 ^ q) 0
+    one-more b i e = simp unary-clauses (ap (λ (c : Bool). before q i + cond c (2 ^ q) 0) e)
+
+    doubled : 2 ^ (q + 1) ≡ 2 ^ q * 2
+    doubled = simp unary-clauses
+
+    pub marked-hit : {k′ : ℕ} → k ≤ variables → 0 < getD roles q 0 → getD roles q 0 ≤ n → k′ ≡ (q + 1) % 5
+        → Marked (set tags (getD roles q 0 - 1) (getD tags (getD roles q 0 - 1) 0 + 65536 * 2 ^ q)) (q + 1) k′
+    marked-hit a b c t =
+        record {
+          room = length-set tags z x ∙ w .room;
+          here = λ i f. elim (ℕ-discrete i z) [
+            | yes d ↦ ap (λ (y : ℕ). getD (set tags z x) y 0) d ∙ new
+                ∙ omega (arith, ap (λ (y : ℕ). getD tags y 0) d, w .here i f, one-more true i (eq-eqb (roleAt variables m q) (suc i) (held ∙ omega arith)))
+            | no d ↦ old i d ∙ omega (arith, w .here i f, one-more false i (ne-eqb (roleAt variables m q) (suc i) (λ g. d (omega (arith, held)))))
+          ];
+          past = λ i f. old i (λ d. omega arith) ∙ w .past i f;
+          low = λ i. elim (ℕ-discrete i z) [
+            | yes d ↦ omega (arith, ap (λ (y : ℕ). getD (set tags z x) y 0) d, new, w .low z, doubled)
+            | no d ↦ omega (arith, old i d, w .low i, doubled)
+          ];
+          turn = t;
+        }
+      where
+        z : ℕ
+        z = getD roles q 0 - 1
+
+        x : ℕ
+        x = getD tags z 0 + 65536 * 2 ^ q
+
+        held : roleAt variables m q ≡ getD roles q 0
+        held = role-held R variables narrow q k l (w .turn) a
+
+        new : getD (set tags z x) z 0 ≡ x
+        new = getD-set-same tags z x 0 (omega (arith, w .room))
+
+        old : (i : ℕ) → (i ≡ z → ⊥) → getD (set tags z x) i 0 ≡ getD tags i 0
+        old i d = getD-set-other tags z i x 0 d
+
+    pub marked-miss : {k′ : ℕ} → ((k ≤ variables) × (0 < getD roles q 0) × (getD roles q 0 ≤ n) → ⊥) → k′ ≡ (q + 1) % 5 → Marked tags (q + 1) k′
+    marked-miss f t =
+        record {
+          room = w .room;
+          here = λ i a. omega (arith, w .here i a, one-more false i (ne-eqb (roleAt variables m q) (suc i) (none i a)));
+          past = w .past;
+          low = λ i. omega (arith, w .low i, doubled);
+          turn = t;
+        }
+      where
+        none : (i : ℕ) → i < n → roleAt variables m q ≡ suc i → ⊥
+        none i a e = elim (decLe k variables) [
+          | yes d ↦ let h = role-held R variables narrow q k l (w .turn) d in f (d, omega arith, omega arith)
+          | no d ↦ let x = w .turn in omega (arith, role-absent variables m q (q / 5) (q % 5) (omega arith) (omega arith) (omega arith))
+        ]
+
+    -- what the code does with the role at q
+    module _ {i k′ : ℕ} {x y : Bool} (e : i ≡ getD roles q 0) (f : x ≡ ltb 0 i && leb i n) (g : y ≡ leb k variables && x) (t : k < 5 → k′ ≡ (k + 1) % 5) where
+      turn-next : k′ ≡ (q + 1) % 5
+      turn-next = let u = w .turn in let z = t (omega arith) in omega arith
+
+      pub hit-next : {bit : ℕ} {tags′ : List ℕ} → y ≡ true → bit ≡ 65536 * 2 ^ q → tags′ ≡ set tags (i - 1) (getD tags (i - 1) 0 + bit) → Marked tags′ (q + 1) k′
+      hit-next a b c =
+          let u = and-true (leb k variables) x (sym g ∙ a) in
+          let v = and-true (ltb 0 i) (leb i n) (sym f ∙ u .1) in
+          subst (λ (ts : List ℕ). Marked ts (q + 1) k′) (sym (c ∙ ap₂ (λ (j z : ℕ). set tags (j - 1) (getD tags (j - 1) 0 + z)) e b))
+          (marked-hit (leb-true k variables (u .0)) (omega (arith, ltb-true 0 i (v .0))) (omega (arith, leb-true i n (v .1))) turn-next)
+
+      pub miss-next : {tags′ : List ℕ} → y ≡ false → tags′ ≡ tags → Marked tags′ (q + 1) k′
+      miss-next a c =
+          subst (λ (ts : List ℕ). Marked ts (q + 1) k′) (sym c)
+          (marked-miss (λ u. true≢false (sym (g ∙ ap₂ _&&_ (le-leb k variables (u .0)) (f ∙ ap₂ _&&_ (lt-ltb 0 i (omega (arith, u .1))) (le-leb i n (omega (arith, u .2))))) ∙ a)) turn-next)
+
+pub hit-room : (k variables i n : ℕ) {x y : Bool} → x ≡ ltb 0 i && leb i n → y ≡ leb k variables && x → y ≡ true → (1 ≤ i) × (i ≤ n)
+hit-room k variables i n {x} f g a =
+    let u = and-true (leb k variables) x (sym g ∙ a) in
+    let v = and-true (ltb 0 i) (leb i n) (sym f ∙ u .1) in
+    (omega (arith, ltb-true 0 i (v .0)), omega (arith, leb-true i n (v .1)))
+
+pub bit-small : (q : ℕ) → q < 20 → 2 ^ q ≤ 524288
+bit-small q l = pow-mono {i = q} {j = 19} (omega arith)
+
+pub marked-all : (s : Shape) (c : Cube) {tags : List ℕ} {k : ℕ}
+    → Marked (min (s .variables) 4) (min (c .count) 20) (memoryOf c) (c .messages) tags (5 * min (s .processes) 4) k → tags ≡ tagsOf s c
+unfolding tagsOf tagOf mask
+marked-all s c {tags} w = ext-getD 0 tags (tagsOf s c) (w .room ∙ sym (tags-length s c)) each
+  where
+    f : ℕ → ℕ
+    f i = cond (ltb i (min (c .count) 20)) (tagOf s c (suc i)) 0
+
+    tag : (i : ℕ) → tagOf s c (suc i) ≡ 65536 * mask (min (s .processes) 4) (min (s .variables) 4) (memoryOf c) (suc i) + labelNumber (getD (c .messages) i noMessage)
+    tag i = ap (λ (k : ℕ). 65536 * mask (min (s .processes) 4) (min (s .variables) 4) (memoryOf c) (suc i) + labelNumber (getD (c .messages) k noMessage)) (omega arith)
+
+    each : (i : ℕ) → i < length tags → getD tags i 0 ≡ getD (tagsOf s c) i 0
+    each i l = elim (decLt i (min (c .count) 20)) [
+      | yes d ↦ w .here i d ∙ sym (tag i) ∙ sym (tags-at s c i (omega arith) (omega arith))
+      | no d ↦ w .past i (omega arith) ∙ sym (list-at 20 f i (omega (arith, w .room)) ∙ rw (le-ltb i (min (c .count) 20) (omega arith)) refl)
+    ]
+
+pub marked-end : (s : Shape) (c : Cube) {variables n q k : ℕ} {tags : List ℕ} → variables ≡ min (s .variables) 4 → n ≡ min (c .count) 20 → q ≡ 5 * min (s .processes) 4
+    → Marked variables n (memoryOf c) (c .messages) tags q k → tags ≡ tagsOf s c
+marked-end s c {variables} {n} {q} {k} {tags} e f g w =
+    marked-all s c (subst (λ (x : ℕ). Marked (min (s .variables) 4) (min (c .count) 20) (memoryOf c) (c .messages) tags x k) g
+    (subst (λ (x : ℕ). Marked (min (s .variables) 4) x (memoryOf c) (c .messages) tags q k) f
+    (subst (λ (x : ℕ). Marked x n (memoryOf c) (c .messages) tags q k) e w)))

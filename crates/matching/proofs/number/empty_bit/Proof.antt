@@ -1,0 +1,18 @@
+use Prim.Native.Nat.{ℕ}
+use mathlib.Core.Path.{_≡_, sym, ap, _∙_}
+use mathlib.Core.Bool.{Bool, cond}
+use native.Mathlib.Omega.{arith}
+use Rattle.reading.specs.Cube.{waitingOf}
+use Rattle.matching.proofs.PackLaws.{empty-none, empty-some}
+use borrow.Author.Needs.{needs}
+use Rattle.matching.proofs.number.empty_bit.Statement.{statement}
+use Rattle.matching.proofs.number.empty_bit.Tie as tie
+
+pub empty-bit-spec : {M : Type 1} → statement M
+empty-bit-spec = tie.close (tie.spec
+    -- waiting-requires
+    (λ c κs. search needs)
+    -- returns
+    (λ c. sym (ap (λ (b : Bool). cond b 1 0) (empty-none (waitingOf (c .before .before .args .queue)) (sym (c .before .waiting .ensures) ∙ c .if1 .taken))))
+    -- returns-2
+    (λ c. sym (ap (λ (b : Bool). cond b 1 0) (empty-some (waitingOf (c .before .before .args .queue)) (λ e. c .if1 .left (c .before .waiting .ensures ∙ e))))))

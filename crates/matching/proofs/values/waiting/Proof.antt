@@ -1,0 +1,15 @@
+use mathlib.Core.Path.{_≡_, sym, _∙_}
+use native.Mathlib.Omega.{arith}
+use Rattle.matching.proofs.ValueLaws.{take-most, take-few}
+use borrow.Author.Needs.{needs}
+use Rattle.matching.proofs.values.waiting.Statement.{statement}
+use Rattle.matching.proofs.values.waiting.Tie as tie
+
+pub waiting-spec : {M : Type 1} → statement M
+waiting-spec = tie.close (tie.spec
+    -- wide-requires 47:9
+    (λ c κs. search needs)
+    -- returns 49:9
+    (λ c. sym (take-most (c .before .before .args .queue .values) (c .before .before .args .queue .count) 9 (search needs) (omega (arith, c .if1 .taken, c .before .wide .ensures))))
+    -- returns-2 44:1
+    (λ c. c .before .wide .ensures ∙ sym (take-few (c .before .before .args .queue .values) (c .before .before .args .queue .count) 9 (search needs) (omega (arith, c .if1 .left, c .before .wide .ensures)))))

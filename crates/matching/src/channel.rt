@@ -1,0 +1,91 @@
+// The messages of an entry against those of a cube, by their tags.
+ghost use mathlib.Core.Path.{_≡_};
+ghost use Prim.Native.Nat.{ℕ, _+_, _*_};
+ghost use mathlib.Core.Bool.{_&&_};
+ghost use lib.Dec.{eqb};
+ghost use Rattle.reading.specs.Cube.{configurationOf};
+ghost use Rattle.records.specs.ProgramPart.{shapeOf};
+ghost use Rattle.lists.specs.Matching.{messageMatches, matches};
+ghost use Rattle.matching.specs.Relation.{relation};
+ghost use Rattle.matching.specs.Tags.{labelNumber};
+ghost use Rattle.matching.specs.Match.{Suits, channelMatches};
+use crate::queues::queues_match;
+use crate::queues::states_match;
+use crate::tags::lowest;
+use crate::values::least;
+use crate::values::values_related;
+use pws::Message;
+use reading::entry::Cube;
+use records::bytes::wide;
+use records::program::Shape;
+
+// Two messages with their tags: labels are bytes, so equal tags have equal labels and equal roles.
+fn message_matches(exact: bool, a: Message, left: u64, b: Message, right: u64) -> bool
+    ensures { λ r. ⌜ ((m n : ℕ) → left ≡ 65536 * m + labelNumber a → right ≡ 65536 * n + labelNumber b → r ≡ (eqb m n && messageMatches (relation exact) a b)) ⌝ }
+{
+    if left != right {
+        return false;
+    }
+    let before = a.snapshot;
+    let after = b.snapshot;
+    values_related(exact, before, after)
+}
+
+// The messages of an entry against those of a cube, each with its tags, newest first.
+pub fn channel_matches(
+    exact: bool,
+    shape: Shape,
+    a: Cube,
+    left: [u64; 20],
+    b: Cube,
+    right: [u64; 20],
+) -> bool
+    ensures { λ r. ⌜ (Suits shape a left b right → r ≡ channelMatches shape exact a b) ⌝ }
+{
+    let before = a.pointers;
+    let after = b.pointers;
+    let first = wide(lowest(shape, before));
+    let last = wide(lowest(shape, after));
+    let mut i = least(a.count, 20);
+    let mut j = least(b.count, 20);
+    loop {
+        if i < first {
+            return true;
+        }
+        if j < last {
+            return false;
+        }
+        let x = a.messages[i - 1];
+        let y = b.messages[j - 1];
+        if message_matches(exact, x, left[i - 1], y, right[j - 1]) {
+            i -= 1;
+            j -= 1;
+        } else {
+            j -= 1;
+        }
+    }
+}
+
+// An entry against a cube, each with the tags of its messages: exactly, the entry covers the cube; else it may meet it.
+pub fn entry_matches(
+    exact: bool,
+    shape: Shape,
+    a: Cube,
+    left: [u64; 20],
+    b: Cube,
+    right: [u64; 20],
+) -> bool
+    ensures { λ r. ⌜ (Suits shape a left b right → r ≡ matches (shapeOf shape) (relation exact) (configurationOf a) (configurationOf b)) ⌝ }
+{
+    let from = a.states;
+    let to = b.states;
+    if !states_match(shape.processes, from, to) {
+        return false;
+    }
+    let before = a.queues;
+    let after = b.queues;
+    if !queues_match(exact, shape, before, after) {
+        return false;
+    }
+    channel_matches(exact, shape, a, left, b, right)
+}

@@ -1,0 +1,88 @@
+// The number of a cube's key, by shifting and xor only: no sum that could overflow, and no product.
+ghost use mathlib.Core.Path.{_≡_};
+ghost use Prim.Native.Nat.{ℕ, min};
+ghost use Rattle.matching.specs.Tags.{tagsOf};
+ghost use Rattle.matching.specs.Number.{stir, packedStates, emptyBit, packedQueues, statesNumber, numberOf};
+use crate::values::least;
+use crate::values::waiting;
+use reading::entry::Cube;
+use reading::entry::Queue;
+use records::program::Shape;
+
+fn stir(h: u64) -> u64
+    ensures { λ r. ⌜ r ≡ stir h ⌝ }
+{
+    let a = h ^ h << 23;
+    let b = a ^ a >> 29;
+    let c = b ^ b << 11;
+    let d = c ^ c >> 32;
+    d ^ d << 32
+}
+
+fn number(x: u8) -> u64
+    ensures { λ r. ⌜ r ≡ x ⌝ }
+{
+    x as u64
+}
+
+fn packed_states(processes: usize, states: [u8; 4]) -> u64
+    ensures { λ r. ⌜ r ≡ packedStates (min processes 4) states ⌝ }
+{
+    let n = least(processes, 4);
+    let mut h = 0;
+    for p in 0..n {
+        h = h << 8 ^ number(states[p]);
+    }
+    h
+}
+
+fn empty_bit(queue: Queue) -> u64
+    ensures { λ r. ⌜ r ≡ emptyBit queue ⌝ }
+{
+    if waiting(queue) == 0 {
+        return 1;
+    }
+    0
+}
+
+// h, with a bit behind it for each queue: is it empty?
+fn packed_queues(shape: Shape, queues: [Queue; 16], h: u64) -> u64
+    ensures { λ r. ⌜ r ≡ packedQueues (min (shape .variables) 4) queues (min (shape .processes) 4) h ⌝ }
+{
+    let n = least(shape.processes, 4);
+    let m = least(shape.variables, 4);
+    let mut packed = h;
+    for p in 0..n {
+        for v in 0..m {
+            let queue = queues[4 * p + v];
+            packed = packed << 1 ^ empty_bit(queue);
+        }
+    }
+    packed
+}
+
+// The number of the local states.
+pub fn states_number(shape: Shape, states: [u8; 4]) -> u64
+    ensures { λ r. ⌜ r ≡ statesNumber shape states ⌝ }
+{
+    stir(packed_states(shape.processes, states))
+}
+
+// The number of a cube's key: states, which queues are empty, and the tags with a role, newest first.
+pub fn number_of(shape: Shape, cube: Cube, tags: [u64; 20]) -> u64
+    ensures { λ r. ⌜ (tags ≡ tagsOf shape cube → r ≡ numberOf shape cube) ⌝ }
+{
+    let states = cube.states;
+    let queues = cube.queues;
+    let packed = packed_states(shape.processes, states);
+    let mut h = packed_queues(shape, queues, packed);
+    let mut i = least(cube.count, 20);
+    while 0 < i {
+        i -= 1;
+        let tag = tags[i];
+        if 65536 <= tag {
+            h = stir(h) ^ tag;
+        }
+    }
+    stir(h)
+}

@@ -1,0 +1,84 @@
+// Local states and queues of an entry against those of a cube.
+ghost use mathlib.Core.Path.{_≡_};
+ghost use Prim.Native.Nat.{ℕ, _+_, _*_, _<_, min};
+ghost use lib.ListN.{getD};
+ghost use lib.Dec.{eqb};
+ghost use Rattle.pws.specs.Machine.{allBelow};
+ghost use Rattle.reading.specs.Cube.{waitingOf};
+ghost use Rattle.lists.specs.Matching.{queueMatches};
+ghost use Rattle.matching.specs.Relation.{relation};
+ghost use Rattle.matching.specs.Match.{queueRow};
+use crate::values::least;
+use crate::values::related;
+use crate::values::waiting;
+use reading::entry::Queue;
+use records::bytes::both;
+use records::program::Shape;
+
+pub fn states_match(processes: usize, a: [u8; 4], b: [u8; 4]) -> bool
+    ensures { λ r. ⌜ r ≡ allBelow (min processes 4) (λ p. eqb (getD a p 0) (getD b p 0)) ⌝ }
+{
+    let n = least(processes, 4);
+    for p in 0..n {
+        if a[p] != b[p] {
+            return false;
+        }
+    }
+    true
+}
+
+// The waiting values of an entry against those of a cube.
+pub fn queue_matches(exact: bool, a: Queue, b: Queue) -> bool
+    ensures { λ r. ⌜ r ≡ queueMatches (relation exact) (waitingOf a) (waitingOf b) ⌝ }
+{
+    let n = waiting(a);
+    let m = waiting(b);
+    if n == 0 {
+        return m == 0;
+    }
+    if m == 0 {
+        return false;
+    }
+    let mut i = 0;
+    let mut j = 0;
+    while j < m {
+        if n <= i {
+            j = m;
+        } else if related(exact, a.values[i], b.values[j]) {
+            i += 1;
+            j += 1;
+        } else {
+            j += 1;
+        }
+    }
+    let last = related(exact, a.values[n - 1], b.values[m - 1]);
+    both(i == n, last)
+}
+
+// The queues of process p.
+fn queue_row(exact: bool, variables: usize, a: [Queue; 16], b: [Queue; 16], p: usize) -> bool
+    requires { ⌜ p < 4 ⌝ }
+    ensures { λ r. ⌜ r ≡ queueRow variables exact a b p ⌝ }
+{
+    let n = least(variables, 4);
+    for v in 0..n {
+        let q = 4 * p + v;
+        if !queue_matches(exact, a[q], b[q]) {
+            return false;
+        }
+    }
+    true
+}
+
+pub fn queues_match(exact: bool, shape: Shape, a: [Queue; 16], b: [Queue; 16]) -> bool
+    ensures { λ r. ⌜ r ≡ allBelow (min (shape .processes) 4) (queueRow (shape .variables) exact a b) ⌝ }
+{
+    let n = least(shape.processes, 4);
+    let variables = shape.variables;
+    for p in 0..n {
+        if !queue_row(exact, variables, a, b, p) {
+            return false;
+        }
+    }
+    true
+}

@@ -1,0 +1,46 @@
+// Values of an entry and of a cube, and numbers of them.
+ghost use mathlib.Core.Path.{_≡_};
+ghost use Prim.Native.Nat.{ℕ, min};
+ghost use lib.ListN.{length};
+ghost use Rattle.reading.specs.Cube.{waitingOf};
+ghost use Rattle.lists.specs.Values.{pairwise};
+ghost use Rattle.matching.specs.Relation.{relation};
+use reading::entry::Queue;
+use reading::evidence::either;
+use records::bytes::both;
+use records::bytes::wide;
+
+pub fn least(a: usize, b: usize) -> usize
+    ensures { λ r. ⌜ r ≡ min a b ⌝ }
+{
+    if a <= b { a } else { b }
+}
+
+// A value of an entry and one of a cube: exactly, the first may stand for the second; else they may have a value in common.
+pub fn related(exact: bool, a: u8, b: u8) -> bool
+    ensures { λ r. ⌜ r ≡ relation exact a b ⌝ }
+{
+    if exact {
+        return either(a == 255, a == b);
+    }
+    either(a == 255, either(b == 255, a == b))
+}
+
+pub fn values_related(exact: bool, a: [u8; 4], b: [u8; 4]) -> bool
+    ensures { λ r. ⌜ r ≡ pairwise (relation exact) a b ⌝ }
+{
+    let first = both(related(exact, a[0], b[0]), related(exact, a[1], b[1]));
+    let last = both(related(exact, a[2], b[2]), related(exact, a[3], b[3]));
+    both(first, last)
+}
+
+// How many values wait.
+pub fn waiting(queue: Queue) -> usize
+    ensures { λ r. ⌜ r ≡ length (waitingOf queue) ⌝ }
+{
+    let n = wide(queue.count);
+    if 9 <= n {
+        return 9;
+    }
+    n
+}
