@@ -30,12 +30,11 @@ use Rattle.reading.specs.Cube.{noQueue, waitingOf, channelOf, queueOf, configur
 use Rattle.reading.proofs.CubeParts.{channel-length, channel-message, queue-of}
 use Rattle.contents.specs.Again.{cubeAt, entriesOf}
 use Rattle.contents.proofs.Tables.{table-length, table-number}
-use Rattle.matching.specs.Roles.{Roles}
 use Rattle.matching.proofs.ValueLaws.{value-waits}
 use Rattle.cover.specs.declared.place.Place.{Place}
 use Rattle.cover.specs.declared.place.Place.the-variants.{Whole, Waiting, Sent}
 use Rattle.cover.specs.Places.{partOf, valueFree, waitsFree, sentFree, isFree, placeOf, proper, fillings, NoneFree}
-use Rattle.cover.specs.Search.{SearchableNear, Against, Stuck}
+use Rattle.cover.specs.Search.{Plain, Covered, by-entry, by-parts}
 use Rattle.cover.proofs.PlaceLaws.{true-not-false, waits-free, sent-free}
 use Rattle.cover.proofs.PartLaws.{waiting-is, waiting-part, waiting-valid, waiting-at, sent-is, sent-part, sent-valid, sent-at}
 
@@ -111,7 +110,7 @@ module _ (S : pws.Shape) (R : pws.ShapeInRange S) (es : List Configuration) (oes
 
 -- ---- over the entries of a file
 
-module _ {f list : List ℕ} {n : ℕ} {s : Shape} {c : Cube} (Z : SearchableNear f list n s c) where
+module _ {f list : List ℕ} {n : ℕ} {s : Shape} {c : Cube} (Z : Plain f list n s c) where
   es : List Configuration
   es = entriesOf f list n
 
@@ -123,9 +122,6 @@ module _ {f list : List ℕ} {n : ℕ} {s : Shape} {c : Cube} (Z : SearchableNea
 
   oes : (k : ℕ) → k < length (entriesOf f list n) → Fits (ValueOrFF (shapeOf s)) (shapeOf s) (entry (entriesOf f list n) k)
   oes k l = let m : k < n = omega (arith, count) in subst (Fits (ValueOrFF (shapeOf s)) (shapeOf s)) (sym (entry-is k m)) (Z .entries k m)
-
-  pub against : {right : List ℕ} → (c .count ≤ 20 → Roles right (configurationOf c .memory)) → Against s c right
-  against g = record { processes = Z .shape .processes; variables = Z .shape .variables; messages = Z .messages; roles = g (Z .messages) }
 
   pub cube-covered : (k : ℕ) → k < n → matches (shapeOf s) fills (configurationOf (cubeAt f list k)) (configurationOf c) ≡ true
       → held (shapeOf s) (entriesOf f list n) (configurationOf c) ≡ true
@@ -162,7 +158,8 @@ module _ {f list : List ℕ} {n : ℕ} {s : Shape} {c : Cube} (Z : SearchableNea
       true-not-false (rw (lt-ltb i (min (c .count) 20) (omega (arith, Z .messages)), lt-ltb v (min (s .variables) 4) (omega arith), eq-eqb (getD (getD (c .messages) i noMessage .snapshot) v 0) 255 g)
       at (N (Sent i v)))
 
-  pub cube-stuck : ((k : ℕ) → k < n → matches (shapeOf s) fills (configurationOf (cubeAt f list k)) (configurationOf c) ≡ false) → Stuck f list n s c
+  pub cube-stuck : ((k : ℕ) → k < n → matches (shapeOf s) fills (configurationOf (cubeAt f list k)) (configurationOf c) ≡ false)
+      → ((k : ℕ) → k < n → matches (shapeOf s) alike (configurationOf (cubeAt f list k)) (configurationOf c) ≡ false) ⊎ NoneFree s c
       → held (shapeOf s) (entriesOf f list n) (configurationOf c) ≡ false
   cube-stuck g (inl h) =
       unmet (shapeOf s) (Z .shape) (entriesOf f list n) oes (configurationOf c) (Z .fits)
@@ -180,7 +177,7 @@ module _ {f list : List ℕ} {n : ℕ} {s : Shape} {c : Cube} (Z : SearchableNea
     all-few v l x m = let k = Z .shape .values v l in omega arith
 
     -- the parts are searched for as the whole is
-    pub searchable-part : (a : Place) → proper s c a ≡ true → (x : ℕ) → x < fillings s a → SearchableNear f list n s (partOf c a x)
+    pub searchable-part : (a : Place) → proper s c a ≡ true → (x : ℕ) → x < fillings s a → Plain f list n s (partOf c a x)
     searchable-part Whole e x l = Z
     searchable-part (Waiting p v j) e x l =
         let w = waits-free s c p v j e in
@@ -232,3 +229,16 @@ module _ {f list : List ℕ} {n : ℕ} {s : Shape} {c : Cube} (Z : SearchableNea
         let w = sent-free s c i v e in
         one-part (shapeOf s) (Z .shape) (entriesOf f list n) oes (configurationOf c) (Z .fits) (placeOf (Sent i v)) (sent-valid s c sixteen twenty i v w) (sent-at s c sixteen twenty i v w)
         x (few v (w .variable) x l) (ap (held (shapeOf s) (entriesOf f list n)) (sym (sent-part s c sixteen twenty i v w x)) ∙ h)
+
+-- ---- what is covered is held
+
+pub free-is : (s : Shape) (c : Cube) (a : Place) → isFree s c a ≡ true → proper s c a ≡ true
+free-is s c Whole e = refl
+free-is s c (Waiting p v j) e = e
+free-is s c (Sent i v) e = e
+
+pub covered-is : {f list : List ℕ} {n : ℕ} {s : Shape} {c : Cube} → length (c .queues) ≡ 16 → length (c .messages) ≡ 20 → Plain f list n s c → Covered f list n s c
+    → held (shapeOf s) (entriesOf f list n) (configurationOf c) ≡ true
+covered-is q m Z (by-entry k l e) = cube-covered Z k l e
+covered-is {s = s} q m Z (by-parts {c = c} a e g) =
+    parts-all Z q m a (free-is s c a e) (λ x l. covered-is (part-queues c a x ∙ q) (part-messages c a x ∙ m) (searchable-part Z q m a (free-is s c a e) x l) (g x l))

@@ -1,26 +1,45 @@
--- What a search is asked over: a list of entries in a file, and a cube that fits the shape.
-use Prim.Native.Nat.{ℕ, _+_, _-_, _/_, _%_, _<_, _≤_, min}
+-- What a search is asked over: a list of entries in a file with its summary, and a cube that fits the shape.
+use Prim.Native.Nat.{ℕ, _<_, _≤_}
 use mathlib.Core.Path.{_≡_}
 use mathlib.Core.Logic.{_⊎_}
-use mathlib.Core.Bool.{Bool, true, false, cond}
+use mathlib.Core.Bool.{Bool, true, false}
 use mathlib.Core.List.{List}
 use lib.ListN.{length}
-use lib.Dec.{eqb, ltb, leb}
 use Rattle.pws.specs.Program.{ShapeInRange}
 use Rattle.pws.specs.Configurations.{Fits}
 use Rattle.pws.specs.Entries.{ValueOrFF}
-use Rattle.lists.specs.Values.{alike}
+use Rattle.lists.specs.Values.{fills, alike}
 use Rattle.lists.specs.Matching.{matches}
 use Rattle.records.specs.declared.program.Shape.{Shape}
 use Rattle.reading.specs.declared.entry.Cube.{Cube}
 use Rattle.records.specs.ProgramPart.{shapeOf}
 use Rattle.reading.specs.Cube.{configurationOf}
 use Rattle.contents.specs.Again.{cubeAt}
-use Rattle.matching.specs.Roles.{Roles}
+use Rattle.matching.specs.Tags.{tagsOf}
+use Rattle.matching.specs.Number.{numberOf}
+use Rattle.summary.specs.Slots.{headLink, homeOf}
 use Rattle.summary.specs.Summary.{Summed}
-use Rattle.cover.specs.Places.{NoneFree}
+use Rattle.summary.specs.Walks.{Left}
+use Rattle.cover.specs.declared.place.Place.{Place}
+use Rattle.cover.specs.Places.{partOf, isFree, fillings, proper, NoneFree}
 
-pub record SearchableNear (f list : List ℕ) (n : ℕ) (s : Shape) (c : Cube) : Type 0 where
+-- ---- what is found, whatever the work area holds
+
+-- the sizes that the code has room for
+pub record Sized (s : Shape) (c : Cube) : Type 0 where
+  pub processes : s .processes ≤ 4
+  pub variables : s .variables ≤ 4
+  pub messages : c .count ≤ 20
+
+-- an entry to which an offset leads covers the cube; or all of its parts at a free place are covered
+pub data Covered (f list : List ℕ) (n : ℕ) (s : Shape) : Cube → Type 0 where
+  by-entry : {c : Cube} (k : ℕ) → k < n → matches (shapeOf s) fills (configurationOf (cubeAt f list k)) (configurationOf c) ≡ true → Covered f list n s c
+  by-parts : {c : Cube} (a : Place) → isFree s c a ≡ true → ((x : ℕ) → x < fillings s a → Covered f list n s (partOf c a x)) → Covered f list n s c
+
+-- ---- what is true of a list that was read
+
+-- its entries fit the shape, and so does the cube
+pub record Plain (f list : List ℕ) (n : ℕ) (s : Shape) (c : Cube) : Type 0 where
   pub count : n ≤ 524288
   pub shape : ShapeInRange (shapeOf s)
   pub entries : (k : ℕ) → k < n → Fits (ValueOrFF (shapeOf s)) (shapeOf s) (configurationOf (cubeAt f list k))
@@ -28,7 +47,7 @@ pub record SearchableNear (f list : List ℕ) (n : ℕ) (s : Shape) (c : Cube) :
   pub messages : c .count ≤ 20
   pub waiting : (p v : ℕ) → length (configurationOf c .queue p v) ≤ 9
 
--- the same with the list's summary
+-- and it has its summary
 pub record Searchable (f list sum : List ℕ) (n : ℕ) (s : Shape) (c : Cube) : Type 0 where
   pub count : n ≤ 524288
   pub shape : ShapeInRange (shapeOf s)
@@ -38,23 +57,25 @@ pub record Searchable (f list sum : List ℕ) (n : ℕ) (s : Shape) (c : Cube) :
   pub messages : c .count ≤ 20
   pub waiting : (p v : ℕ) → length (configurationOf c .queue p v) ≤ 9
 
-abbrev pub nearOf : {f list sum : List ℕ} {n : ℕ} {s : Shape} {c : Cube} → Searchable f list sum n s c → SearchableNear f list n s c
-nearOf Z = record { count = Z .count; shape = Z .shape; entries = Z .entries; fits = Z .fits; messages = Z .messages; waiting = Z .waiting }
+-- ---- parts of a search
 
--- a cube with the roles of its messages
-pub record Against (s : Shape) (c : Cube) (held : List ℕ) : Type 0 where
-  pub processes : s .processes ≤ 4
-  pub variables : s .variables ≤ 4
-  pub messages : c .count ≤ 20
-  pub roles : Roles held (configurationOf c .memory)
+-- a cube with the tags of its messages
+pub record Against (s : Shape) (c : Cube) (tags : List ℕ) : Type 0 where
+  pub sized : Sized s c
+  pub is : tags ≡ tagsOf s c
 
--- the entries in turn, outward from one: it, the one before, the one after, ..; where there are none left on one side, those of the other
-unfoldable pub outward : ℕ → ℕ → ℕ → ℕ
-outward near n i =
-    cond (ltb near n)
-    (cond (ltb (i / 2) (min near (n - near))) (cond (eqb (i % 2) 0) (near + i / 2) (near - 1 - i / 2)) (cond (leb near (n - near)) i (n - 1 - i)))
-    i
+-- after entry i was tried: if it may meet the cube, some entry is met; a place to split at stays one
+pub record Tried (f list : List ℕ) (s : Shape) (c : Cube) (tags : List ℕ) (place : Place) (met : Bool) (i : ℕ) (next : Place) (now : Bool) : Type 0 where
+  pub before : now ≡ false → met ≡ false
+  pub unmet : now ≡ false → Against s c tags → matches (shapeOf s) alike (configurationOf (cubeAt f list i)) (configurationOf c) ≡ false
+  pub kept : proper s c place ≡ true → proper s c next ≡ true
 
--- none of the entries may meet the cube, or it has no free value
-abbrev pub Stuck : List ℕ → List ℕ → ℕ → Shape → Cube → Type 0
-Stuck f list n s c = ((k : ℕ) → k < n → matches (shapeOf s) alike (configurationOf (cubeAt f list k)) (configurationOf c) ≡ false) ⊎ NoneFree s c
+-- no entry that is walked over may meet the cube
+abbrev pub Unmet : List ℕ → List ℕ → List ℕ → ℕ → Shape → Cube → List ℕ → ℕ → Type 0
+Unmet f list sum n s c tags number =
+    Against s c tags → (k : ℕ) → Left f list sum n s (c .states) number n (headLink sum (homeOf number n)) false k
+    → matches (shapeOf s) alike (configurationOf (cubeAt f list k)) (configurationOf c) ≡ false
+
+-- and so it can't be held, or it has no free value
+abbrev pub Stuck : List ℕ → List ℕ → List ℕ → ℕ → Shape → Cube → List ℕ → ℕ → Type 0
+Stuck f list sum n s c tags number = Unmet f list sum n s c tags number ⊎ NoneFree s c

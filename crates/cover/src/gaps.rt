@@ -5,9 +5,9 @@ ghost use Prim.Native.Nat.{ℕ, _+_, _*_, _≤_, _<_, min};
 ghost use lib.ListN.{length, getD};
 use crate::place::Place;
 use matching::least;
+use matching::lowest;
 use matching::related;
-use matching::remains;
-use matching::tag_matches;
+use matching::values_related;
 use matching::waiting;
 use pws::Message;
 use reading::entry::Cube;
@@ -17,7 +17,7 @@ use records::bytes::wide;
 use records::program::Shape;
 
 // One of them, and how many there are.
-pub struct Gaps {
+pub(crate) struct Gaps {
     pub place: Place,
     pub count: u8,
 }
@@ -78,33 +78,45 @@ fn message_gaps(gaps: Gaps, entry: Message, cube: Message, number: usize) -> Gap
     )
 }
 
+fn tags_match(a: Message, left: u64, b: Message, right: u64) -> bool {
+    let before = a.snapshot;
+    let after = b.snapshot;
+    both(left == right, values_related(false, before, after))
+}
+
 // The messages as they are matched, newest first.
 fn channel_gaps(
     gaps: Gaps,
     shape: Shape,
     a: Cube,
-    left: [u8; 20],
+    left: [u64; 20],
     b: Cube,
-    right: [u8; 20],
+    right: [u64; 20],
 ) -> Gaps {
     let before = a.pointers;
     let after = b.pointers;
+    let first = wide(lowest(shape, before));
+    let last = wide(lowest(shape, after));
     let mut all = gaps;
-    let mut i = least(a.count, 20) as u8;
-    let mut j = least(b.count, 20) as u8;
+    let mut i = least(a.count, 20);
+    let mut j = least(b.count, 20);
     loop {
-        if !remains(shape, before, i) {
+        if i < first {
             return all;
         }
-        if !remains(shape, after, j) {
+        if j < last {
             return all;
         }
-        let k = wide(i) - 1;
-        let x = a.messages[k];
-        let l = wide(j) - 1;
-        let y = b.messages[l];
-        if tag_matches(false, shape, x, left, i, y, right, j) {
-            let next = message_gaps(all, x, y, l);
+        if i == 0 {
+            return all;
+        }
+        if j == 0 {
+            return all;
+        }
+        let x = a.messages[i - 1];
+        let y = b.messages[j - 1];
+        if tags_match(x, left[i - 1], y, right[j - 1]) {
+            let next = message_gaps(all, x, y, j - 1);
             all = next;
             i -= 1;
             j -= 1;
@@ -162,9 +174,9 @@ fn row_gaps(gaps: Gaps, variables: usize, a: [Queue; 16], b: [Queue; 16], proces
 pub(crate) fn gaps_between(
     shape: Shape,
     a: Cube,
-    left: [u8; 20],
+    left: [u64; 20],
     b: Cube,
-    right: [u8; 20],
+    right: [u64; 20],
 ) -> Gaps {
     let n = least(shape.processes, 4);
     let variables = shape.variables;

@@ -15,7 +15,7 @@ use records::program::Shape;
 use records::program::value_count;
 
 // A waiting value, or a value of a message, by number; or the whole cube, which is its own only part.
-pub enum Place {
+pub(crate) enum Place {
     Whole,
     Waiting {
         process: usize,
@@ -28,7 +28,7 @@ pub enum Place {
     },
 }
 
-pub fn is_whole(place: Place) -> bool
+pub(crate) fn is_whole(place: Place) -> bool
     ensures { λ r. ⌜ r ≡ isWhole place ⌝ }
 {
     match place {
@@ -46,7 +46,7 @@ pub fn is_whole(place: Place) -> bool
 }
 
 // With x there.
-pub fn with_waiting(cube: Cube, process: usize, variable: usize, number: usize, x: u8) -> Cube
+pub(crate) fn with_waiting(cube: Cube, process: usize, variable: usize, number: usize, x: u8) -> Cube
     ensures { λ r. ⌜ r ≡ withWaiting cube process variable number x ⌝ }
 {
     if !both(process < 4, both(variable < 4, number < 9)) {
@@ -60,7 +60,7 @@ pub fn with_waiting(cube: Cube, process: usize, variable: usize, number: usize, 
     next
 }
 
-pub fn with_sent(cube: Cube, message: usize, variable: usize, x: u8) -> Cube
+pub(crate) fn with_sent(cube: Cube, message: usize, variable: usize, x: u8) -> Cube
     ensures { λ r. ⌜ r ≡ withSent cube message variable x ⌝ }
 {
     if !both(message < 20, variable < 4) {
@@ -74,7 +74,7 @@ pub fn with_sent(cube: Cube, message: usize, variable: usize, x: u8) -> Cube
 }
 
 // The part of the cube that has x at a place.
-pub fn part_of(cube: Cube, place: Place, x: u8) -> Cube
+pub(crate) fn part_of(cube: Cube, place: Place, x: u8) -> Cube
     ensures { λ r. ⌜ r ≡ partOf cube place x ⌝ }
 {
     match place {
@@ -89,7 +89,7 @@ pub fn part_of(cube: Cube, place: Place, x: u8) -> Cube
 }
 
 // There is such a value, and it is free.
-pub fn value_free(queue: Queue, number: usize) -> bool
+pub(crate) fn value_free(queue: Queue, number: usize) -> bool
     ensures { λ r. ⌜ r ≡ valueFree queue number ⌝ }
 {
     if waiting(queue) <= number {
@@ -98,7 +98,7 @@ pub fn value_free(queue: Queue, number: usize) -> bool
     queue.values[number] == 255
 }
 
-pub fn waits_free(shape: Shape, cube: Cube, process: usize, variable: usize, number: usize) -> bool
+pub(crate) fn waits_free(shape: Shape, cube: Cube, process: usize, variable: usize, number: usize) -> bool
     ensures { λ r. ⌜ r ≡ waitsFree shape cube process variable number ⌝ }
 {
     if !both(
@@ -111,7 +111,7 @@ pub fn waits_free(shape: Shape, cube: Cube, process: usize, variable: usize, num
     value_free(queue, number)
 }
 
-pub fn sent_free(shape: Shape, cube: Cube, message: usize, variable: usize) -> bool
+pub(crate) fn sent_free(shape: Shape, cube: Cube, message: usize, variable: usize) -> bool
     ensures { λ r. ⌜ r ≡ sentFree shape cube message variable ⌝ }
 {
     if !both(
@@ -124,7 +124,7 @@ pub fn sent_free(shape: Shape, cube: Cube, message: usize, variable: usize) -> b
     sent.snapshot[variable] == 255
 }
 
-pub fn is_free(shape: Shape, cube: Cube, place: Place) -> bool
+pub(crate) fn is_free(shape: Shape, cube: Cube, place: Place) -> bool
     ensures { λ r. ⌜ r ≡ isFree shape cube place ⌝ }
 {
     match place {
@@ -139,7 +139,7 @@ pub fn is_free(shape: Shape, cube: Cube, place: Place) -> bool
 }
 
 // How many parts there are.
-pub fn fillings(shape: Shape, place: Place) -> usize
+pub(crate) fn fillings(shape: Shape, place: Place) -> usize
     ensures { λ r. ⌜ r ≡ fillings shape place ⌝ }
 {
     match place {
@@ -157,7 +157,7 @@ pub fn fillings(shape: Shape, place: Place) -> usize
 }
 
 // All places that a cube can have, by number.
-pub fn place_at(k: usize) -> Place
+pub(crate) fn place_at(k: usize) -> Place
     ensures { λ r. ⌜ r ≡ placeAt k ⌝ }
 {
     if k < 144 {
@@ -174,7 +174,7 @@ pub fn place_at(k: usize) -> Place
 }
 
 // A place that is free, or else the whole.
-pub fn first_free(shape: Shape, cube: Cube) -> Place
+pub(crate) fn first_free(shape: Shape, cube: Cube) -> Place
     ensures { λ r. ⌜ (isWhole r ≡ false → isFree shape cube r ≡ true) × (isWhole r ≡ true → NoneFree shape cube) ⌝ }
 {
     for k in 0..224 {

@@ -1,6 +1,6 @@
 -- The first entry of a group is found on the chain of its states.
 use Prim.Native.Nat.{ℕ, zero, suc, _+_, _*_, _-_, _<_, _≤_, min}
-use mathlib.Core.Path.{_≡_, refl, sym, ap, subst, _∙_}
+use mathlib.Core.Path.{_≡_, refl, sym, ap, ap₂, subst, _∙_}
 use mathlib.Core.Logic.{_⊎_, inl, inr, ⊎-elim, _≢_}
 use mathlib.Core.Bool.{Bool, true, false, cond, _&&_, not}
 use mathlib.Core.List.{List}
@@ -11,16 +11,21 @@ use lib.Dec.{T, eqb, ltb}
 use borrow.Author.Tests.{eq-eqb, ne-eqb, eqb-true, eqb-false, lt-ltb, le-ltb, ltb-true, ltb-false, not-true}
 use Rattle.records.specs.declared.program.Shape.{Shape}
 use Rattle.records.specs.Bytes.{choose}
-use Rattle.matching.specs.Number.{statesNumber}
+use Rattle.matching.specs.Number.{stir, behind, packedStates, statesNumber}
 use Rattle.summary.specs.Slots.{linked, headLink, nextLink, countAt, homeOf, Met, here, later}
 use Rattle.summary.specs.Groups.{sameStates, statesAt, leads, inGroup, leaderFrom, leaderOf}
 use Rattle.summary.specs.Summary.{Grouped}
 use Rattle.summary.proofs.ChainLaws.{met-cases}
-use Rattle.summary.proofs.GroupLaws.{true-false, same-refl, same-sym, same-trans, one-leads, leader-before, in-some}
+use Rattle.summary.proofs.GroupLaws.{true-false, same-at, same-refl, same-sym, same-trans, one-leads, leader-before, in-some}
+
+packed-same : (n : ℕ) (a b : List ℕ) → ((p : ℕ) → p < n → getD a p 0 ≡ getD b p 0) → packedStates n a ≡ packedStates n b
+packed-same zero a b g = refl
+packed-same (suc n) a b g = ap₂ (behind 8) (packed-same n a b (λ p l. g p (omega arith))) (g n (omega arith))
 
 -- the number of local states is theirs
 pub same-number : (s : Shape) (a b : List ℕ) → sameStates s a b ≡ true → statesNumber s a ≡ statesNumber s b
-same-number s a b e = refl
+unfolding statesNumber
+same-number s a b e = ap stir (packed-same (min (s .processes) 4) a b (same-at s a b e))
 
 both-true : (a b : Bool) → a && b ≡ true → (a ≡ true) × (b ≡ true)
 both-true true b e = (refl, e)

@@ -1,0 +1,51 @@
+// An entry in the file against a cube.
+ghost use mathlib.Core.Path.{_≡_};
+ghost use Rattle.lists.specs.Matching.{matches};
+ghost use Rattle.records.specs.ProgramPart.{shapeOf};
+ghost use Rattle.reading.specs.Cube.{configurationOf};
+ghost use Rattle.contents.specs.Again.{cubeAt};
+ghost use Rattle.matching.specs.Relation.{relation};
+ghost use Rattle.cover.specs.Search.{Against};
+use contents::offset_at;
+use matching::channel_matches;
+use matching::queues_match;
+use matching::states_match;
+use matching::tags_of;
+use reading::entry::Cube;
+use reading::entry::load_entry;
+use records::bytes::field;
+use records::program::Shape;
+
+// Entry i against a cube with its tags: exactly, it covers the cube; else it may meet it.
+pub(crate) fn matches_at(
+    exact: bool,
+    file: &[u8],
+    list: &[u8],
+    i: usize,
+    shape: Shape,
+    cube: Cube,
+    right: [u64; 20],
+) -> bool
+    ensures { λ r. ⌜ (Against shape cube right → r ≡ matches (shapeOf shape) (relation exact) (configurationOf (cubeAt (now (file .entry)) (now (list .entry)) i)) (configurationOf cube)) ⌝ }
+{
+    let at = offset_at(list, i);
+    // entries of other states are told apart by four bytes
+    let states = [
+        field(file, at, 1),
+        field(file, at, 2),
+        field(file, at, 3),
+        field(file, at, 4),
+    ];
+    let own = cube.states;
+    if !states_match(shape.processes, states, own) {
+        return false;
+    }
+    let entry = load_entry(file, at);
+    let before = entry.queues;
+    let after = cube.queues;
+    if !queues_match(exact, shape, before, after) {
+        return false;
+    }
+    let left = tags_of(shape, entry);
+    channel_matches(exact, shape, entry, left, cube, right)
+}
