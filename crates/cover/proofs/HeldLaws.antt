@@ -36,7 +36,7 @@ use Rattle.cover.specs.declared.place.Place.the-variants.{Whole, Waiting
 use Rattle.cover.specs.Places.{partOf, valueFree, waitsFree, sentFree, isFree, placeOf, proper, fillings, NoneFree}
 use Rattle.cover.specs.Search.{Plain, Covered, by-entry, by-parts}
 use Rattle.cover.proofs.PlaceLaws.{true-not-false, waits-free, sent-free}
-use Rattle.cover.proofs.PartLaws.{waiting-is, waiting-part, waiting-valid, waiting-at, sent-is, sent-part, sent-valid, sent-at}
+use Rattle.cover.proofs.PartLaws.{part-queues, part-messages, waiting-is, waiting-part, waiting-valid, waiting-at, sent-is, sent-part, sent-valid, sent-at}
 
 -- ---- over any list of entries
 

@@ -19,6 +19,7 @@ use Rattle.records.specs.declared.program.Shape.{Shape}
 use Rattle.reading.specs.declared.entry.Queue.{Queue}
 use Rattle.reading.specs.declared.entry.Cube.{Cube}
 use Rattle.records.specs.ProgramPart.{shapeOf}
+use Rattle.records.specs.Bytes.{choose}
 use Rattle.reading.specs.Cube.{noQueue, waitingOf, channelOf, queueOf, configurationOf}
 use Rattle.reading.proofs.CubeParts.{channel-length, channel-message, channel-equal, queue-of, queue-put}
 use Rattle.matching.proofs.ValueLaws.{value-waits}
@@ -136,3 +137,48 @@ part-less s c m n (Waiting p v j) e x l b f = rw f (omega (arith, waiting-less s
 part-less s c m n (Sent i v) e x l b f =
     let w = sent-free s c i v e in
     rw f (omega (arith, sent-less s c m n x l i v (inside (getD (c .messages) i noMessage .snapshot) v (w .free)) w))
+
+-- ---- sizes of a part
+
+module _ (c : Cube) where
+  pub part-count : (a : Place) (x : ℕ) → partOf c a x .count ≡ c .count
+  unfolding withWaiting withSent
+  part-count Whole x = refl
+  part-count (Waiting p v j) x = go (ltb p 4 && (ltb v 4 && ltb j 9))
+    where
+      go : (b : Bool) → choose b (λ _. withQueues c (set (c .queues) (4 * p + v) (setWaiting (getD (c .queues) (4 * p + v) noQueue) j x))) (λ _. c) .count ≡ c .count
+      go true = refl
+      go false = refl
+  part-count (Sent i v) x = go (ltb i 20 && ltb v 4)
+    where
+      go : (b : Bool) → choose b (λ _. withMessages c (set (c .messages) i (withValues (getD (c .messages) i noMessage) (set (getD (c .messages) i noMessage .snapshot) v x)))) (λ _. c) .count ≡ c .count
+      go true = refl
+      go false = refl
+
+  pub part-queues : (a : Place) (x : ℕ) → length (partOf c a x .queues) ≡ length (c .queues)
+  unfolding withWaiting withSent
+  part-queues Whole x = refl
+  part-queues (Waiting p v j) x = go (ltb p 4 && (ltb v 4 && ltb j 9))
+    where
+      go : (b : Bool) → length (choose b (λ _. withQueues c (set (c .queues) (4 * p + v) (setWaiting (getD (c .queues) (4 * p + v) noQueue) j x))) (λ _. c) .queues) ≡ length (c .queues)
+      go true = length-set (c .queues) (4 * p + v) (setWaiting (getD (c .queues) (4 * p + v) noQueue) j x)
+      go false = refl
+  part-queues (Sent i v) x = go (ltb i 20 && ltb v 4)
+    where
+      go : (b : Bool) → length (choose b (λ _. withMessages c (set (c .messages) i (withValues (getD (c .messages) i noMessage) (set (getD (c .messages) i noMessage .snapshot) v x)))) (λ _. c) .queues) ≡ length (c .queues)
+      go true = refl
+      go false = refl
+
+  pub part-messages : (a : Place) (x : ℕ) → length (partOf c a x .messages) ≡ length (c .messages)
+  unfolding withWaiting withSent
+  part-messages Whole x = refl
+  part-messages (Waiting p v j) x = go (ltb p 4 && (ltb v 4 && ltb j 9))
+    where
+      go : (b : Bool) → length (choose b (λ _. withQueues c (set (c .queues) (4 * p + v) (setWaiting (getD (c .queues) (4 * p + v) noQueue) j x))) (λ _. c) .messages) ≡ length (c .messages)
+      go true = refl
+      go false = refl
+  part-messages (Sent i v) x = go (ltb i 20 && ltb v 4)
+    where
+      go : (b : Bool) → length (choose b (λ _. withMessages c (set (c .messages) i (withValues (getD (c .messages) i noMessage) (set (getD (c .messages) i noMessage .snapshot) v x)))) (λ _. c) .messages) ≡ length (c .messages)
+      go true = length-set (c .messages) i (withValues (getD (c .messages) i noMessage) (set (getD (c .messages) i noMessage .snapshot) v x))
+      go false = refl

@@ -1,14 +1,15 @@
--- The search: where to split, and what the parts say of the whole.
+-- The search: the walk over what may match, where to split, and what the parts say of the whole.
 use Prim.Native.Nat.{ℕ, zero, suc, _+_, _*_, _-_, _<_, _≤_, min}
 use mathlib.Core.Path.{_≡_, refl, sym, ap, subst, _∙_}
-use mathlib.Core.Logic.{_⊎_, inl, inr, _≢_}
+use mathlib.Core.Logic.{_⊎_, inl, inr, ⊎-elim, _≢_}
 use mathlib.Core.Bool.{Bool, true, false, cond, _&&_}
 use mathlib.Core.List.{List, [], _∷_}
 use native.Mathlib.Omega.{arith}
 use native.Mathlib.Decide.{ℕ-discrete}
 use lib.ListN.{length, getD}
 use lib.Dec.{T, eqb}
-use Rattle.pws.specs.Machine.{Configuration}
+use borrow.Author.Tests.{eq-eqb, ne-eqb, eqb-true}
+use Rattle.pws.specs.Machine.{Configuration, allBelow}
 use Rattle.lists.specs.Values.{fills, alike}
 use Rattle.lists.specs.Decision.{held}
 use Rattle.lists.specs.Matching.{matches}
@@ -16,130 +17,250 @@ use Rattle.records.specs.declared.program.Shape.{Shape}
 use Rattle.reading.specs.declared.entry.Cube.{Cube}
 use Rattle.records.specs.ProgramPart.{shapeOf}
 use Rattle.reading.specs.Cube.{configurationOf}
-use Rattle.contents.specs.Again.{cubeAt, entriesOf}
-use Rattle.matching.specs.Roles.{Roles}
+use Rattle.contents.specs.Again.{offsetAt, cubeAt, entriesOf}
+use Rattle.matching.specs.Relation.{relation}
+use Rattle.matching.specs.Tags.{tagsOf}
+use Rattle.matching.specs.Number.{numberOf}
+use Rattle.matching.proofs.NumberLaws.{match-number}
+use Rattle.summary.specs.declared.walking.Walk.{Walk}
+use Rattle.summary.specs.Slots.{headLink, homeOf}
+use Rattle.summary.specs.Groups.{sameStates, statesAt}
+use Rattle.summary.specs.Walks.{Left, ahead, Onward}
+use Rattle.summary.proofs.GroupLaws.{all-at, at-same}
+use Rattle.summary.proofs.OnwardLaws.{all-walked}
 use Rattle.cover.specs.declared.place.Place.{Place}
 use Rattle.cover.specs.declared.place.Place.the-variants.{Whole, Waiting, Sent}
-use Rattle.cover.specs.Places.{partOf, proper, fillings}
-use Rattle.cover.specs.Search.{SearchableNear, Against, outward, Stuck}
+use Rattle.cover.specs.Places.{partOf, isWhole, isFree, proper, fillings, NoneFree}
+use Rattle.cover.specs.Search.{Sized, Covered, by-entry, by-parts, Plain, Searchable, Against, Tried, Unmet, Stuck}
 use Rattle.cover.proofs.PlaceLaws.{true-not-false}
-use Rattle.cover.proofs.EntryLaws.{outward-onto}
-use Rattle.cover.proofs.HeldLaws.{against, cube-covered, cube-stuck, searchable-part, parts-all, parts-one}
+use Rattle.cover.proofs.EntryLaws.{load-few}
+use Rattle.cover.proofs.PartLaws.{part-count}
+use Rattle.cover.proofs.HeldLaws.{cube-stuck, searchable-part, parts-one, covered-is}
+
+-- ---- a walk
+
+module _ (f list sum : List ℕ) (n : ℕ) (s : Shape) (states : List ℕ) (number : ℕ) where
+  abbrev pub Start : ℕ → Type 0
+  Start k = Left f list sum n s states number n (headLink sum (homeOf number n)) false k
+
+  -- k is the entry of the walk, or still to come
+  abbrev pub Pending : Walk → ℕ → Type 0
+  Pending w k = (w .entry ≢ 0) × ((w .entry ≡ suc k) ⊎ Left f list sum n s states number (w .below) (w .link) (w .led) k)
+
+  -- each entry that may match was seen, or is pending
+  pub record Walked (Seen : ℕ → Type 0) (w : Walk) : Type 0 where
+    pub each : (k : ℕ) → Start k → Seen k ⊎ Pending w k
+
+  -- the walk is within the list
+  pub record Within (w : Walk) : Type 0 where
+    pub bounded : w .below ≤ n
+    pub exists : w .entry ≤ n
+
+  pub within : {below link : ℕ} {led : Bool} {w : Walk} → Onward f list sum n s states number below link led w → Within w
+  within O = record { bounded = O .bounded; exists = O .exists }
+
+  onward-pending : {below link : ℕ} {led : Bool} {w : Walk} → Onward f list sum n s states number below link led w → (k : ℕ) → Left f list sum n s states number below link led k → Pending w k
+  onward-pending {w = w} O k l = elim (ℕ-discrete (w .entry) 0) [
+    | yes e ↦ absurd (O .none e k l)
+    | no d ↦ (d, O .rest d k l)
+  ]
+
+  pub walked-begin : {Seen : ℕ → Type 0} {w : Walk} → Onward f list sum n s states number n (headLink sum (homeOf number n)) false w → Walked Seen w
+  walked-begin O = record { each = λ k l. inr (onward-pending O k l) }
+
+  pub walked-next : {Seen : ℕ → Type 0} {w v : Walk} → Walked Seen w → Seen (w .entry - 1) → Onward f list sum n s states number (w .below) (w .link) (w .led) v → Walked Seen v
+  walked-next {Seen} {w} {v} W d O =
+      record {
+        each = λ k l. ⊎-elim (λ x. inl x)
+            (λ x. ⊎-elim (λ e. let u : w .entry - 1 ≡ k = omega (arith, e) in inl (subst Seen u d)) (λ y. inr (onward-pending O k y)) (x .1))
+            (W .each k l);
+      }
+
+  pub walked-end : {Seen : ℕ → Type 0} {w : Walk} → Walked Seen w → w .entry ≡ 0 → (k : ℕ) → Start k → Seen k
+  walked-end W e k l = ⊎-elim (λ x. x) (λ x. absurd (x .0 e)) (W .each k l)
+
+-- how far a walk can still go, its own entry counted
+abbrev pub far : Walk → ℕ
+far w = cond (eqb (w .entry) 0) 0 (suc (w .below + cond (w .led) 0 1))
+
+pub far-less : {f list sum : List ℕ} {n : ℕ} {s : Shape} {states : List ℕ} {number : ℕ} {w v : Walk} → w .entry ≢ 0
+    → Onward f list sum n s states number (w .below) (w .link) (w .led) v → far v < far w
+far-less {w = w} {v = v} d O = rw (ne-eqb (w .entry) 0 d) (go (ℕ-discrete (v .entry) 0))
+  where
+    go : Dec (v .entry ≡ 0) → far v < suc (w .below + cond (w .led) 0 1)
+    go (yes e) = rw (eq-eqb (v .entry) 0 e) (omega arith)
+    go (no q) = rw (ne-eqb (v .entry) 0 q) (let u = O .shorter q in omega arith)
+
+-- ---- what was not walked over does not match
+
+module _ {f list sum : List ℕ} {n : ℕ} {s : Shape} {c : Cube} (Z : Searchable f list sum n s c) where
+  pub plain : Plain f list n s c
+  plain = record { count = Z .count; shape = Z .shape; entries = Z .entries; fits = Z .fits; messages = Z .messages; waiting = Z .waiting }
+
+  pub sized : Sized s c
+  sized = record { processes = Z .shape .processes; variables = Z .shape .variables; messages = Z .messages }
+
+  both-left : (a b : Bool) → a && b ≡ true → a ≡ true
+  both-left true b e = refl
+  both-left false b e = e
+
+  same-of : (exact : Bool) (a : Cube) → matches (shapeOf s) (relation exact) (configurationOf a) (configurationOf c) ≡ true → sameStates s (a .states) (c .states) ≡ true
+  same-of exact a e =
+      at-same s (a .states) (c .states)
+      (λ p l. eqb-true (getD (a .states) p 0) (getD (c .states) p 0)
+        (all-at (s .processes) (λ p. eqb (getD (a .states) p 0) (getD (c .states) p 0)) (both-left _ _ (both-left _ _ e)) p (omega arith)))
+
+  pub all-unmatched : (exact : Bool)
+      → ((k : ℕ) → Start f list sum n s (c .states) (numberOf s c) k → matches (shapeOf s) (relation exact) (configurationOf (cubeAt f list k)) (configurationOf c) ≡ false)
+      → (k : ℕ) → k < n → matches (shapeOf s) (relation exact) (configurationOf (cubeAt f list k)) (configurationOf c) ≡ false
+  all-unmatched exact g =
+      all-walked (Z .summed) (c .states) (numberOf s c) (λ k. matches (shapeOf s) (relation exact) (configurationOf (cubeAt f list k)) (configurationOf c))
+      (λ k l e. (match-number s exact (cubeAt f list k) c (Z .shape) (Z .entries k l) (Z .fits) (load-few f (offsetAt list k)) (Z .messages) e, same-of exact (cubeAt f list k) e)) g
 
 -- ---- a place to split at
 
-module _ (f list : List ℕ) (n : ℕ) (s : Shape) (c : Cube) (right : List ℕ) where
-  -- the first i entries were looked at
-  pub record Choosing (a : Place) (met : Bool) (i : ℕ) : Type 0 where
-    pub most : i ≤ n
+module _ (f list sum : List ℕ) (n : ℕ) (s : Shape) (c : Cube) (tags : List ℕ) (number : ℕ) where
+  pub record Choosing (a : Place) (met : Bool) (w : Walk) : Type 0 where
+    pub within : Within f list sum n s (c .states) number w
     pub proper : proper s c a ≡ true
-    pub unmet : met ≡ false → Against s c right → (k : ℕ) → k < i → matches (shapeOf s) alike (configurationOf (cubeAt f list k)) (configurationOf c) ≡ false
+    pub unmet : met ≡ false → Against s c tags
+        → Walked f list sum n s (c .states) number (λ k. matches (shapeOf s) alike (configurationOf (cubeAt f list k)) (configurationOf c) ≡ false) w
 
-  pub choosing-begin : Choosing Whole false 0
-  choosing-begin = record { most = omega arith; proper = refl; unmet = λ e A k l. absurd (omega arith) }
+  pub choosing-begin : {w : Walk} → Onward f list sum n s (c .states) number n (headLink sum (homeOf number n)) false w → Choosing Whole false w
+  choosing-begin O = record { within = within f list sum n s (c .states) number O; proper = refl; unmet = λ e A. walked-begin f list sum n s (c .states) number O }
 
-  module _ {a : Place} {met : Bool} {i : ℕ} (w : Choosing a met i) where
-    pub choosing-skip : i < n → (Against s c right → matches (shapeOf s) alike (configurationOf (cubeAt f list i)) (configurationOf c) ≡ false) → Choosing a met (i + 1)
-    choosing-skip l g =
-        record {
-          most = omega arith;
-          proper = w .proper;
-          unmet = λ e A k m. elim (ℕ-discrete k i) [
-            | yes d ↦ ap (λ (x : ℕ). matches (shapeOf s) alike (configurationOf (cubeAt f list x)) (configurationOf c)) d ∙ g A
-            | no d ↦ w .unmet e A k (omega arith)
-          ];
-        }
+  pub choosing-next : {a b : Place} {met now : Bool} {w v : Walk} → Choosing a met w → Tried f list s c tags a met (w .entry - 1) b now
+      → Onward f list sum n s (c .states) number (w .below) (w .link) (w .led) v → Choosing b now v
+  choosing-next C Y O =
+      record {
+        within = within f list sum n s (c .states) number O;
+        proper = Y .kept (C .proper);
+        unmet = λ e A. walked-next f list sum n s (c .states) number (C .unmet (Y .before e) A) (Y .unmet e A) O;
+      }
 
-    pub choosing-met : i < n → {b : Place} {m : Bool} → m ≡ true → (proper s c a ≡ true → proper s c b ≡ true) → Choosing b m (i + 1)
-    choosing-met l e g = record { most = omega arith; proper = g (w .proper); unmet = λ x. absurd (true-not-false (sym e ∙ x)) }
-
-    pub choosing-unmet : n ≤ i → met ≡ false → Against s c right → (k : ℕ) → k < n → matches (shapeOf s) alike (configurationOf (cubeAt f list k)) (configurationOf c) ≡ false
-    choosing-unmet l e A k m = w .unmet e A k (omega arith)
+  pub choosing-end : {a : Place} {met : Bool} {w : Walk} → Choosing a met w → w .entry ≡ 0 → met ≡ false → Unmet f list sum n s c tags number
+  choosing-end C z e A = walked-end f list sum n s (c .states) number (C .unmet e A) z
 
 -- ---- the parts in turn, and the entries for one of them
 
-module _ (f list : List ℕ) (n : ℕ) (s : Shape) (c : Cube) (a : Place) where
-  -- the first x parts are held
+module _ (f list sum : List ℕ) (n : ℕ) (s : Shape) (c : Cube) (a : Place) where
+  -- the first x parts are covered
   pub record Parts (x : ℕ) : Type 0 where
     pub most : x ≤ fillings s a
-    pub held : SearchableNear f list n s c → (k : ℕ) → k < x → held (shapeOf s) (entriesOf f list n) (configurationOf (partOf c a k)) ≡ true
+    pub covered : Sized s c → (k : ℕ) → k < x → Covered f list n s (partOf c a k)
 
-  -- the first i entries, in turn, do not cover the part
-  pub record Scanning (part : Cube) (right : List ℕ) (from x i : ℕ) : Type 0 where
+  -- the entries walked over do not cover the part
+  pub record Scanning (part : Cube) (tags : List ℕ) (number x : ℕ) (w : Walk) : Type 0 where
     pub parts : Parts x
     pub one : x < fillings s a
     pub is : part ≡ partOf c a x
-    pub most : i ≤ n
-    pub none : Against s part right → (k : ℕ) → k < i → matches (shapeOf s) fills (configurationOf (cubeAt f list (outward from n k))) (configurationOf part) ≡ false
+    pub tagged : tags ≡ tagsOf s part
+    pub numbered : number ≡ numberOf s part
+    pub within : Within f list sum n s (part .states) number w
+    pub none : Against s part tags
+        → Walked f list sum n s (part .states) number (λ k. matches (shapeOf s) fills (configurationOf (cubeAt f list k)) (configurationOf part) ≡ false) w
 
   pub parts-begin : Parts 0
-  parts-begin = record { most = omega arith; held = λ Z k l. absurd (omega arith) }
+  parts-begin = record { most = omega arith; covered = λ Z k l. absurd (omega arith) }
 
-  pub parts-next : {x : ℕ} → Parts x → x < fillings s a → (SearchableNear f list n s c → held (shapeOf s) (entriesOf f list n) (configurationOf (partOf c a x)) ≡ true) → Parts (x + 1)
+  pub parts-next : {x : ℕ} → Parts x → x < fillings s a → (Sized s c → Covered f list n s (partOf c a x)) → Parts (x + 1)
   parts-next {x} w l g =
       record {
         most = omega arith;
-        held = λ Z k m. elim (ℕ-discrete k x) [
-          | yes d ↦ ap (λ (y : ℕ). held (shapeOf s) (entriesOf f list n) (configurationOf (partOf c a y))) d ∙ g Z
-          | no d ↦ w .held Z k (omega arith)
-        ];
+        covered = λ Z k m. elim (ℕ-discrete k x) [ yes d ↦ subst (λ (y : ℕ). Covered f list n s (partOf c a y)) (sym d) (g Z) | no d ↦ w .covered Z k (omega arith) ];
       }
 
-  pub scanning-begin : {part : Cube} {right : List ℕ} {from x : ℕ} → Parts x → x < fillings s a → part ≡ partOf c a x → Scanning part right from x 0
-  scanning-begin w l e = record { parts = w; one = l; is = e; most = omega arith; none = λ A k m. absurd (omega arith) }
+  pub scanning-begin : {part : Cube} {tags : List ℕ} {number x : ℕ} {w : Walk} → Parts x → x < fillings s a → part ≡ partOf c a x → tags ≡ tagsOf s part
+      → (tags ≡ tagsOf s part → number ≡ numberOf s part) → Onward f list sum n s (part .states) number n (headLink sum (homeOf number n)) false w → Scanning part tags number x w
+  scanning-begin {part} {tags} {number} p l e t m O =
+      record {
+        parts = p;
+        one = l;
+        is = e;
+        tagged = t;
+        numbered = m t;
+        within = within f list sum n s (part .states) number O;
+        none = λ A. walked-begin f list sum n s (part .states) number O;
+      }
 
-  module _ (sixteen : length (c .queues) ≡ 16) (twenty : length (c .messages) ≡ 20) (ok : proper s c a ≡ true)
-      {part : Cube} {right : List ℕ} {from x i : ℕ} (w : Scanning part right from x i) where
-    pub scanning-next : i < n → (Against s part right → matches (shapeOf s) fills (configurationOf (cubeAt f list (outward from n i))) (configurationOf part) ≡ false) → Scanning part right from x (i + 1)
-    scanning-next l g =
+  module _ {part : Cube} {tags : List ℕ} {number x : ℕ} {w : Walk} (W : Scanning part tags number x w) where
+    pub scanning-next : {v : Walk} → (Against s part tags → matches (shapeOf s) fills (configurationOf (cubeAt f list (w .entry - 1))) (configurationOf part) ≡ false)
+        → Onward f list sum n s (part .states) number (w .below) (w .link) (w .led) v → Scanning part tags number x v
+    scanning-next d O =
         record {
-          parts = w .parts;
-          one = w .one;
-          is = w .is;
-          most = omega arith;
-          none = λ A k m. elim (ℕ-discrete k i) [
-            | yes d ↦ ap (λ (y : ℕ). matches (shapeOf s) fills (configurationOf (cubeAt f list (outward from n y))) (configurationOf part)) d ∙ g A
-            | no d ↦ w .none A k (omega arith)
-          ];
+          parts = W .parts;
+          one = W .one;
+          is = W .is;
+          tagged = W .tagged;
+          numbered = W .numbered;
+          within = within f list sum n s (part .states) number O;
+          none = λ A. walked-next f list sum n s (part .states) number (W .none A) (d A) O;
         }
 
-    part-searchable : SearchableNear f list n s c → SearchableNear f list n s part
-    part-searchable Z = subst (SearchableNear f list n s) (sym (w .is)) (searchable-part Z sixteen twenty a ok x (w .one))
+    part-sized : Sized s c → Sized s part
+    part-sized Z =
+        record {
+          processes = Z .processes;
+          variables = Z .variables;
+          messages = subst (λ (y : ℕ). y ≤ 20) (sym (ap (λ (y : Cube). y .count) (W .is) ∙ part-count c a x)) (Z .messages);
+        }
 
-    part-held : {b : Bool} → held (shapeOf s) (entriesOf f list n) (configurationOf part) ≡ b → held (shapeOf s) (entriesOf f list n) (configurationOf (partOf c a x)) ≡ b
-    part-held e = ap (λ (k : Cube). held (shapeOf s) (entriesOf f list n) (configurationOf k)) (sym (w .is)) ∙ e
+    part-against : Sized s c → Against s part tags
+    part-against Z = record { sized = part-sized Z; is = W .tagged }
 
-    module _ (roles : part .count ≤ 20 → Roles right (configurationOf part .memory)) where
-      -- an entry covers the part
-      pub scanning-covered : (k : ℕ) → k < n → (Against s part right → matches (shapeOf s) fills (configurationOf (cubeAt f list k)) (configurationOf part) ≡ true) → Parts (x + 1)
-      scanning-covered k l g =
-          parts-next (w .parts) (w .one) (λ Z. let Y = part-searchable Z in part-held (cube-covered Y k l (g (against Y roles))))
+    -- an entry covers the part
+    pub scanning-covered : w .entry ≢ 0 → (Against s part tags → matches (shapeOf s) fills (configurationOf (cubeAt f list (w .entry - 1))) (configurationOf part) ≡ true) → Parts (x + 1)
+    scanning-covered d g =
+        parts-next (W .parts) (W .one)
+        (λ Z. subst (Covered f list n s) (W .is) (by-entry (w .entry - 1) (let u = W .within .exists in omega (arith, d)) (g (part-against Z))))
+
+    -- its own parts cover it
+    pub scanning-held : {h : Bool} → (Sized s part → h ≡ true → Covered f list n s part) → h ≡ true → Parts (x + 1)
+    scanning-held g e = parts-next (W .parts) (W .one) (λ Z. subst (Covered f list n s) (W .is) (g (part-sized Z) e))
+
+    module _ (sixteen : length (c .queues) ≡ 16) (twenty : length (c .messages) ≡ 20) (ok : proper s c a ≡ true) (Z : Searchable f list sum n s c) where
+      part-plain : Plain f list n s part
+      part-plain = subst (Plain f list n s) (sym (W .is)) (searchable-part (plain Z) sixteen twenty a ok x (W .one))
+
+      part-searchable : Searchable f list sum n s part
+      part-searchable =
+          let Y = part-plain in
+          record { count = Y .count; shape = Y .shape; entries = Y .entries; summed = Z .summed; fits = Y .fits; messages = Y .messages; waiting = Y .waiting }
+
+      -- what is not held in the part is not held in the whole
+      part-out : held (shapeOf s) (entriesOf f list n) (configurationOf part) ≡ false → held (shapeOf s) (entriesOf f list n) (configurationOf c) ≡ false
+      part-out e = parts-one (plain Z) sixteen twenty a ok x (W .one) (ap (λ (k : Cube). held (shapeOf s) (entriesOf f list n) (configurationOf k)) (sym (W .is)) ∙ e)
 
       -- none covers it, and it can't be split
-      pub scanning-stuck : n ≤ i → (Against s part right → Stuck f list n s part) → SearchableNear f list n s c → false ≡ held (shapeOf s) (entriesOf f list n) (configurationOf c)
-      scanning-stuck l g Z =
-          let Y = part-searchable Z in
-          let A = against Y roles in
-          sym (parts-one Z sixteen twenty a ok x (w .one) (part-held (cube-stuck Y
-          (λ k m. let r = outward-onto from n k m in ap (λ (y : ℕ). matches (shapeOf s) fills (configurationOf (cubeAt f list y)) (configurationOf part)) (sym (r .2)) ∙ w .none A (r .0) (omega (arith, r .1)))
-          (g A))))
+      pub scanning-stuck : w .entry ≡ 0 → Stuck f list sum n s part tags number → held (shapeOf s) (entriesOf f list n) (configurationOf c) ≡ false
+      scanning-stuck z q =
+          let A = part-against (sized Z) in
+          let at : (R : ℕ → Bool) → ((k : ℕ) → Start f list sum n s (part .states) number k → R k ≡ false) → (k : ℕ) → Start f list sum n s (part .states) (numberOf s part) k → R k ≡ false =
+          λ R g k l. g k (subst (λ (y : ℕ). Start f list sum n s (part .states) y k) (sym (W .numbered)) l) in
+          part-out (cube-stuck part-plain
+          (all-unmatched part-searchable true
+          (at (λ k. matches (shapeOf s) fills (configurationOf (cubeAt f list k)) (configurationOf part)) (walked-end f list sum n s (part .states) number (W .none A) z)))
+          (⊎-elim
+          (λ u. inl (all-unmatched part-searchable false (at (λ k. matches (shapeOf s) alike (configurationOf (cubeAt f list k)) (configurationOf part)) (u A))))
+          (λ u. inr u) q))
 
-    -- its own parts decide it
-    pub scanning-held : {h : Bool} → (SearchableNear f list n s part → h ≡ held (shapeOf s) (entriesOf f list n) (configurationOf part)) → h ≡ true → Parts (x + 1)
-    scanning-held g e = parts-next (w .parts) (w .one) (λ Z. part-held (sym (g (part-searchable Z)) ∙ e))
+      pub scanning-outside : {h : Bool} → (Searchable f list sum n s part → h ≡ false → held (shapeOf s) (entriesOf f list n) (configurationOf part) ≡ false) → h ≡ false
+          → held (shapeOf s) (entriesOf f list n) (configurationOf c) ≡ false
+      scanning-outside g e = part-out (g part-searchable e)
 
-    pub scanning-outside : {h : Bool} → (SearchableNear f list n s part → h ≡ held (shapeOf s) (entriesOf f list n) (configurationOf part)) → h ≡ false
-        → SearchableNear f list n s c → h ≡ held (shapeOf s) (entriesOf f list n) (configurationOf c)
-    scanning-outside g e Z = e ∙ sym (parts-one Z sixteen twenty a ok x (w .one) (part-held (sym (g (part-searchable Z)) ∙ e)))
+  pub parts-done : proper s c a ≡ true → {x : ℕ} → Parts x → fillings s a ≤ x → Sized s c → Covered f list n s c
+  parts-done ok {x} w l Z = go a refl
+    where
+      go : (b : Place) → a ≡ b → Covered f list n s c
+      go Whole e = subst (λ (y : Place). Covered f list n s (partOf c y 0)) e (w .covered Z 0 (subst (λ (y : Place). fillings s y ≤ x) e l))
+      go (Waiting p v j) e = by-parts (Waiting p v j) (subst (λ (y : Place). proper s c y ≡ true) e ok)
+          (λ k m. subst (λ (y : Place). Covered f list n s (partOf c y k)) e (w .covered Z k (let u : k < fillings s a = subst (λ (y : Place). k < fillings s y) (sym e) m in omega arith)))
+      go (Sent i v) e = by-parts (Sent i v) (subst (λ (y : Place). proper s c y ≡ true) e ok)
+          (λ k m. subst (λ (y : Place). Covered f list n s (partOf c y k)) e (w .covered Z k (let u : k < fillings s a = subst (λ (y : Place). k < fillings s y) (sym e) m in omega arith)))
 
-  pub parts-done : length (c .queues) ≡ 16 → length (c .messages) ≡ 20 → proper s c a ≡ true → {x : ℕ} → Parts x → fillings s a ≤ x
-      → SearchableNear f list n s c → true ≡ held (shapeOf s) (entriesOf f list n) (configurationOf c)
-  parts-done m t e w l Z = sym (parts-all Z m t a e (λ k y. w .held Z k (omega arith)))
-
--- no more entries are asked for than are searched
-pub counted : (f list : List ℕ) (m n : ℕ) (s : Shape) (c : Cube) {h : Bool} → m ≡ min n 524288
-    → (SearchableNear f list m s c → h ≡ held (shapeOf s) (entriesOf f list m) (configurationOf c)) → SearchableNear f list n s c → h ≡ held (shapeOf s) (entriesOf f list n) (configurationOf c)
-counted f list m n s c {h} e g Z =
-    let l = Z .count in
-    let d : m ≡ n = omega arith in
-    subst (λ (k : ℕ). SearchableNear f list k s c → h ≡ held (shapeOf s) (entriesOf f list k) (configurationOf c)) d g Z
+-- what is covered is held, and what is not is not
+pub found : {f list sum : List ℕ} {n : ℕ} {s : Shape} {c : Cube} {h : Bool} → length (c .queues) ≡ 16 → length (c .messages) ≡ 20 → (Sized s c → h ≡ true → Covered f list n s c)
+    → (Searchable f list sum n s c → h ≡ false → held (shapeOf s) (entriesOf f list n) (configurationOf c) ≡ false)
+    → Searchable f list sum n s c → h ≡ held (shapeOf s) (entriesOf f list n) (configurationOf c)
+found {h = true} q m g d Z = sym (covered-is q m (plain Z) (g (sized Z) refl))
+found {h = false} q m g d Z = sym (d Z refl)

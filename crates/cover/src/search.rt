@@ -89,6 +89,7 @@ pub fn search(file: &[u8], list: &[u8], sum: &[u8], n: usize, shape: Shape, cube
     ensures found { λ r. ⌜ (Sized shape cube → r ≡ true → Covered (now (file .entry)) (now (list .entry)) n shape cube) ⌝ }
     ensures { λ r. ⌜ (Searchable (now (file .entry)) (now (list .entry)) (now (sum .entry)) n shape cube → r ≡ held (shapeOf shape) (entriesOf (now (file .entry)) (now (list .entry)) n) (configurationOf cube)) ⌝ }
 {
+    let sizes = rooms(cube);
     if 524288 < n {
         return false;
     }

@@ -1,0 +1,29 @@
+use native.Mathlib.Omega.{arith}
+use borrow.Author.Needs.{needs}
+use Rattle.cover.proofs.split.gaps_at.Statement.{statement}
+use Rattle.cover.proofs.split.gaps_at.Tie as tie
+use Rattle.cover.proofs.split.gaps_at.Reads as reads
+use Rattle.cover.proofs.split.gaps_at.Lts as lts
+use Rattle.contents.proofs.entry_at.Reads as entry-at-reads
+use Rattle.cover.proofs.gaps.gaps_between.Reads as gaps-between-reads
+use Rattle.matching.proofs.tags_of.Reads as tags-of-reads
+
+-- src/split.rt:63:9
+entry-at-requires : tie.Need-entry-at-requires
+entry-at-requires c κs = search needs
+
+-- src/split.rt:64:9
+tags-of-requires : tie.Need-tags-of-requires
+tags-of-requires c κs = search needs
+
+-- src/split.rt:65:5
+gaps-between-requires : tie.Need-gaps-between-requires
+gaps-between-requires c κs = search needs
+
+-- src/split.rt:62:1
+returns : tie.Need-returns
+returns c = search needs
+
+pub gaps-at-spec : {M : Type 1} → statement M
+gaps-at-spec =
+    tie.close (tie.spec entry-at-requires tags-of-requires gaps-between-requires returns)
