@@ -17,9 +17,9 @@ use Rattle.records.specs.declared.program.Shape.{Shape}
 use Rattle.records.proofs.ProgramLaws.{and-true}
 use Rattle.reading.specs.declared.entry.Cube.{Cube}
 use Rattle.matching.specs.Tags.{sumBelow, listBelow, roleOf, roleAt, mask, labelNumber, memoryOf, tagOf, tagsOf}
-use Rattle.matching.specs.Roles.{Roles, Labels}
 use Rattle.matching.proofs.SumLaws.{bits}
 use Rattle.matching.proofs.TagLaws.{role-exists, role-absent}
+use Rattle.matching.proofs.RoleLaws.{Roles}
 
 -- ---- lists of twenty
 
@@ -44,38 +44,33 @@ tags-at s c i l k =
 
 -- ---- label by label
 
-pub record LabelsTo (labels : List ℕ) (ms : List Message) (n i : ℕ) : Type 0 where
-  pub most : i ≤ n
-  pub to : Labels labels ms i
+-- the labels of the first n of twenty messages
+pub record Labels (labels : List ℕ) (messages : List Message) (n : ℕ) : Type 0 where
+  pub room : length labels ≡ 20
+  pub here : (i : ℕ) → i < n → getD labels i 0 ≡ labelNumber (getD messages i noMessage)
+  pub past : (i : ℕ) → n ≤ i → getD labels i 0 ≡ 0
+  pub low : (i : ℕ) → getD labels i 0 < 65536
 
-pub labels-begin : (ms : List Message) (n : ℕ) {labels : List ℕ} → length labels ≡ 20 → ((i : ℕ) → getD labels i 0 ≡ 0) → LabelsTo labels ms n 0
-labels-begin ms n e f =
-    record {
-      most = omega arith;
-      to = record { room = e; here = λ i l. absurd (omega arith); past = λ i l. f i; low = λ i. omega (arith, f i) };
-    }
+pub labels-begin : (ms : List Message) {labels : List ℕ} → length labels ≡ 20 → ((i : ℕ) → getD labels i 0 ≡ 0) → Labels labels ms 0
+labels-begin ms e f = record { room = e; here = λ i l. absurd (omega arith); past = λ i l. f i; low = λ i. omega (arith, f i) }
 
-pub labels-next : {labels : List ℕ} {ms : List Message} {n i x : ℕ} → LabelsTo labels ms n i → i < n → n ≤ 20 → x ≡ labelNumber (getD ms i noMessage) → x < 65536
-    → LabelsTo (set labels i x) ms n (i + 1)
-labels-next {labels} {ms} {n} {i} {x} w l m e k =
+pub labels-next : {labels : List ℕ} {ms : List Message} {i x : ℕ} → Labels labels ms i → i < 20 → x ≡ labelNumber (getD ms i noMessage) → x < 65536 → Labels (set labels i x) ms (i + 1)
+labels-next {labels} {ms} {i} {x} w l e k =
     record {
-      most = omega arith;
-      to = record {
-        room = length-set labels i x ∙ w .to .room;
-        here = λ j a. elim (ℕ-discrete j i) [
-          | yes d ↦ ap (λ (z : ℕ). getD (set labels i x) z 0) d ∙ new ∙ e ∙ ap (λ (z : ℕ). labelNumber (getD ms z noMessage)) (sym d)
-          | no d ↦ old j d ∙ w .to .here j (omega arith)
-        ];
-        past = λ j a. old j (λ d. omega arith) ∙ w .to .past j (omega arith);
-        low = λ j. elim (ℕ-discrete j i) [
-          | yes d ↦ omega (arith, ap (λ (z : ℕ). getD (set labels i x) z 0) d, new)
-          | no d ↦ omega (arith, old j d, w .to .low j)
-        ];
-      };
+      room = length-set labels i x ∙ w .room;
+      here = λ j a. elim (ℕ-discrete j i) [
+        | yes d ↦ ap (λ (z : ℕ). getD (set labels i x) z 0) d ∙ new ∙ e ∙ ap (λ (z : ℕ). labelNumber (getD ms z noMessage)) (sym d)
+        | no d ↦ old j d ∙ w .here j (omega arith)
+      ];
+      past = λ j a. old j (λ d. omega arith) ∙ w .past j (omega arith);
+      low = λ j. elim (ℕ-discrete j i) [
+        | yes d ↦ omega (arith, ap (λ (z : ℕ). getD (set labels i x) z 0) d, new)
+        | no d ↦ omega (arith, old j d, w .low j)
+      ];
     }
   where
     new : getD (set labels i x) i 0 ≡ x
-    new = getD-set-same labels i x 0 (omega (arith, w .to .room))
+    new = getD-set-same labels i x 0 (omega (arith, w .room))
 
     old : (j : ℕ) → (j ≡ i → ⊥) → getD (set labels i x) j 0 ≡ getD labels j 0
     old j d = getD-set-other labels i j x 0 d
