@@ -1,6 +1,6 @@
 -- Messages with their roles, matched newest first by their tags.
 use Prim.Native.Nat.{ℕ, zero, suc, _+_, _-_, _*_, _<_, _≤_, min, max}
-use mathlib.Core.Path.{_≡_, refl, sym, ap, ap₂, _∙_}
+use mathlib.Core.Path.{_≡_, refl, sym, ap, ap₂, subst₂, _∙_}
 use mathlib.Core.Bool.{Bool, true, false, cond, _&&_, _||_}
 use mathlib.Core.List.{List, [], _∷_}
 use native.Mathlib.Omega.{arith}
@@ -165,3 +165,42 @@ module _ (exact : Bool) (s : Shape) (a : Cube) (left : List ℕ) (b : Cube) (rig
                   ap (λ (us : List Tagged). subsequence (tagMatches (relation exact)) us (upTo s b (j - 1))) (some-left z)
                   ∙ sym (step false (tag s a i) (tag s b j) (upTo s a (i - 1)) (upTo s b (j - 1)) (tested r t z ∙ g)) ∙ both-sides z;
             }
+
+-- ---- the loop, over what the code reads before it
+
+-- the messages of two cubes, their lowest pointers, and their numbers of messages
+pub record Reads (s : Shape) (a b : Cube) (xs ys : List Message) (f l n m : ℕ) : Type 0 where
+  pub messages : xs ≡ a .messages
+  pub others : ys ≡ b .messages
+  pub first : f ≡ lowestPointer s (a .pointers)
+  pub last : l ≡ lowestPointer s (b .pointers)
+  pub count : n ≡ min (a .count) 20
+  pub counted : m ≡ min (b .count) 20
+
+module _ (exact : Bool) (s : Shape) (a : Cube) (left : List ℕ) (b : Cube) (right : List ℕ) {xs ys : List Message} {first last n m : ℕ} (h : Reads s a b xs ys first last n m) where
+  abbrev pub TestedOf : Bool → List Message → List Message → ℕ → ℕ → Type 0
+  TestedOf r us vs i j =
+      (m n : ℕ) → getD left (i - 1) 0 ≡ 65536 * m + labelNumber (getD us (i - 1) noMessage) → getD right (j - 1) 0 ≡ 65536 * n + labelNumber (getD vs (j - 1) noMessage)
+      → r ≡ eqb m n && messageMatches (relation exact) (getD us (i - 1) noMessage) (getD vs (j - 1) noMessage)
+
+  module _ {i j : ℕ} (w : Newest exact s a left b right i j) where
+    pub reads-all : i < first → Suits s a left b right → true ≡ channelMatches s exact a b
+    reads-all l = newest-all exact s a left b right w (omega (arith, h .first))
+
+    pub reads-none : first ≤ i → j < last → Suits s a left b right → false ≡ channelMatches s exact a b
+    reads-none k l = newest-none exact s a left b right w (omega (arith, h .first)) (omega (arith, h .last))
+
+    tested-of : {r : Bool} → TestedOf r xs ys i j → Tested exact s a left b right r i j
+    tested-of {r} t = subst₂ (λ (us vs : List Message). TestedOf r us vs i j) (h .messages) (h .others) t
+
+    pub reads-match : {r : Bool} → first ≤ i → last ≤ j → TestedOf r xs ys i j → r ≡ true → Newest exact s a left b right (i - 1) (j - 1)
+    reads-match k l t g = newest-match exact s a left b right w (omega (arith, h .first)) (omega (arith, h .last)) (tested-of t) g
+
+    pub reads-skip : {r : Bool} → first ≤ i → last ≤ j → TestedOf r xs ys i j → r ≡ false → Newest exact s a left b right i (j - 1)
+    reads-skip k l t g = newest-skip exact s a left b right w (omega (arith, h .first)) (omega (arith, h .last)) (tested-of t) g
+
+    pub first-room : first ≤ i → (1 ≤ i) × (i ≤ 20)
+    first-room k = (omega (arith, h .first, low-positive s (a .pointers)), omega (arith, w .first))
+
+    pub last-room : last ≤ j → (1 ≤ j) × (j ≤ 20)
+    last-room k = (omega (arith, h .last, low-positive s (b .pointers)), omega (arith, w .second))
