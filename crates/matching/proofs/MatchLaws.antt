@@ -1,6 +1,6 @@
 -- A match is three tests: states, queues, messages with their roles.
 use Prim.Native.Nat.{ℕ, _+_, _*_, _<_, _≤_, min}
-use mathlib.Core.Path.{_≡_, refl, sym, ap, ap₂, _∙_}
+use mathlib.Core.Path.{_≡_, sym, ap, ap₂, _∙_}
 use mathlib.Core.Bool.{Bool, true, false, _&&_}
 use mathlib.Core.List.{List}
 use native.Mathlib.Omega.{arith}
@@ -64,7 +64,7 @@ module _ (exact : Bool) (s : Shape) (a b : Cube) (z : Sizes s a b) where
       ∙ all-equal (s .processes) (queueRow (s .variables) exact (a .queues) (b .queues))
       (λ p. allBelow (s .variables) (λ v. queueMatches (relation exact) (configurationOf a .queue p v) (configurationOf b .queue p v))) row-is
 
-  pub three-tests : (allBelow (min (s .processes) 4) (λ p. eqb (getD (a .states) p 0) (getD (b .states) p 0))
+  three-tests : (allBelow (min (s .processes) 4) (λ p. eqb (getD (a .states) p 0) (getD (b .states) p 0))
       && allBelow (min (s .processes) 4) (queueRow (s .variables) exact (a .queues) (b .queues)))
       && channelMatches s exact a b
       ≡ matches (shapeOf s) (relation exact) (configurationOf a) (configurationOf b)

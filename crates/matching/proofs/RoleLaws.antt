@@ -1,7 +1,6 @@
 -- The roles that the code keeps are those of the memory.
 use Prim.Native.Nat.{ℕ, zero, suc, _+_, _*_, _<_, _≤_, min, max}
 use mathlib.Core.Path.{_≡_, refl, sym, ap, ap₂, subst, _∙_}
-use mathlib.Core.Logic.{_≢_}
 use mathlib.Core.Bool.{Bool, true, false, cond, _&&_}
 use mathlib.Core.List.{List, [], _∷_}
 use native.Mathlib.Omega.{arith}
@@ -9,8 +8,8 @@ use native.Mathlib.Numerals.{unary-clauses}
 use native.Mathlib.Decide.{ℕ-discrete}
 use lib.ListN.{length, getD, set, length-set}
 use lib.Seq.{getD-set-same, getD-set-other}
-use lib.Dec.{T, eqb, leb, ltb}
-use borrow.Author.Tests.{ltb-true, ltb-false, leb-true, leb-false, eqb-true, eq-eqb, ne-eqb, lt-ltb}
+use lib.Dec.{T, eqb, ltb}
+use borrow.Author.Tests.{ltb-true, eq-eqb, ne-eqb, lt-ltb}
 use Rattle.pws.specs.declared.Message.{Message}
 use Rattle.pws.specs.Machine.{Memory, noMessage, labelled, lastLabelled, lastWrite}
 use Rattle.reading.specs.declared.entry.Cube.{Cube}
@@ -176,7 +175,7 @@ module _ {z : ℕ → ℕ} {ms : List Message} {roles roles′ : List ℕ} {i q 
   place-moved l f =
       subst (λ (rs : List ℕ). RolesTo z ms rs (i + 1)) (sym (f ∙ ap (λ (k : ℕ). set roles k (i + 1)) e)) (roles-moved w (omega (arith, l, ap (λ (k : ℕ). getD roles k 0) e)))
 
-pub roles-all : (zs : List ℕ) {ms : List Message} {roles : List ℕ} {i : ℕ} → RolesTo (λ p. getD zs p 0) ms roles i
+roles-all : (zs : List ℕ) {ms : List Message} {roles : List ℕ} {i : ℕ} → RolesTo (λ p. getD zs p 0) ms roles i
     → Roles roles (record { channel = channelOf ms i; pointer = λ p. getD zs p 0 })
 roles-all zs w = record { pointer = w .pointer; written = w .written }
 

@@ -1,6 +1,6 @@
 // Local states and queues of an entry against those of a cube.
 ghost use mathlib.Core.Path.{_≡_};
-ghost use Prim.Native.Nat.{ℕ, min};
+ghost use Prim.Native.Nat.{min};
 ghost use lib.ListN.{getD};
 ghost use lib.Dec.{eqb};
 ghost use Rattle.pws.specs.Machine.{allBelow};

@@ -1,6 +1,6 @@
 // Tags of messages: what a message is to each process, and its label, in one number.
 ghost use mathlib.Core.Path.{_≡_};
-ghost use Prim.Native.Nat.{ℕ, _+_, _*_, _%_, _^_, _<_, _≤_, min};
+ghost use Prim.Native.Nat.{_+_, _*_, _%_, _^_, _<_, min};
 ghost use Rattle.matching.specs.Roles.{labelPlace};
 ghost use Rattle.matching.specs.Tags.{labelNumber, tagsOf, lowestPointer};
 use crate::values::least;

@@ -1,5 +1,4 @@
-use Prim.Native.Nat.{_+_, _-_}
-use mathlib.Core.Path.{_≡_, refl, _∙_}
+use mathlib.Core.Path.{refl, _∙_}
 use native.Mathlib.Omega.{arith}
 use Rattle.records.specs.declared.program.Shape.{Shape}
 use Rattle.reading.specs.declared.entry.Cube.{Cube}
