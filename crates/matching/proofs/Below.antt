@@ -1,19 +1,11 @@
--- Tests over the numbers below a bound, and tables of them.
+-- Tests over the numbers below a bound.
 use Prim.Native.Nat.{ℕ, zero, suc, _+_, _<_, _≤_}
 use mathlib.Core.Path.{_≡_, refl, sym, ap, ap₂, _∙_}
 use mathlib.Core.Bool.{Bool, true, false, _&&_, _||_}
-use mathlib.Core.List.{List}
 use native.Mathlib.Omega.{arith}
 use native.Mathlib.Decide.{ℕ-discrete}
 use Rattle.pws.specs.Machine.{allBelow}
-use Rattle.pws.specs.Tagged.{table, anyBelow}
-use Rattle.lists.specs.Values.{pairwise}
-
-and-comm : (a b : Bool) → a && b ≡ b && a
-and-comm true true = refl
-and-comm true false = refl
-and-comm false true = refl
-and-comm false false = refl
+use Rattle.pws.specs.Tagged.{anyBelow}
 
 pub or-true : (a : Bool) → a || true ≡ true
 or-true true = refl
@@ -22,10 +14,6 @@ or-true false = refl
 pub and-false : (a : Bool) → a && false ≡ false
 and-false true = refl
 and-false false = refl
-
-pub and-right : (a : Bool) → a && true ≡ a
-and-right true = refl
-and-right false = refl
 
 pub all-true : (n : ℕ) (f : ℕ → Bool) → ((i : ℕ) → i < n → f i ≡ true) → allBelow n f ≡ true
 all-true zero f h = refl
@@ -38,13 +26,6 @@ all-false (suc n) f i l e = elim (ℕ-discrete i n) [
   | no d ↦ rw (all-false n f i (omega arith) e) refl
 ]
 
-pub any-true : (n : ℕ) (f : ℕ → Bool) (i : ℕ) → i < n → f i ≡ true → anyBelow n f ≡ true
-any-true zero f i l e = absurd (omega arith)
-any-true (suc n) f i l e = elim (ℕ-discrete i n) [
-  | yes d ↦ rw (ap f (sym d) ∙ e) refl
-  | no d ↦ rw (any-true n f i (omega arith) e) (or-true (f n))
-]
-
 pub any-false : (n : ℕ) (f : ℕ → Bool) → ((i : ℕ) → i < n → f i ≡ false) → anyBelow n f ≡ false
 any-false zero f h = refl
 any-false (suc n) f h = ap₂ _||_ (h n (omega arith)) (any-false n f (λ i l. h i (omega arith)))
@@ -52,14 +33,6 @@ any-false (suc n) f h = ap₂ _||_ (h n (omega arith)) (any-false n f (λ i l. h
 pub all-equal : (n : ℕ) (f g : ℕ → Bool) → ((i : ℕ) → i < n → f i ≡ g i) → allBelow n f ≡ allBelow n g
 all-equal zero f g h = refl
 all-equal (suc n) f g h = ap₂ _&&_ (all-equal n f g (λ i l. h i (omega arith))) (h n (omega arith))
-
-pub any-equal : (n : ℕ) (f g : ℕ → Bool) → ((i : ℕ) → i < n → f i ≡ g i) → anyBelow n f ≡ anyBelow n g
-any-equal zero f g h = refl
-any-equal (suc n) f g h = ap₂ _||_ (h n (omega arith)) (any-equal n f g (λ i l. h i (omega arith)))
-
-pub table-pairs : {A : Type 0} (r : A → A → Bool) (n : ℕ) (f g : ℕ → A) → pairwise r (table n f) (table n g) ≡ allBelow n (λ k. r (f k) (g k))
-table-pairs r zero f g = refl
-table-pairs r (suc n) f g = ap (_&&_ (r (f n) (g n))) (table-pairs r n f g) ∙ and-comm (r (f n) (g n)) (allBelow n (λ k. r (f k) (g k)))
 
 -- ---- a loop over the numbers below n, so far: each test gave b
 

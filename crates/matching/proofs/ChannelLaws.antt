@@ -1,6 +1,6 @@
 -- Messages with their roles, matched newest first by their tags.
-use Prim.Native.Nat.{ℕ, zero, suc, _+_, _-_, _*_, _<_, _≤_, min, max}
-use mathlib.Core.Path.{_≡_, refl, sym, ap, ap₂, _∙_}
+use Prim.Native.Nat.{ℕ, zero, suc, _+_, _-_, _*_, _<_, _≤_, min}
+use mathlib.Core.Path.{_≡_, refl, sym, ap, ap₂, subst₂, _∙_}
 use mathlib.Core.Bool.{Bool, true, false, cond, _&&_, _||_}
 use mathlib.Core.List.{List, [], _∷_}
 use native.Mathlib.Omega.{arith}
@@ -16,12 +16,10 @@ use Rattle.reading.specs.declared.entry.Cube.{Cube}
 use Rattle.records.specs.ProgramPart.{shapeOf}
 use Rattle.reading.specs.Cube.{channelOf, configurationOf}
 use Rattle.reading.proofs.CubeParts.{channel-length}
-use Rattle.lists.specs.Values.{pairwise}
 use Rattle.lists.specs.Matching.{same, subsequence, messageMatches, tagMatches}
 use Rattle.matching.specs.Relation.{relation}
 use Rattle.matching.specs.Tags.{mask, labelNumber, tagOf, tagsOf, lowestBelow, lowestPointer}
-use Rattle.matching.specs.Match.{Sizes, Suits, channelMatches}
-use Rattle.matching.proofs.Below.{or-true}
+use Rattle.matching.specs.Match.{Suits, channelMatches}
 use Rattle.matching.proofs.TagLaws.{roles-test, tag-is}
 use Rattle.matching.proofs.MarkLaws.{tags-at}
 
@@ -59,19 +57,19 @@ module _ (s : Shape) (few : s .processes ≤ 4) (a : Cube) where
   abbrev consed : ℕ → ℕ → List Tagged
   consed n k = record { message = getD (a .messages) n noMessage; roles = roles (shapeOf s) (configurationOf a .memory) (suc k) } ∷ upTo s a n
 
-  pub up-none : (i : ℕ) → i ≤ 20 → i < lowestPointer s (a .pointers) → upTo s a i ≡ []
+  up-none : (i : ℕ) → i ≤ 20 → i < lowestPointer s (a .pointers) → upTo s a i ≡ []
   unfolding lowestPointer
   up-none zero l e = refl
   up-none (suc n) l e = rw (live n (omega arith) ∙ lt-leb (lowestBelow (min (s .processes) 4) (a .pointers)) (suc n) (omega arith)) refl
 
-  pub up-some : (i : ℕ) → i ≤ 20 → lowestPointer s (a .pointers) ≤ i → upTo s a i ≡ tag s a i ∷ upTo s a (i - 1)
+  up-some : (i : ℕ) → i ≤ 20 → lowestPointer s (a .pointers) ≤ i → upTo s a i ≡ tag s a i ∷ upTo s a (i - 1)
   unfolding lowestPointer
   up-some zero l e = absurd (omega arith)
   up-some (suc n) l e =
       let z : suc n - 1 ≡ n = omega arith in
       rw z (rw (live n (omega arith) ∙ le-leb (lowestBelow (min (s .processes) 4) (a .pointers)) (suc n) (omega arith)) (ap (consed n) (channel-length (a .messages) n)))
 
-pub low-positive : (s : Shape) (zs : List ℕ) → 0 < lowestPointer s zs
+low-positive : (s : Shape) (zs : List ℕ) → 0 < lowestPointer s zs
 unfolding lowestPointer
 low-positive s zs = omega arith
 
@@ -106,7 +104,7 @@ module _ (exact : Bool) (s : Shape) (a : Cube) (left : List ℕ) (b : Cube) (rig
       }
 
   module _ {i j : ℕ} (w : Newest i j) where
-    pub newest-all : i < lowestPointer s (a .pointers) → Suits s a left b right → true ≡ channelMatches s exact a b
+    newest-all : i < lowestPointer s (a .pointers) → Suits s a left b right → true ≡ channelMatches s exact a b
     newest-all e z =
         ap (λ (xs : List Tagged). subsequence (tagMatches (relation exact)) xs (upTo s b j)) (sym (up-none s (z .sizes .processes) a i (omega (arith, w .first)) e)) ∙ w .same z
 
@@ -114,7 +112,7 @@ module _ (exact : Bool) (s : Shape) (a : Cube) (left : List ℕ) (b : Cube) (rig
       some-left : (z : Suits s a left b right) → upTo s a i ≡ tag s a i ∷ upTo s a (i - 1)
       some-left z = up-some s (z .sizes .processes) a i (omega (arith, w .first)) e
 
-      pub newest-none : j < lowestPointer s (b .pointers) → Suits s a left b right → false ≡ channelMatches s exact a b
+      newest-none : j < lowestPointer s (b .pointers) → Suits s a left b right → false ≡ channelMatches s exact a b
       newest-none f z =
           ap₂ (subsequence (tagMatches (relation exact))) (sym (some-left z)) (sym (up-none s (z .sizes .processes) b j (omega (arith, w .second)) f)) ∙ w .same z
 
@@ -148,7 +146,7 @@ module _ (exact : Bool) (s : Shape) (a : Cube) (left : List ℕ) (b : Cube) (rig
         step true x y us vs g = ap (λ (k : Bool). elim k [ true ↦ subsequence (tagMatches (relation exact)) us vs | false ↦ subsequence (tagMatches (relation exact)) (x ∷ us) vs ]) g
         step false x y us vs g = ap (λ (k : Bool). elim k [ true ↦ subsequence (tagMatches (relation exact)) us vs | false ↦ subsequence (tagMatches (relation exact)) (x ∷ us) vs ]) g
 
-        pub newest-match : {r : Bool} → Tested r i j → r ≡ true → Newest (i - 1) (j - 1)
+        newest-match : {r : Bool} → Tested r i j → r ≡ true → Newest (i - 1) (j - 1)
         newest-match {r} t g =
             record {
               first = omega (arith, w .first);
@@ -156,7 +154,7 @@ module _ (exact : Bool) (s : Shape) (a : Cube) (left : List ℕ) (b : Cube) (rig
               same = λ z. sym (step true (tag s a i) (tag s b j) (upTo s a (i - 1)) (upTo s b (j - 1)) (tested r t z ∙ g)) ∙ both-sides z;
             }
 
-        pub newest-skip : {r : Bool} → Tested r i j → r ≡ false → Newest i (j - 1)
+        newest-skip : {r : Bool} → Tested r i j → r ≡ false → Newest i (j - 1)
         newest-skip {r} t g =
             record {
               first = w .first;
@@ -165,3 +163,42 @@ module _ (exact : Bool) (s : Shape) (a : Cube) (left : List ℕ) (b : Cube) (rig
                   ap (λ (us : List Tagged). subsequence (tagMatches (relation exact)) us (upTo s b (j - 1))) (some-left z)
                   ∙ sym (step false (tag s a i) (tag s b j) (upTo s a (i - 1)) (upTo s b (j - 1)) (tested r t z ∙ g)) ∙ both-sides z;
             }
+
+-- ---- the loop, over what the code reads before it
+
+-- the messages of two cubes, their lowest pointers, and their numbers of messages
+pub record Reads (s : Shape) (a b : Cube) (xs ys : List Message) (f l n m : ℕ) : Type 0 where
+  pub messages : xs ≡ a .messages
+  pub others : ys ≡ b .messages
+  pub first : f ≡ lowestPointer s (a .pointers)
+  pub last : l ≡ lowestPointer s (b .pointers)
+  pub count : n ≡ min (a .count) 20
+  pub counted : m ≡ min (b .count) 20
+
+module _ (exact : Bool) (s : Shape) (a : Cube) (left : List ℕ) (b : Cube) (right : List ℕ) {xs ys : List Message} {first last n m : ℕ} (h : Reads s a b xs ys first last n m) where
+  abbrev pub TestedOf : Bool → List Message → List Message → ℕ → ℕ → Type 0
+  TestedOf r us vs i j =
+      (m n : ℕ) → getD left (i - 1) 0 ≡ 65536 * m + labelNumber (getD us (i - 1) noMessage) → getD right (j - 1) 0 ≡ 65536 * n + labelNumber (getD vs (j - 1) noMessage)
+      → r ≡ eqb m n && messageMatches (relation exact) (getD us (i - 1) noMessage) (getD vs (j - 1) noMessage)
+
+  module _ {i j : ℕ} (w : Newest exact s a left b right i j) where
+    pub reads-all : i < first → Suits s a left b right → true ≡ channelMatches s exact a b
+    reads-all l = newest-all exact s a left b right w (omega (arith, h .first))
+
+    pub reads-none : first ≤ i → j < last → Suits s a left b right → false ≡ channelMatches s exact a b
+    reads-none k l = newest-none exact s a left b right w (omega (arith, h .first)) (omega (arith, h .last))
+
+    tested-of : {r : Bool} → TestedOf r xs ys i j → Tested exact s a left b right r i j
+    tested-of {r} t = subst₂ (λ (us vs : List Message). TestedOf r us vs i j) (h .messages) (h .others) t
+
+    pub reads-match : {r : Bool} → first ≤ i → last ≤ j → TestedOf r xs ys i j → r ≡ true → Newest exact s a left b right (i - 1) (j - 1)
+    reads-match k l t g = newest-match exact s a left b right w (omega (arith, h .first)) (omega (arith, h .last)) (tested-of t) g
+
+    pub reads-skip : {r : Bool} → first ≤ i → last ≤ j → TestedOf r xs ys i j → r ≡ false → Newest exact s a left b right i (j - 1)
+    reads-skip k l t g = newest-skip exact s a left b right w (omega (arith, h .first)) (omega (arith, h .last)) (tested-of t) g
+
+    pub first-room : first ≤ i → (1 ≤ i) × (i ≤ 20)
+    first-room k = (omega (arith, h .first, low-positive s (a .pointers)), omega (arith, w .first))
+
+    pub last-room : last ≤ j → (1 ≤ j) × (j ≤ 20)
+    last-room k = (omega (arith, h .last, low-positive s (b .pointers)), omega (arith, w .second))

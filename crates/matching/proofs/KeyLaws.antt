@@ -17,9 +17,9 @@ use Rattle.pws.specs.Tagged.{Tagged, table, anyBelow, roles, isLive, taggedFrom
 use Rattle.pws.proofs.Facts.{Proper, is-last}
 use Rattle.pws.proofs.Tagged.{table-ext}
 use Rattle.lists.specs.Matching.{Subsequence, nothing, skip, keep, ends, QueueMatch, tagMatches, Match}
-use Rattle.lists.proofs.Matching.{sub-empty, SameTag, tag-match}
+use Rattle.lists.proofs.Matching.{sub-empty, tag-match}
 use Rattle.matching.specs.Tags.{sumBelow}
-use Rattle.matching.specs.Key.{Mark, markOf, someTrue, someRole, marksOf, Key, key}
+use Rattle.matching.specs.Key.{someTrue, someRole, marksOf, key}
 use Rattle.matching.proofs.SumLaws.{sum-equal, sum-zero, sum-add}
 
 -- ---- how many roles

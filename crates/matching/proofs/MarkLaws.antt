@@ -2,7 +2,7 @@
 use Prim.Native.Nat.{ℕ, zero, suc, _+_, _-_, _*_, _/_, _%_, _^_, _<_, _≤_, min}
 use mathlib.Core.Path.{_≡_, refl, sym, ap, ap₂, subst, _∙_}
 use mathlib.Core.Bool.{Bool, true, false, cond, _&&_, true≢false}
-use mathlib.Core.List.{List, [], _∷_}
+use mathlib.Core.List.{List}
 use native.Mathlib.Omega.{arith}
 use native.Mathlib.Numerals.{unary-clauses}
 use native.Mathlib.Decide.{decLe, decLt, ℕ-discrete}
@@ -16,23 +16,23 @@ use Rattle.pws.specs.Machine.{Memory, noMessage}
 use Rattle.records.specs.declared.program.Shape.{Shape}
 use Rattle.records.proofs.ProgramLaws.{and-true}
 use Rattle.reading.specs.declared.entry.Cube.{Cube}
-use Rattle.matching.specs.Tags.{sumBelow, listBelow, roleOf, roleAt, mask, labelNumber, memoryOf, tagOf, tagsOf}
-use Rattle.matching.specs.Roles.{Roles, Labels}
+use Rattle.matching.specs.Tags.{listBelow, roleAt, mask, labelNumber, memoryOf, tagOf, tagsOf}
 use Rattle.matching.proofs.SumLaws.{bits}
 use Rattle.matching.proofs.TagLaws.{role-exists, role-absent}
+use Rattle.matching.proofs.RoleLaws.{Roles}
 
 -- ---- lists of twenty
 
-pub list-length : (n : ℕ) (f : ℕ → ℕ) → length (listBelow n f) ≡ n
+list-length : (n : ℕ) (f : ℕ → ℕ) → length (listBelow n f) ≡ n
 list-length zero f = refl
 list-length (suc n) f = ap suc (list-length n (λ i. f (suc i)))
 
-pub list-at : (n : ℕ) (f : ℕ → ℕ) (i : ℕ) → i < n → getD (listBelow n f) i 0 ≡ f i
+list-at : (n : ℕ) (f : ℕ → ℕ) (i : ℕ) → i < n → getD (listBelow n f) i 0 ≡ f i
 list-at zero f i l = absurd (omega arith)
 list-at (suc n) f zero l = refl
 list-at (suc n) f (suc i) l = list-at n (λ k. f (suc k)) i (omega arith)
 
-pub tags-length : (s : Shape) (c : Cube) → length (tagsOf s c) ≡ 20
+tags-length : (s : Shape) (c : Cube) → length (tagsOf s c) ≡ 20
 unfolding tagsOf
 tags-length s c = list-length 20 (λ i. cond (ltb i (min (c .count) 20)) (tagOf s c (suc i)) 0)
 
@@ -44,45 +44,40 @@ tags-at s c i l k =
 
 -- ---- label by label
 
-pub record LabelsTo (labels : List ℕ) (ms : List Message) (n i : ℕ) : Type 0 where
-  pub most : i ≤ n
-  pub to : Labels labels ms i
+-- the labels of the first n of twenty messages
+pub record Labels (labels : List ℕ) (messages : List Message) (n : ℕ) : Type 0 where
+  pub room : length labels ≡ 20
+  pub here : (i : ℕ) → i < n → getD labels i 0 ≡ labelNumber (getD messages i noMessage)
+  pub past : (i : ℕ) → n ≤ i → getD labels i 0 ≡ 0
+  pub low : (i : ℕ) → getD labels i 0 < 65536
 
-pub labels-begin : (ms : List Message) (n : ℕ) {labels : List ℕ} → length labels ≡ 20 → ((i : ℕ) → getD labels i 0 ≡ 0) → LabelsTo labels ms n 0
-labels-begin ms n e f =
-    record {
-      most = omega arith;
-      to = record { room = e; here = λ i l. absurd (omega arith); past = λ i l. f i; low = λ i. omega (arith, f i) };
-    }
+pub labels-begin : (ms : List Message) {labels : List ℕ} → length labels ≡ 20 → ((i : ℕ) → getD labels i 0 ≡ 0) → Labels labels ms 0
+labels-begin ms e f = record { room = e; here = λ i l. absurd (omega arith); past = λ i l. f i; low = λ i. omega (arith, f i) }
 
-pub labels-next : {labels : List ℕ} {ms : List Message} {n i x : ℕ} → LabelsTo labels ms n i → i < n → n ≤ 20 → x ≡ labelNumber (getD ms i noMessage) → x < 65536
-    → LabelsTo (set labels i x) ms n (i + 1)
-labels-next {labels} {ms} {n} {i} {x} w l m e k =
+pub labels-next : {labels : List ℕ} {ms : List Message} {i x : ℕ} → Labels labels ms i → i < 20 → x ≡ labelNumber (getD ms i noMessage) → x < 65536 → Labels (set labels i x) ms (i + 1)
+labels-next {labels} {ms} {i} {x} w l e k =
     record {
-      most = omega arith;
-      to = record {
-        room = length-set labels i x ∙ w .to .room;
-        here = λ j a. elim (ℕ-discrete j i) [
-          | yes d ↦ ap (λ (z : ℕ). getD (set labels i x) z 0) d ∙ new ∙ e ∙ ap (λ (z : ℕ). labelNumber (getD ms z noMessage)) (sym d)
-          | no d ↦ old j d ∙ w .to .here j (omega arith)
-        ];
-        past = λ j a. old j (λ d. omega arith) ∙ w .to .past j (omega arith);
-        low = λ j. elim (ℕ-discrete j i) [
-          | yes d ↦ omega (arith, ap (λ (z : ℕ). getD (set labels i x) z 0) d, new)
-          | no d ↦ omega (arith, old j d, w .to .low j)
-        ];
-      };
+      room = length-set labels i x ∙ w .room;
+      here = λ j a. elim (ℕ-discrete j i) [
+        | yes d ↦ ap (λ (z : ℕ). getD (set labels i x) z 0) d ∙ new ∙ e ∙ ap (λ (z : ℕ). labelNumber (getD ms z noMessage)) (sym d)
+        | no d ↦ old j d ∙ w .here j (omega arith)
+      ];
+      past = λ j a. old j (λ d. omega arith) ∙ w .past j (omega arith);
+      low = λ j. elim (ℕ-discrete j i) [
+        | yes d ↦ omega (arith, ap (λ (z : ℕ). getD (set labels i x) z 0) d, new)
+        | no d ↦ omega (arith, old j d, w .low j)
+      ];
     }
   where
     new : getD (set labels i x) i 0 ≡ x
-    new = getD-set-same labels i x 0 (omega (arith, w .to .room))
+    new = getD-set-same labels i x 0 (omega (arith, w .room))
 
     old : (j : ℕ) → (j ≡ i → ⊥) → getD (set labels i x) j 0 ≡ getD labels j 0
     old j d = getD-set-other labels i j x 0 d
 
 -- ---- role by role
 
-pub role-held : {roles : List ℕ} {m : Memory} → Roles roles m → (variables : ℕ) → variables ≤ 4 → (q k : ℕ) → q < 20 → k ≡ q % 5 → k ≤ variables → roleAt variables m q ≡ getD roles q 0
+role-held : {roles : List ℕ} {m : Memory} → Roles roles m → (variables : ℕ) → variables ≤ 4 → (q k : ℕ) → q < 20 → k ≡ q % 5 → k ≤ variables → roleAt variables m q ≡ getD roles q 0
 role-held {roles} {m} R variables narrow q k l e a = at k (q / 5) (omega arith) (omega arith) (omega arith) a
   where
     at : (k p : ℕ) → q ≡ 5 * p + k → k < 5 → p < 4 → k ≤ variables → roleAt variables m q ≡ getD roles q 0
@@ -111,7 +106,7 @@ module _ (variables n : ℕ) (m : Memory) (ms : List Message) where
     doubled : 2 ^ (q + 1) ≡ 2 ^ q * 2
     doubled = simp unary-clauses
 
-    pub marked-hit : {k′ : ℕ} → k ≤ variables → 0 < getD roles q 0 → getD roles q 0 ≤ n → k′ ≡ (q + 1) % 5
+    marked-hit : {k′ : ℕ} → k ≤ variables → 0 < getD roles q 0 → getD roles q 0 ≤ n → k′ ≡ (q + 1) % 5
         → Marked (set tags (getD roles q 0 - 1) (getD tags (getD roles q 0 - 1) 0 + 65536 * 2 ^ q)) (q + 1) k′
     marked-hit a b c t =
         record {
@@ -144,7 +139,7 @@ module _ (variables n : ℕ) (m : Memory) (ms : List Message) where
         old : (i : ℕ) → (i ≡ z → ⊥) → getD (set tags z x) i 0 ≡ getD tags i 0
         old i d = getD-set-other tags z i x 0 d
 
-    pub marked-miss : {k′ : ℕ} → ((k ≤ variables) × (0 < getD roles q 0) × (getD roles q 0 ≤ n) → ⊥) → k′ ≡ (q + 1) % 5 → Marked tags (q + 1) k′
+    marked-miss : {k′ : ℕ} → ((k ≤ variables) × (0 < getD roles q 0) × (getD roles q 0 ≤ n) → ⊥) → k′ ≡ (q + 1) % 5 → Marked tags (q + 1) k′
     marked-miss f t =
         record {
           room = w .room;
@@ -186,7 +181,7 @@ hit-room k variables i n {x} f g a =
 pub bit-small : (q : ℕ) → q < 20 → 2 ^ q ≤ 524288
 bit-small q l = pow-mono {i = q} {j = 19} (omega arith)
 
-pub marked-all : (s : Shape) (c : Cube) {tags : List ℕ} {k : ℕ}
+marked-all : (s : Shape) (c : Cube) {tags : List ℕ} {k : ℕ}
     → Marked (min (s .variables) 4) (min (c .count) 20) (memoryOf c) (c .messages) tags (5 * min (s .processes) 4) k → tags ≡ tagsOf s c
 unfolding tagsOf tagOf mask
 marked-all s c {tags} w = ext-getD 0 tags (tagsOf s c) (w .room ∙ sym (tags-length s c)) each

@@ -1,12 +1,14 @@
 -- A match is three tests: states, queues, messages with their roles.
 use Prim.Native.Nat.{ℕ, _+_, _*_, _<_, _≤_, min}
-use mathlib.Core.Path.{_≡_, refl, sym, ap, ap₂, _∙_}
+use mathlib.Core.Path.{_≡_, sym, ap, ap₂, _∙_}
 use mathlib.Core.Bool.{Bool, true, false, _&&_}
+use mathlib.Core.List.{List}
 use native.Mathlib.Omega.{arith}
 use lib.ListN.{getD}
 use lib.Dec.{eqb}
 use Rattle.pws.specs.Machine.{allBelow}
 use Rattle.records.specs.declared.program.Shape.{Shape}
+use Rattle.reading.specs.declared.entry.Queue.{Queue}
 use Rattle.reading.specs.declared.entry.Cube.{Cube}
 use Rattle.records.specs.ProgramPart.{shapeOf}
 use Rattle.reading.specs.Cube.{noQueue, waitingOf, configurationOf}
@@ -14,7 +16,23 @@ use Rattle.reading.proofs.CubeParts.{queue-of}
 use Rattle.lists.specs.Matching.{queueMatches, matches}
 use Rattle.matching.specs.Relation.{relation}
 use Rattle.matching.specs.Match.{Sizes, queueRow, channelMatches}
-use Rattle.matching.proofs.Below.{and-false, all-equal}
+use Rattle.matching.proofs.Below.{and-false, all-equal, all-false, Each, each-all}
+
+-- ---- the queues of process p
+
+abbrev pub queueTest : Bool → List Queue → List Queue → ℕ → ℕ → Bool
+queueTest exact a b p v = queueMatches (relation exact) (waitingOf (getD a (4 * p + v) noQueue)) (waitingOf (getD b (4 * p + v) noQueue))
+
+module _ (exact : Bool) (a b : List Queue) (p x : ℕ) {m v : ℕ} (e : m ≡ min x 4) where
+  pub row-true : Each (queueTest exact a b p) true m v → m ≤ v → queueRow x exact a b p ≡ true
+  unfolding queueRow
+  row-true w l = ap (λ (n : ℕ). allBelow n (queueTest exact a b p)) (sym e) ∙ each-all w l
+
+  pub row-false : {y : Bool} → v < m → y ≡ queueTest exact a b p v → y ≡ false → queueRow x exact a b p ≡ false
+  unfolding queueRow
+  row-false l f g = ap (λ (n : ℕ). allBelow n (queueTest exact a b p)) (sym e) ∙ all-false m (queueTest exact a b p) v l (sym f ∙ g)
+
+-- ---- the three tests
 
 module _ (exact : Bool) (s : Shape) (a b : Cube) (z : Sizes s a b) where
   few-is : min (s .processes) 4 ≡ s .processes
@@ -46,7 +64,7 @@ module _ (exact : Bool) (s : Shape) (a b : Cube) (z : Sizes s a b) where
       ∙ all-equal (s .processes) (queueRow (s .variables) exact (a .queues) (b .queues))
       (λ p. allBelow (s .variables) (λ v. queueMatches (relation exact) (configurationOf a .queue p v) (configurationOf b .queue p v))) row-is
 
-  pub three-tests : (allBelow (min (s .processes) 4) (λ p. eqb (getD (a .states) p 0) (getD (b .states) p 0))
+  three-tests : (allBelow (min (s .processes) 4) (λ p. eqb (getD (a .states) p 0) (getD (b .states) p 0))
       && allBelow (min (s .processes) 4) (queueRow (s .variables) exact (a .queues) (b .queues)))
       && channelMatches s exact a b
       ≡ matches (shapeOf s) (relation exact) (configurationOf a) (configurationOf b)

@@ -1,16 +1,15 @@
 -- Equal keys have equal numbers, so a match has.
 use Prim.Native.Nat.{ℕ, zero, suc, _+_, _-_, _*_, _<_, _≤_, min}
 use mathlib.Core.Path.{_≡_, refl, sym, ap, ap₂, subst, _∙_}
-use mathlib.Core.Bool.{Bool, true, false, cond, false≢true}
+use mathlib.Core.Bool.{Bool, true, false, cond}
 use mathlib.Core.List.{List, [], _∷_, cons≢nil, head-eq-of-cons-eq, tail-eq-of-cons-eq}
 use native.Mathlib.Omega.{arith}
 use lib.Bits.{bitXor}
-use lib.ListN.{length, getD}
+use lib.ListN.{getD}
 use lib.Dec.{T, leb}
 use Rattle.pws.specs.declared.Message.{Message}
 use Rattle.pws.specs.Program.{ShapeInRange}
 use Rattle.pws.specs.Machine.{Memory, noMessage, message, isEmpty}
-use Rattle.pws.specs.Order.{Live}
 use Rattle.pws.specs.Configurations.{Fits}
 use Rattle.pws.specs.Entries.{ValueOrFF}
 use Rattle.pws.specs.Tagged.{Tagged, table, roles, hasRole, isLive, taggedFrom}
@@ -20,14 +19,14 @@ use Rattle.records.specs.declared.program.Shape.{Shape}
 use Rattle.records.specs.ProgramPart.{shapeOf}
 use Rattle.reading.specs.declared.entry.Queue.{Queue}
 use Rattle.reading.specs.declared.entry.Cube.{Cube}
-use Rattle.reading.specs.Cube.{noQueue, waitingOf, channelOf, configurationOf}
+use Rattle.reading.specs.Cube.{noQueue, channelOf, configurationOf}
 use Rattle.reading.proofs.CubeParts.{channel-length, channel-message, queue-of}
-use Rattle.lists.specs.Matching.{Match, matches}
+use Rattle.lists.specs.Matching.{matches}
 use Rattle.lists.proofs.Matching.{matches-exact}
 use Rattle.matching.specs.Relation.{relation}
-use Rattle.matching.specs.Tags.{labelNumber, mask, tagOf, tagsOf}
+use Rattle.matching.specs.Tags.{tagOf, tagsOf}
 use Rattle.matching.specs.Key.{Mark, markOf, someRole, marksOf, Key, key}
-use Rattle.matching.specs.Number.{stir, behind, packedStates, emptyBit, packedRow, packedQueues, withTag, withTags, statesNumber, numberOf}
+use Rattle.matching.specs.Number.{stir, behind, packedStates, emptyBit, packedRow, packedQueues, withTags, statesNumber, numberOf}
 use Rattle.matching.proofs.TagLaws.{mask-roles, ByteLabel, tag-is, tag-role, some-role}
 use Rattle.matching.proofs.MarkLaws.{tags-at}
 use Rattle.matching.proofs.KeyLaws.{match-key}

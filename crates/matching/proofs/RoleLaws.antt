@@ -1,7 +1,6 @@
 -- The roles that the code keeps are those of the memory.
-use Prim.Native.Nat.{ℕ, zero, suc, _+_, _*_, _<_, _≤_, max}
+use Prim.Native.Nat.{ℕ, zero, suc, _+_, _*_, _<_, _≤_, min, max}
 use mathlib.Core.Path.{_≡_, refl, sym, ap, ap₂, subst, _∙_}
-use mathlib.Core.Logic.{_≢_}
 use mathlib.Core.Bool.{Bool, true, false, cond, _&&_}
 use mathlib.Core.List.{List, [], _∷_}
 use native.Mathlib.Omega.{arith}
@@ -9,15 +8,16 @@ use native.Mathlib.Numerals.{unary-clauses}
 use native.Mathlib.Decide.{ℕ-discrete}
 use lib.ListN.{length, getD, set, length-set}
 use lib.Seq.{getD-set-same, getD-set-other}
-use lib.Dec.{T, eqb, leb, ltb}
-use borrow.Author.Tests.{ltb-true, ltb-false, leb-true, leb-false, eqb-true, eq-eqb, ne-eqb, lt-ltb}
+use lib.Dec.{T, eqb, ltb}
+use borrow.Author.Tests.{ltb-true, eq-eqb, ne-eqb, lt-ltb}
 use Rattle.pws.specs.declared.Message.{Message}
 use Rattle.pws.specs.Machine.{Memory, noMessage, labelled, lastLabelled, lastWrite}
-use Rattle.records.specs.Bytes.{choose}
+use Rattle.reading.specs.declared.entry.Cube.{Cube}
 use Rattle.reading.specs.Cube.{channelOf}
 use Rattle.records.proofs.ProgramLaws.{and-true}
 use Rattle.reading.proofs.CubeParts.{channel-length}
-use Rattle.matching.specs.Roles.{Roles, withLabel}
+use Rattle.matching.specs.Roles.{labelPlace}
+use Rattle.matching.specs.Tags.{memoryOf}
 use Rattle.matching.proofs.Below.{and-false}
 
 pub labels : (p v : ℕ) → ltb p 4 && ltb v 4 ≡ true → (p < 4) × (v < 4)
@@ -47,9 +47,14 @@ last-most (m ∷ ms) p v = at (last-most ms p v) (labelled m p v)
 
 -- ---- message by message
 
+-- of process p, at 5 p the message that it points at, and at 5 p + 1 + v its LastWrite of v
+pub record Roles (roles : List ℕ) (m : Memory) : Type 0 where
+  pub pointer : (p : ℕ) → p < 4 → getD roles (5 * p) 0 ≡ m .pointer p
+  pub written : (p v : ℕ) → p < 4 → v < 4 → getD roles (5 * p + 1 + v) 0 ≡ lastWrite m p v
+
 -- the roles of a memory of which i messages were read
 pub record RolesTo (z : ℕ → ℕ) (ms : List Message) (roles : List ℕ) (i : ℕ) : Type 0 where
-  pub room : length roles ≡ 20
+  pub room : length roles ≡ 21
   pub pointer : (p : ℕ) → p < 4 → getD roles (5 * p) 0 ≡ z p
   pub written : (p v : ℕ) → p < 4 → v < 4 → getD roles (5 * p + 1 + v) 0 ≡ max (z p) (lastLabelled (channelOf ms i) p v)
 
@@ -61,7 +66,7 @@ four F a b c d (suc (suc (suc zero))) l = d
 four F a b c d (suc (suc (suc (suc p)))) l = absurd (omega arith)
 
 pub roles-begin : (ms : List Message) (a b c d : ℕ)
-    → RolesTo (λ p. getD (a ∷ b ∷ c ∷ d ∷ []) p 0) ms (a ∷ a ∷ a ∷ a ∷ a ∷ b ∷ b ∷ b ∷ b ∷ b ∷ c ∷ c ∷ c ∷ c ∷ c ∷ d ∷ d ∷ d ∷ d ∷ d ∷ []) 0
+    → RolesTo (λ p. getD (a ∷ b ∷ c ∷ d ∷ []) p 0) ms (a ∷ a ∷ a ∷ a ∷ a ∷ b ∷ b ∷ b ∷ b ∷ b ∷ c ∷ c ∷ c ∷ c ∷ c ∷ d ∷ d ∷ d ∷ d ∷ d ∷ 0 ∷ []) 0
 roles-begin ms a b c d =
     record {
       room = refl;
@@ -74,10 +79,18 @@ roles-begin ms a b c d =
     }
   where
     all : List ℕ
-    all = a ∷ a ∷ a ∷ a ∷ a ∷ b ∷ b ∷ b ∷ b ∷ b ∷ c ∷ c ∷ c ∷ c ∷ c ∷ d ∷ d ∷ d ∷ d ∷ d ∷ []
+    all = a ∷ a ∷ a ∷ a ∷ a ∷ b ∷ b ∷ b ∷ b ∷ b ∷ c ∷ c ∷ c ∷ c ∷ c ∷ d ∷ d ∷ d ∷ d ∷ d ∷ 0 ∷ []
 
     z : (x : ℕ) → x ≡ max x 0
     z x = omega arith
+
+pub place-own : (m : Message) → m .process < 4 → m .variable < 4 → labelPlace m ≡ 5 * m .process + 1 + m .variable
+unfolding labelPlace
+place-own m a b = rw (lt-ltb (m .process) 4 a, lt-ltb (m .variable) 4 b) refl
+
+pub place-none : (m : Message) → ltb (m .process) 4 && ltb (m .variable) 4 ≡ false → labelPlace m ≡ 20
+unfolding labelPlace
+place-none m e = rw e refl
 
 -- the message of number i + 1
 module _ {z : ℕ → ℕ} {ms : List Message} {roles : List ℕ} {i : ℕ} (w : RolesTo z ms roles i) where
@@ -127,25 +140,42 @@ module _ {z : ℕ → ℕ} {ms : List Message} {roles : List ℕ} {i : ℕ} (w :
             (λ n c d. getD-set-other roles place (5 * p + 1 + v) (i + 1) 0 (λ e. n (omega arith, omega arith)) ∙ old p v c d (label-no m p v n)) c d;
       }
 
-  strange : ltb (m .process) 4 && ltb (m .variable) 4 ≡ false → RolesTo z ms roles (i + 1)
-  strange e =
-      record {
-        room = w .room;
-        pointer = w .pointer;
-        written = λ p v c d. old p v c d (label-no m p v (λ n. no-true (sym e ∙ rw (lt-ltb (m .process) 4 (omega (arith, n .0))) (lt-ltb (m .variable) 4 (omega (arith, n .1))))));
-      }
+  -- a label that does not exist is no LastWrite's
+  strange : ltb (m .process) 4 && ltb (m .variable) 4 ≡ false → (p v : ℕ) → p < 4 → v < 4 → getD roles (5 * p + 1 + v) 0 ≡ max (z p) (lastLabelled (channelOf ms (i + 1)) p v)
+  strange e p v c d = old p v c d (label-no m p v (λ n. no-true (sym e ∙ rw (lt-ltb (m .process) 4 (omega (arith, n .0))) (lt-ltb (m .variable) 4 (omega (arith, n .1))))))
 
-  pub roles-next : RolesTo z ms (withLabel roles m (i + 1)) (i + 1)
-  unfolding withLabel
-  roles-next = at (ltb (m .process) 4 && ltb (m .variable) 4) refl (leb (i + 1) (getD roles place 0)) refl
+  roles-kept : i + 1 ≤ getD roles (labelPlace m) 0 → RolesTo z ms roles (i + 1)
+  roles-kept l = at (ltb (m .process) 4 && ltb (m .variable) 4) refl
     where
-      at : (b : Bool) → ltb (m .process) 4 && ltb (m .variable) 4 ≡ b → (c : Bool) → leb (i + 1) (getD roles place 0) ≡ c
-          → RolesTo z ms (choose b (λ _. choose c (λ _. roles) (λ _. set roles place (i + 1))) (λ _. roles)) (i + 1)
-      at true e true f = let x = labels (m .process) (m .variable) e in kept (x .0) (x .1) (leb-true (i + 1) (getD roles place 0) f)
-      at true e false f = let x = labels (m .process) (m .variable) e in moved (x .0) (x .1) (leb-false (i + 1) (getD roles place 0) f)
-      at false e c f = strange e
+      at : (b : Bool) → ltb (m .process) 4 && ltb (m .variable) 4 ≡ b → RolesTo z ms roles (i + 1)
+      at true e = let x = labels (m .process) (m .variable) e in kept (x .0) (x .1) (omega (arith, l, ap (λ (k : ℕ). getD roles k 0) (place-own m (x .0) (x .1))))
+      at false e = record { room = w .room; pointer = w .pointer; written = strange e }
 
-pub roles-all : (zs : List ℕ) {ms : List Message} {roles : List ℕ} {i : ℕ} → RolesTo (λ p. getD zs p 0) ms roles i
+  roles-moved : getD roles (labelPlace m) 0 < i + 1 → RolesTo z ms (set roles (labelPlace m) (i + 1)) (i + 1)
+  roles-moved l = at (ltb (m .process) 4 && ltb (m .variable) 4) refl
+    where
+      at : (b : Bool) → ltb (m .process) 4 && ltb (m .variable) 4 ≡ b → RolesTo z ms (set roles (labelPlace m) (i + 1)) (i + 1)
+      at true e =
+          let x = labels (m .process) (m .variable) e in
+          subst (λ (k : ℕ). RolesTo z ms (set roles k (i + 1)) (i + 1)) (sym (place-own m (x .0) (x .1))) (moved (x .0) (x .1) (omega (arith, l, ap (λ (k : ℕ). getD roles k 0) (place-own m (x .0) (x .1)))))
+      at false e =
+          subst (λ (k : ℕ). RolesTo z ms (set roles k (i + 1)) (i + 1)) (sym (place-none m e))
+          (record {
+            room = length-set roles 20 (i + 1) ∙ w .room;
+            pointer = λ p c. getD-set-other roles 20 (5 * p) (i + 1) 0 (λ f. omega arith) ∙ w .pointer p c;
+            written = λ p v c d. getD-set-other roles 20 (5 * p + 1 + v) (i + 1) 0 (λ f. omega arith) ∙ strange e p v c d;
+          })
+
+-- the same for what the code computes
+module _ {z : ℕ → ℕ} {ms : List Message} {roles roles′ : List ℕ} {i q : ℕ} (w : RolesTo z ms roles i) (e : q ≡ labelPlace (getD ms i noMessage)) where
+  pub place-kept : i + 1 ≤ getD roles q 0 → roles′ ≡ roles → RolesTo z ms roles′ (i + 1)
+  place-kept l f = subst (λ (rs : List ℕ). RolesTo z ms rs (i + 1)) (sym f) (roles-kept w (omega (arith, l, ap (λ (k : ℕ). getD roles k 0) e)))
+
+  pub place-moved : getD roles q 0 < i + 1 → roles′ ≡ set roles q (i + 1) → RolesTo z ms roles′ (i + 1)
+  place-moved l f =
+      subst (λ (rs : List ℕ). RolesTo z ms rs (i + 1)) (sym (f ∙ ap (λ (k : ℕ). set roles k (i + 1)) e)) (roles-moved w (omega (arith, l, ap (λ (k : ℕ). getD roles k 0) e)))
+
+roles-all : (zs : List ℕ) {ms : List Message} {roles : List ℕ} {i : ℕ} → RolesTo (λ p. getD zs p 0) ms roles i
     → Roles roles (record { channel = channelOf ms i; pointer = λ p. getD zs p 0 })
 roles-all zs w = record { pointer = w .pointer; written = w .written }
 
@@ -156,3 +186,10 @@ four-list (a ∷ b ∷ []) e = absurd (omega arith)
 four-list (a ∷ b ∷ c ∷ []) e = absurd (omega arith)
 four-list (a ∷ b ∷ c ∷ d ∷ []) e = refl
 four-list (a ∷ b ∷ c ∷ d ∷ x ∷ xs) e = absurd (omega arith)
+
+pub roles-end : (c : Cube) {roles : List ℕ} {i : ℕ} → length (c .pointers) ≡ 4 → i ≡ min (c .count) 20
+    → RolesTo (λ p. getD (getD (c .pointers) 0 0 ∷ getD (c .pointers) 1 0 ∷ getD (c .pointers) 2 0 ∷ getD (c .pointers) 3 0 ∷ []) p 0) (c .messages) roles i → Roles roles (memoryOf c)
+roles-end c {roles} {i} l e w =
+    subst (λ (n : ℕ). Roles roles (record { channel = channelOf (c .messages) n; pointer = λ p. getD (c .pointers) p 0 })) e
+    (subst (λ (zs : List ℕ). Roles roles (record { channel = channelOf (c .messages) i; pointer = λ p. getD zs p 0 })) (four-list (c .pointers) l)
+    (roles-all (getD (c .pointers) 0 0 ∷ getD (c .pointers) 1 0 ∷ getD (c .pointers) 2 0 ∷ getD (c .pointers) 3 0 ∷ []) w))

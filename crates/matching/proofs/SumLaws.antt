@@ -1,5 +1,5 @@
 -- Sums of bits: a bit for each number below n that passes a test.
-use Prim.Native.Nat.{ℕ, zero, suc, _+_, _*_, _^_, _<_, _≤_}
+use Prim.Native.Nat.{ℕ, zero, suc, _+_, _^_, _<_, _≤_}
 use mathlib.Core.Path.{_≡_, refl, sym, ap, ap₂, _∙_}
 use mathlib.Core.Bool.{Bool, true, false, cond, false≢true}
 use native.Mathlib.Omega.{arith}
@@ -16,7 +16,7 @@ pub sum-zero : (n : ℕ) (f : ℕ → ℕ) → ((q : ℕ) → q < n → f q ≡ 
 sum-zero zero f h = refl
 sum-zero (suc n) f h = omega (arith, sum-zero n f (λ q l. h q (omega arith)), h n (omega arith))
 
-pub sum-least : (n : ℕ) (f : ℕ → ℕ) (q : ℕ) → q < n → f q ≤ sumBelow n f
+sum-least : (n : ℕ) (f : ℕ → ℕ) (q : ℕ) → q < n → f q ≤ sumBelow n f
 sum-least zero f q l = absurd (omega arith)
 sum-least (suc n) f q l = elim (ℕ-discrete q n) [
   | yes d ↦ omega (arith, ap f d)
@@ -32,7 +32,7 @@ sum-add (suc n) f g = omega (arith, sum-add n f g)
 abbrev pub bits : (ℕ → Bool) → ℕ → ℕ
 bits b n = sumBelow n (λ q. cond (b q) (2 ^ q) 0)
 
-pub bits-low : (b : ℕ → Bool) (n : ℕ) → bits b n < 2 ^ n
+bits-low : (b : ℕ → Bool) (n : ℕ) → bits b n < 2 ^ n
 bits-low b zero = omega arith
 bits-low b (suc n) = at (bits-low b n) (b n)
   where

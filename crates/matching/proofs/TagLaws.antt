@@ -1,15 +1,14 @@
 -- Two tags are equal exactly when roles and labels are, and a message has a role exactly when its tag is 65,536 or more.
 use Prim.Native.Nat.{ℕ, zero, suc, _+_, _-_, _*_, _/_, _%_, _^_, _<_, _≤_, min}
 use mathlib.Core.Path.{_≡_, refl, sym, ap, ap₂, subst, _∙_}
-use mathlib.Core.Logic.{_⊎_, inl, inr, ⊎-elim, _↔_}
+use mathlib.Core.Logic.{⊎-elim, _↔_}
 use mathlib.Core.Bool.{Bool, true, false, cond, _&&_, _||_, true≢false, false≢true}
 use mathlib.Core.List.{List, [], _∷_, head-eq-of-cons-eq, tail-eq-of-cons-eq}
 use native.Mathlib.Omega.{arith}
-use native.Mathlib.Decide.{decLe, decLt}
-use lib.ListN.{length, getD}
+use native.Mathlib.Decide.{decLe}
+use lib.ListN.{getD}
 use lib.Dec.{T, eqb, ltb, leb}
 use borrow.Author.Tests.{lt-ltb, le-ltb, le-leb, lt-leb, eqb-true, eq-eqb, ne-eqb}
-use mir.Facts.{or-yes}
 use Rattle.pws.specs.declared.Message.{Message}
 use Rattle.pws.specs.Program as pws
 use Rattle.pws.specs.Machine.{Memory, noMessage, lastWrite}
@@ -22,9 +21,9 @@ use Rattle.reading.specs.Cube.{configurationOf}
 use Rattle.lists.specs.Values.{pairwise}
 use Rattle.lists.specs.Matching.{same, messageMatches}
 use Rattle.records.proofs.ProgramLaws.{and-true}
-use Rattle.matching.specs.Tags.{sumBelow, listBelow, roleOf, roleAt, mask, labelNumber, memoryOf, tagOf, tagsOf}
+use Rattle.matching.specs.Tags.{roleOf, roleAt, mask, labelNumber, tagOf}
 use Rattle.matching.specs.Key.{someTrue, someRole}
-use Rattle.matching.proofs.SumLaws.{sum-equal, bits, bits-same, bits-some, bits-none}
+use Rattle.matching.proofs.SumLaws.{sum-equal, bits-same, bits-some, bits-none}
 
 -- ---- the role at a place
 
@@ -157,7 +156,7 @@ pub record ByteLabel (x : Message) : Type 0 where
   pub process : x .process < 256
   pub variable : x .variable < 256
 
-pub tag-parts : (m n : ℕ) (x y : Message) → ByteLabel x → ByteLabel y → 65536 * m + labelNumber x ≡ 65536 * n + labelNumber y
+tag-parts : (m n : ℕ) (x y : Message) → ByteLabel x → ByteLabel y → 65536 * m + labelNumber x ≡ 65536 * n + labelNumber y
     → (m ≡ n) × (x .process ≡ y .process) × (x .variable ≡ y .variable)
 tag-parts m n x y a b e =
     let c = a .process in
@@ -265,7 +264,7 @@ module _ (S : pws.Shape) (narrow : S .variables ≤ 4) (m : Memory) (i : ℕ) (a
         | no d ↦ omega (arith, role-absent (S .variables) m q p k e g (omega arith))
       ]
 
-  pub mask-role : (x : ℕ) → x < 65536 → leb 65536 (65536 * mask (S .processes) (S .variables) m i + x) ≡ someRole (roles S m i)
+  mask-role : (x : ℕ) → x < 65536 → leb 65536 (65536 * mask (S .processes) (S .variables) m i + x) ≡ someRole (roles S m i)
   mask-role x l = at (hasRole S m i) refl ∙ sym (some-role S m i)
     where
       at : (c : Bool) → hasRole S m i ≡ c → leb 65536 (65536 * mask (S .processes) (S .variables) m i + x) ≡ hasRole S m i

@@ -3,7 +3,7 @@ use Prim.Native.Nat.{ℕ, zero, suc, _+_, _-_, _<_, _≤_}
 use mathlib.Core.Path.{_≡_, refl, sym, ap, ap₂, _∙_}
 use mathlib.Core.Logic.{_≢_}
 use mathlib.Core.Bool.{Bool, true, false, cond, _&&_}
-use mathlib.Core.Option.{Option, none, some}
+use mathlib.Core.Option.{some}
 use mathlib.Core.List.{List, [], _∷_}
 use native.Mathlib.Omega.{arith}
 use native.Mathlib.Numerals.{unary-clauses}
@@ -15,7 +15,7 @@ use Rattle.pws.specs.Machine.{newestWaiting}
 use Rattle.reading.specs.declared.entry.Queue.{Queue}
 use Rattle.reading.specs.Cube.{waitingOf}
 use Rattle.lists.specs.Values.{pairwise}
-use Rattle.lists.specs.Matching.{subsequence, ends, queueMatches}
+use Rattle.lists.specs.Matching.{subsequence, queueMatches}
 
 -- ---- four values
 

@@ -1,7 +1,7 @@
 -- The key of a configuration: what is the same in all that are above it (theory, section 2). Local states, which queues are empty, and the
 -- messages with a role, newest first, each without its snapshot.
 use Prim.Native.Nat.{ℕ}
-use mathlib.Core.Bool.{Bool, true, false, cond, _||_}
+use mathlib.Core.Bool.{Bool, false, cond, _||_}
 use mathlib.Core.List.{List, [], _∷_}
 use Rattle.pws.specs.Program.{Shape}
 use Rattle.pws.specs.Machine.{Configuration, isEmpty}

@@ -1,6 +1,6 @@
 -- The number of a cube's key, and of its local states: only that equal keys have equal numbers is ever used (`match-number`, `match-states`).
 use Prim.Native.Nat.{ℕ, zero, suc, _+_, _*_, _/_, _%_, _^_, min}
-use mathlib.Core.Bool.{Bool, true, false, cond}
+use mathlib.Core.Bool.{cond}
 use mathlib.Core.List.{List}
 use lib.Bits.{bitXor}
 use lib.ListN.{getD}

@@ -1,7 +1,7 @@
 -- Tags: the roles of a message and its label in one number. No statement rests on these definitions: two tags are equal exactly when
 -- roles and labels are (`tags-roles`), and a message has a role exactly when its tag is 65,536 or more (`tag-role`).
 use Prim.Native.Nat.{ℕ, zero, suc, _+_, _-_, _*_, _/_, _%_, _^_, min, max}
-use mathlib.Core.Bool.{Bool, true, false, cond}
+use mathlib.Core.Bool.{cond}
 use mathlib.Core.List.{List, [], _∷_}
 use lib.ListN.{getD}
 use lib.Dec.{eqb, ltb}

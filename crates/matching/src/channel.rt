@@ -48,6 +48,8 @@ pub fn channel_matches(
     let last = wide(lowest(shape, after));
     let mut i = least(a.count, 20);
     let mut j = least(b.count, 20);
+    let messages = a.messages;
+    let others = b.messages;
     loop {
         if i < first {
             return true;
@@ -55,8 +57,8 @@ pub fn channel_matches(
         if j < last {
             return false;
         }
-        let x = a.messages[i - 1];
-        let y = b.messages[j - 1];
+        let x = messages[i - 1];
+        let y = others[j - 1];
         if message_matches(exact, x, left[i - 1], y, right[j - 1]) {
             i -= 1;
             j -= 1;

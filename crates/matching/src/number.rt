@@ -1,6 +1,6 @@
 // The number of a cube's key, by shifting and xor only: no sum that could overflow, and no product.
 ghost use mathlib.Core.Path.{_≡_};
-ghost use Prim.Native.Nat.{ℕ, min};
+ghost use Prim.Native.Nat.{min};
 ghost use Rattle.matching.specs.Tags.{tagsOf};
 ghost use Rattle.matching.specs.Number.{stir, packedStates, emptyBit, packedQueues, statesNumber, numberOf};
 use crate::values::least;

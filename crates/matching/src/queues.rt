@@ -1,6 +1,6 @@
 // Local states and queues of an entry against those of a cube.
 ghost use mathlib.Core.Path.{_≡_};
-ghost use Prim.Native.Nat.{ℕ, _+_, _*_, _<_, min};
+ghost use Prim.Native.Nat.{min};
 ghost use lib.ListN.{getD};
 ghost use lib.Dec.{eqb};
 ghost use Rattle.pws.specs.Machine.{allBelow};
@@ -55,29 +55,17 @@ pub fn queue_matches(exact: bool, a: Queue, b: Queue) -> bool
     both(i == n, last)
 }
 
-// The queues of process p.
-fn queue_row(exact: bool, variables: usize, a: [Queue; 16], b: [Queue; 16], p: usize) -> bool
-    requires { ⌜ p < 4 ⌝ }
-    ensures { λ r. ⌜ r ≡ queueRow variables exact a b p ⌝ }
-{
-    let n = least(variables, 4);
-    for v in 0..n {
-        let q = 4 * p + v;
-        if !queue_matches(exact, a[q], b[q]) {
-            return false;
-        }
-    }
-    true
-}
-
 pub fn queues_match(exact: bool, shape: Shape, a: [Queue; 16], b: [Queue; 16]) -> bool
     ensures { λ r. ⌜ r ≡ allBelow (min (shape .processes) 4) (queueRow (shape .variables) exact a b) ⌝ }
 {
     let n = least(shape.processes, 4);
-    let variables = shape.variables;
+    let m = least(shape.variables, 4);
     for p in 0..n {
-        if !queue_row(exact, variables, a, b, p) {
-            return false;
+        for v in 0..m {
+            let q = 4 * p + v;
+            if !queue_matches(exact, a[q], b[q]) {
+                return false;
+            }
         }
     }
     true

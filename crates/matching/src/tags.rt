@@ -1,8 +1,8 @@
 // Tags of messages: what a message is to each process, and its label, in one number.
 ghost use mathlib.Core.Path.{_≡_};
-ghost use Prim.Native.Nat.{ℕ, _+_, _*_, _%_, _^_, _<_, _≤_, min};
-ghost use Rattle.matching.specs.Roles.{Roles, withLabel, Labels};
-ghost use Rattle.matching.specs.Tags.{labelNumber, memoryOf, tagsOf, lowestPointer};
+ghost use Prim.Native.Nat.{_+_, _*_, _%_, _^_, _<_, min};
+ghost use Rattle.matching.specs.Roles.{labelPlace};
+ghost use Rattle.matching.specs.Tags.{labelNumber, tagsOf, lowestPointer};
 use crate::values::least;
 use pws::Message;
 use reading::entry::Cube;
@@ -10,61 +10,22 @@ use records::bytes::both;
 use records::bytes::wide;
 use records::program::Shape;
 
-// With the message of this number, which is newer than those before: it is the LastWrite of its label, unless the pointer is past it.
-fn with_label(roles: [u8; 20], message: Message, number: u8) -> [u8; 20]
-    ensures { λ r. ⌜ r ≡ withLabel roles message number ⌝ }
-{
-    let p = wide(message.process);
-    let v = wide(message.variable);
-    if !both(p < 4, v < 4) {
-        return roles;
-    }
-    let q = 5 * p + 1 + v;
-    if number <= roles[q] {
-        return roles;
-    }
-    let mut next = roles;
-    next[q] = number;
-    next
-}
-
-// The roles of a cube's messages: of process p, at 5 p the message that it points at, and at 5 p + 1 + v its LastWrite of v.
-fn roles_of(cube: Cube) -> [u8; 20]
-    ensures { λ r. ⌜ Roles r (memoryOf cube) ⌝ }
-{
-    let pointers = cube.pointers;
-    let a = pointers[0];
-    let b = pointers[1];
-    let c = pointers[2];
-    let d = pointers[3];
-    let mut roles = [a, a, a, a, a, b, b, b, b, b, c, c, c, c, c, d, d, d, d, d];
-    let messages = cube.messages;
-    let n = least(cube.count, 20);
-    for i in 0..n {
-        let message = messages[i];
-        let next = with_label(roles, message, (i + 1) as u8);
-        roles = next;
-    }
-    roles
-}
-
 fn label_number(message: Message) -> u64
     ensures { λ r. ⌜ (r ≡ labelNumber message) × (r < 65536) ⌝ }
 {
     256 * message.process as u64 + message.variable as u64
 }
 
-// The labels of the first n messages.
-fn labels_of(messages: [Message; 20], n: usize) -> [u64; 20]
-    requires { ⌜ n ≤ 20 ⌝ }
-    ensures { λ r. ⌜ Labels r messages n ⌝ }
+// The place of the LastWrite of a message's label, and 20 if there is no such label.
+fn label_place(message: Message) -> usize
+    ensures { λ r. ⌜ (r ≡ labelPlace message) × (r < 21) ⌝ }
 {
-    let mut labels = [0; 20];
-    for i in 0..n {
-        let message = messages[i];
-        labels[i] = label_number(message);
+    let p = wide(message.process);
+    let v = wide(message.variable);
+    if !both(p < 4, v < 4) {
+        return 20;
     }
-    labels
+    5 * p + 1 + v
 }
 
 // The bit of the role at q.
@@ -82,16 +43,53 @@ fn turned(k: usize) -> usize
     if k < 4 { k + 1 } else { 0 }
 }
 
-// The tags of a cube's messages, oldest first, and 0 past them.
+// The tags of a cube's messages, oldest first, and 0 past them. Of process p, the message that it points at is kept at 5 p, and its
+// LastWrite of v at 5 p + 1 + v.
 pub fn tags_of(shape: Shape, cube: Cube) -> [u64; 20]
     ensures { λ r. ⌜ r ≡ tagsOf shape cube ⌝ }
 {
     let n = least(cube.count, 20);
     let end = 5 * least(shape.processes, 4);
     let variables = least(shape.variables, 4);
+    let pointers = cube.pointers;
+    let a = pointers[0];
+    let b = pointers[1];
+    let c = pointers[2];
+    let d = pointers[3];
+    let mut roles = [
+        a,
+        a,
+        a,
+        a,
+        a,
+        b,
+        b,
+        b,
+        b,
+        b,
+        c,
+        c,
+        c,
+        c,
+        c,
+        d,
+        d,
+        d,
+        d,
+        d,
+        0,
+    ];
+    let mut tags = [0; 20];
     let messages = cube.messages;
-    let mut tags = labels_of(messages, n);
-    let roles = roles_of(cube);
+    for i in 0..n {
+        let message = messages[i];
+        tags[i] = label_number(message);
+        let q = label_place(message);
+        let number = (i + 1) as u8;
+        if roles[q] < number {
+            roles[q] = number;
+        }
+    }
     let mut k = 0;
     for q in 0..end {
         let i = wide(roles[q]);

@@ -1,6 +1,6 @@
 // Values of an entry and of a cube, and numbers of them.
 ghost use mathlib.Core.Path.{_≡_};
-ghost use Prim.Native.Nat.{ℕ, min};
+ghost use Prim.Native.Nat.{min};
 ghost use lib.ListN.{length};
 ghost use Rattle.reading.specs.Cube.{waitingOf};
 ghost use Rattle.lists.specs.Values.{pairwise};

@@ -1,18 +1,17 @@
-use Prim.Native.Nat.{_+_, _-_}
-use mathlib.Core.Path.{_≡_, _∙_}
+use mathlib.Core.Path.{refl, _∙_}
 use native.Mathlib.Omega.{arith}
 use Rattle.records.specs.declared.program.Shape.{Shape}
-use Rattle.matching.specs.Tags.{lowestPointer}
-use Rattle.matching.proofs.ChannelLaws.{low-positive, Newest, newest-begin, newest-all, newest-none, newest-match, newest-skip}
+use Rattle.reading.specs.declared.entry.Cube.{Cube}
+use Rattle.matching.proofs.ChannelLaws.{Newest, newest-begin, Reads, reads-all, reads-none, reads-match, reads-skip, first-room, last-room}
 use borrow.Author.Needs.{needs}
 use Rattle.matching.proofs.channel.channel_matches.Statement.{statement}
 use Rattle.matching.proofs.channel.channel_matches.Tie as tie
 
 abbrev Inv-loop : tie.InvT-loop
-Inv-loop exact a left b right first last i₀ j₀ i j = (s : Shape) → first ≡ lowestPointer s (a .pointers) → last ≡ lowestPointer s (b .pointers) → Newest exact s a left b right i j
+Inv-loop exact left right first last i₀ j₀ messages others i j = (s : Shape) (a b : Cube) → Reads s a b messages others first last i₀ j₀ → Newest exact s a left b right i j
 
 abbrev μ-loop : tie.MeasureT-loop
-μ-loop exact a left b right first last i₀ j₀ i j = j
+μ-loop exact left right first last i₀ j₀ messages others i j = j
 
 pub channel-matches-spec : {M : Type 1} → statement M
 channel-matches-spec = tie.close (tie.spec
@@ -31,48 +30,48 @@ channel-matches-spec = tie.close (tie.spec
     -- least-requires-2
     (λ c κs. search needs)
     -- loop-holds
-    (λ c s e f. newest-begin (c .before .before .before .before .before .before .before .before .args .exact) s (c .before .before .before .before .before .before .before .before .args .t3) (c .before .before .before .before .before .before .before .before .args .t4) (c .before .before .before .before .before .before .before .before .args .t5) (c .before .before .before .before .before .before .before .before .args .t6) (c .before .least .result) (c .least2 .result) (c .before .least .ensures) (c .least2 .ensures))
+    (λ c s a b h. newest-begin (c .before .before .before .before .before .before .before .before .before .before .args .exact) s a (c .before .before .before .before .before .before .before .before .before .before .args .t4) b (c .before .before .before .before .before .before .before .before .before .before .args .t6) (c .before .before .before .least .result) (c .before .before .least2 .result) (h .count) (h .counted))
     -- returns
-    (λ c. newest-all (c .before .before .before .before .before .before .before .before .before .before .args .exact) (c .before .before .before .before .before .before .before .before .before .before .args .shape) (c .before .before .before .before .before .before .before .before .before .before .args .t3) (c .before .before .before .before .before .before .before .before .before .before .args .t4) (c .before .before .before .before .before .before .before .before .before .before .args .t5) (c .before .before .before .before .before .before .before .before .before .before .args .t6) (c .before .loop .inv (c .before .before .before .before .before .before .before .before .before .before .args .shape) (c .before .before .before .before .before .before .wide .ensures ∙ c .before .before .before .before .before .before .before .lowest .ensures) (c .before .before .before .before .wide2 .ensures ∙ c .before .before .before .before .before .lowest2 .ensures)) (omega (arith, c .if1 .taken, c .before .before .before .before .before .before .wide .ensures, c .before .before .before .before .before .before .before .lowest .ensures)))
+    (λ c. (let h : Reads (c .before .before .before .before .before .before .before .before .before .before .before .before .args .shape) (c .before .before .before .before .before .before .before .before .before .before .before .before .args .a) (c .before .before .before .before .before .before .before .before .before .before .before .before .args .b) (c .before .before .before .before .before .before .before .before .before .before .before .before .args .a .messages) (c .before .before .before .before .before .before .before .before .before .before .before .before .args .b .messages) (c .before .before .before .before .before .before .before .before .wide .result) (c .before .before .before .before .before .before .wide2 .result) (c .before .before .before .before .before .least .result) (c .before .before .before .before .least2 .result) = (record { messages = refl; others = refl; first = c .before .before .before .before .before .before .before .before .wide .ensures ∙ c .before .before .before .before .before .before .before .before .before .lowest .ensures; last = c .before .before .before .before .before .before .wide2 .ensures ∙ c .before .before .before .before .before .before .before .lowest2 .ensures; count = c .before .before .before .before .before .least .ensures; counted = c .before .before .before .before .least2 .ensures }) in reads-all (c .before .before .before .before .before .before .before .before .before .before .before .before .args .exact) (c .before .before .before .before .before .before .before .before .before .before .before .before .args .shape) (c .before .before .before .before .before .before .before .before .before .before .before .before .args .a) (c .before .before .before .before .before .before .before .before .before .before .before .before .args .t4) (c .before .before .before .before .before .before .before .before .before .before .before .before .args .b) (c .before .before .before .before .before .before .before .before .before .before .before .before .args .t6) h (c .before .loop .inv (c .before .before .before .before .before .before .before .before .before .before .before .before .args .shape) (c .before .before .before .before .before .before .before .before .before .before .before .before .args .a) (c .before .before .before .before .before .before .before .before .before .before .before .before .args .b) h) (c .if1 .taken)))
     -- returns-2
-    (λ c. newest-none (c .before .before .before .before .before .before .before .before .before .before .before .args .exact) (c .before .before .before .before .before .before .before .before .before .before .before .args .shape) (c .before .before .before .before .before .before .before .before .before .before .before .args .t3) (c .before .before .before .before .before .before .before .before .before .before .before .args .t4) (c .before .before .before .before .before .before .before .before .before .before .before .args .t5) (c .before .before .before .before .before .before .before .before .before .before .before .args .t6) (c .before .before .loop .inv (c .before .before .before .before .before .before .before .before .before .before .before .args .shape) (c .before .before .before .before .before .before .before .wide .ensures ∙ c .before .before .before .before .before .before .before .before .lowest .ensures) (c .before .before .before .before .before .wide2 .ensures ∙ c .before .before .before .before .before .before .lowest2 .ensures)) (omega (arith, c .before .if1 .left, c .before .before .before .before .before .before .before .wide .ensures, c .before .before .before .before .before .before .before .before .lowest .ensures)) (omega (arith, c .if2 .taken, c .before .before .before .before .before .wide2 .ensures, c .before .before .before .before .before .before .lowest2 .ensures)))
+    (λ c. (let h : Reads (c .before .before .before .before .before .before .before .before .before .before .before .before .before .args .shape) (c .before .before .before .before .before .before .before .before .before .before .before .before .before .args .a) (c .before .before .before .before .before .before .before .before .before .before .before .before .before .args .b) (c .before .before .before .before .before .before .before .before .before .before .before .before .before .args .a .messages) (c .before .before .before .before .before .before .before .before .before .before .before .before .before .args .b .messages) (c .before .before .before .before .before .before .before .before .before .wide .result) (c .before .before .before .before .before .before .before .wide2 .result) (c .before .before .before .before .before .before .least .result) (c .before .before .before .before .before .least2 .result) = (record { messages = refl; others = refl; first = c .before .before .before .before .before .before .before .before .before .wide .ensures ∙ c .before .before .before .before .before .before .before .before .before .before .lowest .ensures; last = c .before .before .before .before .before .before .before .wide2 .ensures ∙ c .before .before .before .before .before .before .before .before .lowest2 .ensures; count = c .before .before .before .before .before .before .least .ensures; counted = c .before .before .before .before .before .least2 .ensures }) in reads-none (c .before .before .before .before .before .before .before .before .before .before .before .before .before .args .exact) (c .before .before .before .before .before .before .before .before .before .before .before .before .before .args .shape) (c .before .before .before .before .before .before .before .before .before .before .before .before .before .args .a) (c .before .before .before .before .before .before .before .before .before .before .before .before .before .args .t4) (c .before .before .before .before .before .before .before .before .before .before .before .before .before .args .b) (c .before .before .before .before .before .before .before .before .before .before .before .before .before .args .t6) h (c .before .before .loop .inv (c .before .before .before .before .before .before .before .before .before .before .before .before .before .args .shape) (c .before .before .before .before .before .before .before .before .before .before .before .before .before .args .a) (c .before .before .before .before .before .before .before .before .before .before .before .before .before .args .b) h) (omega (arith, c .before .if1 .left)) (c .if2 .taken)))
     -- sub-x
-    (λ c. omega (arith, c .before .if1 .left, low-positive (c .before .before .before .before .before .before .before .before .before .before .before .args .shape) (c .before .before .before .before .before .before .before .before .before .before .before .args .t3 .pointers), c .before .before .before .before .before .before .before .wide .ensures, c .before .before .before .before .before .before .before .before .lowest .ensures))
+    (λ c. (let h : Reads (c .before .before .before .before .before .before .before .before .before .before .before .before .before .args .shape) (c .before .before .before .before .before .before .before .before .before .before .before .before .before .args .a) (c .before .before .before .before .before .before .before .before .before .before .before .before .before .args .b) (c .before .before .before .before .before .before .before .before .before .before .before .before .before .args .a .messages) (c .before .before .before .before .before .before .before .before .before .before .before .before .before .args .b .messages) (c .before .before .before .before .before .before .before .before .before .wide .result) (c .before .before .before .before .before .before .before .wide2 .result) (c .before .before .before .before .before .before .least .result) (c .before .before .before .before .before .least2 .result) = (record { messages = refl; others = refl; first = c .before .before .before .before .before .before .before .before .before .wide .ensures ∙ c .before .before .before .before .before .before .before .before .before .before .lowest .ensures; last = c .before .before .before .before .before .before .before .wide2 .ensures ∙ c .before .before .before .before .before .before .before .before .lowest2 .ensures; count = c .before .before .before .before .before .before .least .ensures; counted = c .before .before .before .before .before .least2 .ensures }) in first-room (c .before .before .before .before .before .before .before .before .before .before .before .before .before .args .exact) (c .before .before .before .before .before .before .before .before .before .before .before .before .before .args .shape) (c .before .before .before .before .before .before .before .before .before .before .before .before .before .args .a) (c .before .before .before .before .before .before .before .before .before .before .before .before .before .args .t4) (c .before .before .before .before .before .before .before .before .before .before .before .before .before .args .b) (c .before .before .before .before .before .before .before .before .before .before .before .before .before .args .t6) h (c .before .before .loop .inv (c .before .before .before .before .before .before .before .before .before .before .before .before .before .args .shape) (c .before .before .before .before .before .before .before .before .before .before .before .before .before .args .a) (c .before .before .before .before .before .before .before .before .before .before .before .before .before .args .b) h) (omega (arith, c .before .if1 .left))) .0)
     -- mul-x
-    (λ c. let w = (c .before .before .loop .inv (c .before .before .before .before .before .before .before .before .before .before .before .args .shape) (c .before .before .before .before .before .before .before .wide .ensures ∙ c .before .before .before .before .before .before .before .before .lowest .ensures) (c .before .before .before .before .before .wide2 .ensures ∙ c .before .before .before .before .before .before .lowest2 .ensures)) in omega (arith, w .first))
-    -- element-copy-out-x
-    (λ c. let w = (c .before .before .loop .inv (c .before .before .before .before .before .before .before .before .before .before .before .args .shape) (c .before .before .before .before .before .before .before .wide .ensures ∙ c .before .before .before .before .before .before .before .before .lowest .ensures) (c .before .before .before .before .before .wide2 .ensures ∙ c .before .before .before .before .before .before .lowest2 .ensures)) in omega (arith, w .first, c .before .if1 .left, low-positive (c .before .before .before .before .before .before .before .before .before .before .before .args .shape) (c .before .before .before .before .before .before .before .before .before .before .before .args .t3 .pointers), c .before .before .before .before .before .before .before .wide .ensures, c .before .before .before .before .before .before .before .before .lowest .ensures))
+    (λ c. let r = (let h : Reads (c .before .before .before .before .before .before .before .before .before .before .before .before .before .args .shape) (c .before .before .before .before .before .before .before .before .before .before .before .before .before .args .a) (c .before .before .before .before .before .before .before .before .before .before .before .before .before .args .b) (c .before .before .before .before .before .before .before .before .before .before .before .before .before .args .a .messages) (c .before .before .before .before .before .before .before .before .before .before .before .before .before .args .b .messages) (c .before .before .before .before .before .before .before .before .before .wide .result) (c .before .before .before .before .before .before .before .wide2 .result) (c .before .before .before .before .before .before .least .result) (c .before .before .before .before .before .least2 .result) = (record { messages = refl; others = refl; first = c .before .before .before .before .before .before .before .before .before .wide .ensures ∙ c .before .before .before .before .before .before .before .before .before .before .lowest .ensures; last = c .before .before .before .before .before .before .before .wide2 .ensures ∙ c .before .before .before .before .before .before .before .before .lowest2 .ensures; count = c .before .before .before .before .before .before .least .ensures; counted = c .before .before .before .before .before .least2 .ensures }) in first-room (c .before .before .before .before .before .before .before .before .before .before .before .before .before .args .exact) (c .before .before .before .before .before .before .before .before .before .before .before .before .before .args .shape) (c .before .before .before .before .before .before .before .before .before .before .before .before .before .args .a) (c .before .before .before .before .before .before .before .before .before .before .before .before .before .args .t4) (c .before .before .before .before .before .before .before .before .before .before .before .before .before .args .b) (c .before .before .before .before .before .before .before .before .before .before .before .before .before .args .t6) h (c .before .before .loop .inv (c .before .before .before .before .before .before .before .before .before .before .before .before .before .args .shape) (c .before .before .before .before .before .before .before .before .before .before .before .before .before .args .a) (c .before .before .before .before .before .before .before .before .before .before .before .before .before .args .b) h) (omega (arith, c .before .if1 .left))) in omega (arith, r .1))
+    -- array-copy-out-x
+    (λ c. let r = (let h : Reads (c .before .before .before .before .before .before .before .before .before .before .before .before .before .args .shape) (c .before .before .before .before .before .before .before .before .before .before .before .before .before .args .a) (c .before .before .before .before .before .before .before .before .before .before .before .before .before .args .b) (c .before .before .before .before .before .before .before .before .before .before .before .before .before .args .a .messages) (c .before .before .before .before .before .before .before .before .before .before .before .before .before .args .b .messages) (c .before .before .before .before .before .before .before .before .before .wide .result) (c .before .before .before .before .before .before .before .wide2 .result) (c .before .before .before .before .before .before .least .result) (c .before .before .before .before .before .least2 .result) = (record { messages = refl; others = refl; first = c .before .before .before .before .before .before .before .before .before .wide .ensures ∙ c .before .before .before .before .before .before .before .before .before .before .lowest .ensures; last = c .before .before .before .before .before .before .before .wide2 .ensures ∙ c .before .before .before .before .before .before .before .before .lowest2 .ensures; count = c .before .before .before .before .before .before .least .ensures; counted = c .before .before .before .before .before .least2 .ensures }) in first-room (c .before .before .before .before .before .before .before .before .before .before .before .before .before .args .exact) (c .before .before .before .before .before .before .before .before .before .before .before .before .before .args .shape) (c .before .before .before .before .before .before .before .before .before .before .before .before .before .args .a) (c .before .before .before .before .before .before .before .before .before .before .before .before .before .args .t4) (c .before .before .before .before .before .before .before .before .before .before .before .before .before .args .b) (c .before .before .before .before .before .before .before .before .before .before .before .before .before .args .t6) h (c .before .before .loop .inv (c .before .before .before .before .before .before .before .before .before .before .before .before .before .args .shape) (c .before .before .before .before .before .before .before .before .before .before .before .before .before .args .a) (c .before .before .before .before .before .before .before .before .before .before .before .before .before .args .b) h) (omega (arith, c .before .if1 .left))) in omega (arith, r .0, r .1))
     -- sub-y
-    (λ c. omega (arith, c .before .if2 .left, low-positive (c .before .before .before .before .before .before .before .before .before .before .before .before .args .shape) (c .before .before .before .before .before .before .before .before .before .before .before .before .args .t5 .pointers), c .before .before .before .before .before .before .wide2 .ensures, c .before .before .before .before .before .before .before .lowest2 .ensures))
+    (λ c. (let h : Reads (c .before .before .before .before .before .before .before .before .before .before .before .before .before .before .args .shape) (c .before .before .before .before .before .before .before .before .before .before .before .before .before .before .args .a) (c .before .before .before .before .before .before .before .before .before .before .before .before .before .before .args .b) (c .before .before .before .before .before .before .before .before .before .before .before .before .before .before .args .a .messages) (c .before .before .before .before .before .before .before .before .before .before .before .before .before .before .args .b .messages) (c .before .before .before .before .before .before .before .before .before .before .wide .result) (c .before .before .before .before .before .before .before .before .wide2 .result) (c .before .before .before .before .before .before .before .least .result) (c .before .before .before .before .before .before .least2 .result) = (record { messages = refl; others = refl; first = c .before .before .before .before .before .before .before .before .before .before .wide .ensures ∙ c .before .before .before .before .before .before .before .before .before .before .before .lowest .ensures; last = c .before .before .before .before .before .before .before .before .wide2 .ensures ∙ c .before .before .before .before .before .before .before .before .before .lowest2 .ensures; count = c .before .before .before .before .before .before .before .least .ensures; counted = c .before .before .before .before .before .before .least2 .ensures }) in last-room (c .before .before .before .before .before .before .before .before .before .before .before .before .before .before .args .exact) (c .before .before .before .before .before .before .before .before .before .before .before .before .before .before .args .shape) (c .before .before .before .before .before .before .before .before .before .before .before .before .before .before .args .a) (c .before .before .before .before .before .before .before .before .before .before .before .before .before .before .args .t4) (c .before .before .before .before .before .before .before .before .before .before .before .before .before .before .args .b) (c .before .before .before .before .before .before .before .before .before .before .before .before .before .before .args .t6) h (c .before .before .before .loop .inv (c .before .before .before .before .before .before .before .before .before .before .before .before .before .before .args .shape) (c .before .before .before .before .before .before .before .before .before .before .before .before .before .before .args .a) (c .before .before .before .before .before .before .before .before .before .before .before .before .before .before .args .b) h) (omega (arith, c .before .if2 .left))) .0)
     -- mul-y
-    (λ c. let w = (c .before .before .before .loop .inv (c .before .before .before .before .before .before .before .before .before .before .before .before .args .shape) (c .before .before .before .before .before .before .before .before .wide .ensures ∙ c .before .before .before .before .before .before .before .before .before .lowest .ensures) (c .before .before .before .before .before .before .wide2 .ensures ∙ c .before .before .before .before .before .before .before .lowest2 .ensures)) in omega (arith, w .second))
-    -- element-copy-out-y
-    (λ c. let w = (c .before .before .before .loop .inv (c .before .before .before .before .before .before .before .before .before .before .before .before .args .shape) (c .before .before .before .before .before .before .before .before .wide .ensures ∙ c .before .before .before .before .before .before .before .before .before .lowest .ensures) (c .before .before .before .before .before .before .wide2 .ensures ∙ c .before .before .before .before .before .before .before .lowest2 .ensures)) in omega (arith, w .second, c .before .if2 .left, low-positive (c .before .before .before .before .before .before .before .before .before .before .before .before .args .shape) (c .before .before .before .before .before .before .before .before .before .before .before .before .args .t5 .pointers), c .before .before .before .before .before .before .wide2 .ensures, c .before .before .before .before .before .before .before .lowest2 .ensures))
+    (λ c. let r = (let h : Reads (c .before .before .before .before .before .before .before .before .before .before .before .before .before .before .args .shape) (c .before .before .before .before .before .before .before .before .before .before .before .before .before .before .args .a) (c .before .before .before .before .before .before .before .before .before .before .before .before .before .before .args .b) (c .before .before .before .before .before .before .before .before .before .before .before .before .before .before .args .a .messages) (c .before .before .before .before .before .before .before .before .before .before .before .before .before .before .args .b .messages) (c .before .before .before .before .before .before .before .before .before .before .wide .result) (c .before .before .before .before .before .before .before .before .wide2 .result) (c .before .before .before .before .before .before .before .least .result) (c .before .before .before .before .before .before .least2 .result) = (record { messages = refl; others = refl; first = c .before .before .before .before .before .before .before .before .before .before .wide .ensures ∙ c .before .before .before .before .before .before .before .before .before .before .before .lowest .ensures; last = c .before .before .before .before .before .before .before .before .wide2 .ensures ∙ c .before .before .before .before .before .before .before .before .before .lowest2 .ensures; count = c .before .before .before .before .before .before .before .least .ensures; counted = c .before .before .before .before .before .before .least2 .ensures }) in last-room (c .before .before .before .before .before .before .before .before .before .before .before .before .before .before .args .exact) (c .before .before .before .before .before .before .before .before .before .before .before .before .before .before .args .shape) (c .before .before .before .before .before .before .before .before .before .before .before .before .before .before .args .a) (c .before .before .before .before .before .before .before .before .before .before .before .before .before .before .args .t4) (c .before .before .before .before .before .before .before .before .before .before .before .before .before .before .args .b) (c .before .before .before .before .before .before .before .before .before .before .before .before .before .before .args .t6) h (c .before .before .before .loop .inv (c .before .before .before .before .before .before .before .before .before .before .before .before .before .before .args .shape) (c .before .before .before .before .before .before .before .before .before .before .before .before .before .before .args .a) (c .before .before .before .before .before .before .before .before .before .before .before .before .before .before .args .b) h) (omega (arith, c .before .if2 .left))) in omega (arith, r .1))
+    -- array-copy-out-y
+    (λ c. let r = (let h : Reads (c .before .before .before .before .before .before .before .before .before .before .before .before .before .before .args .shape) (c .before .before .before .before .before .before .before .before .before .before .before .before .before .before .args .a) (c .before .before .before .before .before .before .before .before .before .before .before .before .before .before .args .b) (c .before .before .before .before .before .before .before .before .before .before .before .before .before .before .args .a .messages) (c .before .before .before .before .before .before .before .before .before .before .before .before .before .before .args .b .messages) (c .before .before .before .before .before .before .before .before .before .before .wide .result) (c .before .before .before .before .before .before .before .before .wide2 .result) (c .before .before .before .before .before .before .before .least .result) (c .before .before .before .before .before .before .least2 .result) = (record { messages = refl; others = refl; first = c .before .before .before .before .before .before .before .before .before .before .wide .ensures ∙ c .before .before .before .before .before .before .before .before .before .before .before .lowest .ensures; last = c .before .before .before .before .before .before .before .before .wide2 .ensures ∙ c .before .before .before .before .before .before .before .before .before .lowest2 .ensures; count = c .before .before .before .before .before .before .before .least .ensures; counted = c .before .before .before .before .before .before .least2 .ensures }) in last-room (c .before .before .before .before .before .before .before .before .before .before .before .before .before .before .args .exact) (c .before .before .before .before .before .before .before .before .before .before .before .before .before .before .args .shape) (c .before .before .before .before .before .before .before .before .before .before .before .before .before .before .args .a) (c .before .before .before .before .before .before .before .before .before .before .before .before .before .before .args .t4) (c .before .before .before .before .before .before .before .before .before .before .before .before .before .before .args .b) (c .before .before .before .before .before .before .before .before .before .before .before .before .before .before .args .t6) h (c .before .before .before .loop .inv (c .before .before .before .before .before .before .before .before .before .before .before .before .before .before .args .shape) (c .before .before .before .before .before .before .before .before .before .before .before .before .before .before .args .a) (c .before .before .before .before .before .before .before .before .before .before .before .before .before .before .args .b) h) (omega (arith, c .before .if2 .left))) in omega (arith, r .0, r .1))
     -- sub-message-matches
-    (λ c. omega (arith, c .before .before .before .if1 .left, low-positive (c .before .before .before .before .before .before .before .before .before .before .before .before .before .args .shape) (c .before .before .before .before .before .before .before .before .before .before .before .before .before .args .t3 .pointers), c .before .before .before .before .before .before .before .before .before .wide .ensures, c .before .before .before .before .before .before .before .before .before .before .lowest .ensures))
+    (λ c. (let h : Reads (c .before .before .before .before .before .before .before .before .before .before .before .before .before .before .before .args .shape) (c .before .before .before .before .before .before .before .before .before .before .before .before .before .before .before .args .a) (c .before .before .before .before .before .before .before .before .before .before .before .before .before .before .before .args .b) (c .before .before .before .before .before .before .before .before .before .before .before .before .before .before .before .args .a .messages) (c .before .before .before .before .before .before .before .before .before .before .before .before .before .before .before .args .b .messages) (c .before .before .before .before .before .before .before .before .before .before .before .wide .result) (c .before .before .before .before .before .before .before .before .before .wide2 .result) (c .before .before .before .before .before .before .before .before .least .result) (c .before .before .before .before .before .before .before .least2 .result) = (record { messages = refl; others = refl; first = c .before .before .before .before .before .before .before .before .before .before .before .wide .ensures ∙ c .before .before .before .before .before .before .before .before .before .before .before .before .lowest .ensures; last = c .before .before .before .before .before .before .before .before .before .wide2 .ensures ∙ c .before .before .before .before .before .before .before .before .before .before .lowest2 .ensures; count = c .before .before .before .before .before .before .before .before .least .ensures; counted = c .before .before .before .before .before .before .before .least2 .ensures }) in first-room (c .before .before .before .before .before .before .before .before .before .before .before .before .before .before .before .args .exact) (c .before .before .before .before .before .before .before .before .before .before .before .before .before .before .before .args .shape) (c .before .before .before .before .before .before .before .before .before .before .before .before .before .before .before .args .a) (c .before .before .before .before .before .before .before .before .before .before .before .before .before .before .before .args .t4) (c .before .before .before .before .before .before .before .before .before .before .before .before .before .before .before .args .b) (c .before .before .before .before .before .before .before .before .before .before .before .before .before .before .before .args .t6) h (c .before .before .before .before .loop .inv (c .before .before .before .before .before .before .before .before .before .before .before .before .before .before .before .args .shape) (c .before .before .before .before .before .before .before .before .before .before .before .before .before .before .before .args .a) (c .before .before .before .before .before .before .before .before .before .before .before .before .before .before .before .args .b) h) (omega (arith, c .before .before .before .if1 .left))) .0)
     -- mul-message-matches
-    (λ c. let w = (c .before .before .before .before .loop .inv (c .before .before .before .before .before .before .before .before .before .before .before .before .before .args .shape) (c .before .before .before .before .before .before .before .before .before .wide .ensures ∙ c .before .before .before .before .before .before .before .before .before .before .lowest .ensures) (c .before .before .before .before .before .before .before .wide2 .ensures ∙ c .before .before .before .before .before .before .before .before .lowest2 .ensures)) in omega (arith, w .first))
+    (λ c. let r = (let h : Reads (c .before .before .before .before .before .before .before .before .before .before .before .before .before .before .before .args .shape) (c .before .before .before .before .before .before .before .before .before .before .before .before .before .before .before .args .a) (c .before .before .before .before .before .before .before .before .before .before .before .before .before .before .before .args .b) (c .before .before .before .before .before .before .before .before .before .before .before .before .before .before .before .args .a .messages) (c .before .before .before .before .before .before .before .before .before .before .before .before .before .before .before .args .b .messages) (c .before .before .before .before .before .before .before .before .before .before .before .wide .result) (c .before .before .before .before .before .before .before .before .before .wide2 .result) (c .before .before .before .before .before .before .before .before .least .result) (c .before .before .before .before .before .before .before .least2 .result) = (record { messages = refl; others = refl; first = c .before .before .before .before .before .before .before .before .before .before .before .wide .ensures ∙ c .before .before .before .before .before .before .before .before .before .before .before .before .lowest .ensures; last = c .before .before .before .before .before .before .before .before .before .wide2 .ensures ∙ c .before .before .before .before .before .before .before .before .before .before .lowest2 .ensures; count = c .before .before .before .before .before .before .before .before .least .ensures; counted = c .before .before .before .before .before .before .before .least2 .ensures }) in first-room (c .before .before .before .before .before .before .before .before .before .before .before .before .before .before .before .args .exact) (c .before .before .before .before .before .before .before .before .before .before .before .before .before .before .before .args .shape) (c .before .before .before .before .before .before .before .before .before .before .before .before .before .before .before .args .a) (c .before .before .before .before .before .before .before .before .before .before .before .before .before .before .before .args .t4) (c .before .before .before .before .before .before .before .before .before .before .before .before .before .before .before .args .b) (c .before .before .before .before .before .before .before .before .before .before .before .before .before .before .before .args .t6) h (c .before .before .before .before .loop .inv (c .before .before .before .before .before .before .before .before .before .before .before .before .before .before .before .args .shape) (c .before .before .before .before .before .before .before .before .before .before .before .before .before .before .before .args .a) (c .before .before .before .before .before .before .before .before .before .before .before .before .before .before .before .args .b) h) (omega (arith, c .before .before .before .if1 .left))) in omega (arith, r .1))
     -- array-read-message-matches
-    (λ c. let w = (c .before .before .before .before .loop .inv (c .before .before .before .before .before .before .before .before .before .before .before .before .before .args .shape) (c .before .before .before .before .before .before .before .before .before .wide .ensures ∙ c .before .before .before .before .before .before .before .before .before .before .lowest .ensures) (c .before .before .before .before .before .before .before .wide2 .ensures ∙ c .before .before .before .before .before .before .before .before .lowest2 .ensures)) in omega (arith, w .first, c .before .before .before .if1 .left, low-positive (c .before .before .before .before .before .before .before .before .before .before .before .before .before .args .shape) (c .before .before .before .before .before .before .before .before .before .before .before .before .before .args .t3 .pointers), c .before .before .before .before .before .before .before .before .before .wide .ensures, c .before .before .before .before .before .before .before .before .before .before .lowest .ensures))
+    (λ c. let r = (let h : Reads (c .before .before .before .before .before .before .before .before .before .before .before .before .before .before .before .args .shape) (c .before .before .before .before .before .before .before .before .before .before .before .before .before .before .before .args .a) (c .before .before .before .before .before .before .before .before .before .before .before .before .before .before .before .args .b) (c .before .before .before .before .before .before .before .before .before .before .before .before .before .before .before .args .a .messages) (c .before .before .before .before .before .before .before .before .before .before .before .before .before .before .before .args .b .messages) (c .before .before .before .before .before .before .before .before .before .before .before .wide .result) (c .before .before .before .before .before .before .before .before .before .wide2 .result) (c .before .before .before .before .before .before .before .before .least .result) (c .before .before .before .before .before .before .before .least2 .result) = (record { messages = refl; others = refl; first = c .before .before .before .before .before .before .before .before .before .before .before .wide .ensures ∙ c .before .before .before .before .before .before .before .before .before .before .before .before .lowest .ensures; last = c .before .before .before .before .before .before .before .before .before .wide2 .ensures ∙ c .before .before .before .before .before .before .before .before .before .before .lowest2 .ensures; count = c .before .before .before .before .before .before .before .before .least .ensures; counted = c .before .before .before .before .before .before .before .least2 .ensures }) in first-room (c .before .before .before .before .before .before .before .before .before .before .before .before .before .before .before .args .exact) (c .before .before .before .before .before .before .before .before .before .before .before .before .before .before .before .args .shape) (c .before .before .before .before .before .before .before .before .before .before .before .before .before .before .before .args .a) (c .before .before .before .before .before .before .before .before .before .before .before .before .before .before .before .args .t4) (c .before .before .before .before .before .before .before .before .before .before .before .before .before .before .before .args .b) (c .before .before .before .before .before .before .before .before .before .before .before .before .before .before .before .args .t6) h (c .before .before .before .before .loop .inv (c .before .before .before .before .before .before .before .before .before .before .before .before .before .before .before .args .shape) (c .before .before .before .before .before .before .before .before .before .before .before .before .before .before .before .args .a) (c .before .before .before .before .before .before .before .before .before .before .before .before .before .before .before .args .b) h) (omega (arith, c .before .before .before .if1 .left))) in omega (arith, r .0, r .1))
     -- sub-message-matches-2
-    (λ c. omega (arith, c .before .before .if2 .left, low-positive (c .before .before .before .before .before .before .before .before .before .before .before .before .before .args .shape) (c .before .before .before .before .before .before .before .before .before .before .before .before .before .args .t5 .pointers), c .before .before .before .before .before .before .before .wide2 .ensures, c .before .before .before .before .before .before .before .before .lowest2 .ensures))
+    (λ c. (let h : Reads (c .before .before .before .before .before .before .before .before .before .before .before .before .before .before .before .args .shape) (c .before .before .before .before .before .before .before .before .before .before .before .before .before .before .before .args .a) (c .before .before .before .before .before .before .before .before .before .before .before .before .before .before .before .args .b) (c .before .before .before .before .before .before .before .before .before .before .before .before .before .before .before .args .a .messages) (c .before .before .before .before .before .before .before .before .before .before .before .before .before .before .before .args .b .messages) (c .before .before .before .before .before .before .before .before .before .before .before .wide .result) (c .before .before .before .before .before .before .before .before .before .wide2 .result) (c .before .before .before .before .before .before .before .before .least .result) (c .before .before .before .before .before .before .before .least2 .result) = (record { messages = refl; others = refl; first = c .before .before .before .before .before .before .before .before .before .before .before .wide .ensures ∙ c .before .before .before .before .before .before .before .before .before .before .before .before .lowest .ensures; last = c .before .before .before .before .before .before .before .before .before .wide2 .ensures ∙ c .before .before .before .before .before .before .before .before .before .before .lowest2 .ensures; count = c .before .before .before .before .before .before .before .before .least .ensures; counted = c .before .before .before .before .before .before .before .least2 .ensures }) in last-room (c .before .before .before .before .before .before .before .before .before .before .before .before .before .before .before .args .exact) (c .before .before .before .before .before .before .before .before .before .before .before .before .before .before .before .args .shape) (c .before .before .before .before .before .before .before .before .before .before .before .before .before .before .before .args .a) (c .before .before .before .before .before .before .before .before .before .before .before .before .before .before .before .args .t4) (c .before .before .before .before .before .before .before .before .before .before .before .before .before .before .before .args .b) (c .before .before .before .before .before .before .before .before .before .before .before .before .before .before .before .args .t6) h (c .before .before .before .before .loop .inv (c .before .before .before .before .before .before .before .before .before .before .before .before .before .before .before .args .shape) (c .before .before .before .before .before .before .before .before .before .before .before .before .before .before .before .args .a) (c .before .before .before .before .before .before .before .before .before .before .before .before .before .before .before .args .b) h) (omega (arith, c .before .before .if2 .left))) .0)
     -- mul-message-matches-2
-    (λ c. let w = (c .before .before .before .before .loop .inv (c .before .before .before .before .before .before .before .before .before .before .before .before .before .args .shape) (c .before .before .before .before .before .before .before .before .before .wide .ensures ∙ c .before .before .before .before .before .before .before .before .before .before .lowest .ensures) (c .before .before .before .before .before .before .before .wide2 .ensures ∙ c .before .before .before .before .before .before .before .before .lowest2 .ensures)) in omega (arith, w .second))
+    (λ c. let r = (let h : Reads (c .before .before .before .before .before .before .before .before .before .before .before .before .before .before .before .args .shape) (c .before .before .before .before .before .before .before .before .before .before .before .before .before .before .before .args .a) (c .before .before .before .before .before .before .before .before .before .before .before .before .before .before .before .args .b) (c .before .before .before .before .before .before .before .before .before .before .before .before .before .before .before .args .a .messages) (c .before .before .before .before .before .before .before .before .before .before .before .before .before .before .before .args .b .messages) (c .before .before .before .before .before .before .before .before .before .before .before .wide .result) (c .before .before .before .before .before .before .before .before .before .wide2 .result) (c .before .before .before .before .before .before .before .before .least .result) (c .before .before .before .before .before .before .before .least2 .result) = (record { messages = refl; others = refl; first = c .before .before .before .before .before .before .before .before .before .before .before .wide .ensures ∙ c .before .before .before .before .before .before .before .before .before .before .before .before .lowest .ensures; last = c .before .before .before .before .before .before .before .before .before .wide2 .ensures ∙ c .before .before .before .before .before .before .before .before .before .before .lowest2 .ensures; count = c .before .before .before .before .before .before .before .before .least .ensures; counted = c .before .before .before .before .before .before .before .least2 .ensures }) in last-room (c .before .before .before .before .before .before .before .before .before .before .before .before .before .before .before .args .exact) (c .before .before .before .before .before .before .before .before .before .before .before .before .before .before .before .args .shape) (c .before .before .before .before .before .before .before .before .before .before .before .before .before .before .before .args .a) (c .before .before .before .before .before .before .before .before .before .before .before .before .before .before .before .args .t4) (c .before .before .before .before .before .before .before .before .before .before .before .before .before .before .before .args .b) (c .before .before .before .before .before .before .before .before .before .before .before .before .before .before .before .args .t6) h (c .before .before .before .before .loop .inv (c .before .before .before .before .before .before .before .before .before .before .before .before .before .before .before .args .shape) (c .before .before .before .before .before .before .before .before .before .before .before .before .before .before .before .args .a) (c .before .before .before .before .before .before .before .before .before .before .before .before .before .before .before .args .b) h) (omega (arith, c .before .before .if2 .left))) in omega (arith, r .1))
     -- array-read-message-matches-2
-    (λ c. let w = (c .before .before .before .before .loop .inv (c .before .before .before .before .before .before .before .before .before .before .before .before .before .args .shape) (c .before .before .before .before .before .before .before .before .before .wide .ensures ∙ c .before .before .before .before .before .before .before .before .before .before .lowest .ensures) (c .before .before .before .before .before .before .before .wide2 .ensures ∙ c .before .before .before .before .before .before .before .before .lowest2 .ensures)) in omega (arith, w .second, c .before .before .if2 .left, low-positive (c .before .before .before .before .before .before .before .before .before .before .before .before .before .args .shape) (c .before .before .before .before .before .before .before .before .before .before .before .before .before .args .t5 .pointers), c .before .before .before .before .before .before .before .wide2 .ensures, c .before .before .before .before .before .before .before .before .lowest2 .ensures))
+    (λ c. let r = (let h : Reads (c .before .before .before .before .before .before .before .before .before .before .before .before .before .before .before .args .shape) (c .before .before .before .before .before .before .before .before .before .before .before .before .before .before .before .args .a) (c .before .before .before .before .before .before .before .before .before .before .before .before .before .before .before .args .b) (c .before .before .before .before .before .before .before .before .before .before .before .before .before .before .before .args .a .messages) (c .before .before .before .before .before .before .before .before .before .before .before .before .before .before .before .args .b .messages) (c .before .before .before .before .before .before .before .before .before .before .before .wide .result) (c .before .before .before .before .before .before .before .before .before .wide2 .result) (c .before .before .before .before .before .before .before .before .least .result) (c .before .before .before .before .before .before .before .least2 .result) = (record { messages = refl; others = refl; first = c .before .before .before .before .before .before .before .before .before .before .before .wide .ensures ∙ c .before .before .before .before .before .before .before .before .before .before .before .before .lowest .ensures; last = c .before .before .before .before .before .before .before .before .before .wide2 .ensures ∙ c .before .before .before .before .before .before .before .before .before .before .lowest2 .ensures; count = c .before .before .before .before .before .before .before .before .least .ensures; counted = c .before .before .before .before .before .before .before .least2 .ensures }) in last-room (c .before .before .before .before .before .before .before .before .before .before .before .before .before .before .before .args .exact) (c .before .before .before .before .before .before .before .before .before .before .before .before .before .before .before .args .shape) (c .before .before .before .before .before .before .before .before .before .before .before .before .before .before .before .args .a) (c .before .before .before .before .before .before .before .before .before .before .before .before .before .before .before .args .t4) (c .before .before .before .before .before .before .before .before .before .before .before .before .before .before .before .args .b) (c .before .before .before .before .before .before .before .before .before .before .before .before .before .before .before .args .t6) h (c .before .before .before .before .loop .inv (c .before .before .before .before .before .before .before .before .before .before .before .before .before .before .before .args .shape) (c .before .before .before .before .before .before .before .before .before .before .before .before .before .before .before .args .a) (c .before .before .before .before .before .before .before .before .before .before .before .before .before .before .before .args .b) h) (omega (arith, c .before .before .if2 .left))) in omega (arith, r .0, r .1))
     -- message-matches-requires
     (λ c κs. search needs)
     -- sub-i
-    (λ c. omega (arith, c .before .before .before .before .before .if1 .left, low-positive (c .before .before .before .before .before .before .before .before .before .before .before .before .before .before .before .args .shape) (c .before .before .before .before .before .before .before .before .before .before .before .before .before .before .before .args .t3 .pointers), c .before .before .before .before .before .before .before .before .before .before .before .wide .ensures, c .before .before .before .before .before .before .before .before .before .before .before .before .lowest .ensures))
+    (λ c. (let h : Reads (c .before .before .before .before .before .before .before .before .before .before .before .before .before .before .before .before .before .args .shape) (c .before .before .before .before .before .before .before .before .before .before .before .before .before .before .before .before .before .args .a) (c .before .before .before .before .before .before .before .before .before .before .before .before .before .before .before .before .before .args .b) (c .before .before .before .before .before .before .before .before .before .before .before .before .before .before .before .before .before .args .a .messages) (c .before .before .before .before .before .before .before .before .before .before .before .before .before .before .before .before .before .args .b .messages) (c .before .before .before .before .before .before .before .before .before .before .before .before .before .wide .result) (c .before .before .before .before .before .before .before .before .before .before .before .wide2 .result) (c .before .before .before .before .before .before .before .before .before .before .least .result) (c .before .before .before .before .before .before .before .before .before .least2 .result) = (record { messages = refl; others = refl; first = c .before .before .before .before .before .before .before .before .before .before .before .before .before .wide .ensures ∙ c .before .before .before .before .before .before .before .before .before .before .before .before .before .before .lowest .ensures; last = c .before .before .before .before .before .before .before .before .before .before .before .wide2 .ensures ∙ c .before .before .before .before .before .before .before .before .before .before .before .before .lowest2 .ensures; count = c .before .before .before .before .before .before .before .before .before .before .least .ensures; counted = c .before .before .before .before .before .before .before .before .before .least2 .ensures }) in first-room (c .before .before .before .before .before .before .before .before .before .before .before .before .before .before .before .before .before .args .exact) (c .before .before .before .before .before .before .before .before .before .before .before .before .before .before .before .before .before .args .shape) (c .before .before .before .before .before .before .before .before .before .before .before .before .before .before .before .before .before .args .a) (c .before .before .before .before .before .before .before .before .before .before .before .before .before .before .before .before .before .args .t4) (c .before .before .before .before .before .before .before .before .before .before .before .before .before .before .before .before .before .args .b) (c .before .before .before .before .before .before .before .before .before .before .before .before .before .before .before .before .before .args .t6) h (c .before .before .before .before .before .before .loop .inv (c .before .before .before .before .before .before .before .before .before .before .before .before .before .before .before .before .before .args .shape) (c .before .before .before .before .before .before .before .before .before .before .before .before .before .before .before .before .before .args .a) (c .before .before .before .before .before .before .before .before .before .before .before .before .before .before .before .before .before .args .b) h) (omega (arith, c .before .before .before .before .before .if1 .left))) .0)
     -- sub-j
-    (λ c. omega (arith, c .before .before .before .before .if2 .left, low-positive (c .before .before .before .before .before .before .before .before .before .before .before .before .before .before .before .args .shape) (c .before .before .before .before .before .before .before .before .before .before .before .before .before .before .before .args .t5 .pointers), c .before .before .before .before .before .before .before .before .before .wide2 .ensures, c .before .before .before .before .before .before .before .before .before .before .lowest2 .ensures))
+    (λ c. (let h : Reads (c .before .before .before .before .before .before .before .before .before .before .before .before .before .before .before .before .before .args .shape) (c .before .before .before .before .before .before .before .before .before .before .before .before .before .before .before .before .before .args .a) (c .before .before .before .before .before .before .before .before .before .before .before .before .before .before .before .before .before .args .b) (c .before .before .before .before .before .before .before .before .before .before .before .before .before .before .before .before .before .args .a .messages) (c .before .before .before .before .before .before .before .before .before .before .before .before .before .before .before .before .before .args .b .messages) (c .before .before .before .before .before .before .before .before .before .before .before .before .before .wide .result) (c .before .before .before .before .before .before .before .before .before .before .before .wide2 .result) (c .before .before .before .before .before .before .before .before .before .before .least .result) (c .before .before .before .before .before .before .before .before .before .least2 .result) = (record { messages = refl; others = refl; first = c .before .before .before .before .before .before .before .before .before .before .before .before .before .wide .ensures ∙ c .before .before .before .before .before .before .before .before .before .before .before .before .before .before .lowest .ensures; last = c .before .before .before .before .before .before .before .before .before .before .before .wide2 .ensures ∙ c .before .before .before .before .before .before .before .before .before .before .before .before .lowest2 .ensures; count = c .before .before .before .before .before .before .before .before .before .before .least .ensures; counted = c .before .before .before .before .before .before .before .before .before .least2 .ensures }) in last-room (c .before .before .before .before .before .before .before .before .before .before .before .before .before .before .before .before .before .args .exact) (c .before .before .before .before .before .before .before .before .before .before .before .before .before .before .before .before .before .args .shape) (c .before .before .before .before .before .before .before .before .before .before .before .before .before .before .before .before .before .args .a) (c .before .before .before .before .before .before .before .before .before .before .before .before .before .before .before .before .before .args .t4) (c .before .before .before .before .before .before .before .before .before .before .before .before .before .before .before .before .before .args .b) (c .before .before .before .before .before .before .before .before .before .before .before .before .before .before .before .before .before .args .t6) h (c .before .before .before .before .before .before .loop .inv (c .before .before .before .before .before .before .before .before .before .before .before .before .before .before .before .before .before .args .shape) (c .before .before .before .before .before .before .before .before .before .before .before .before .before .before .before .before .before .args .a) (c .before .before .before .before .before .before .before .before .before .before .before .before .before .before .before .before .before .args .b) h) (omega (arith, c .before .before .before .before .if2 .left))) .0)
     -- loop-less
-    (λ c. omega (arith, c .before .before .before .before .if2 .left, low-positive (c .before .before .before .before .before .before .before .before .before .before .before .before .before .before .before .args .shape) (c .before .before .before .before .before .before .before .before .before .before .before .before .before .before .before .args .t5 .pointers), c .before .before .before .before .before .before .before .before .before .wide2 .ensures, c .before .before .before .before .before .before .before .before .before .before .lowest2 .ensures))
+    (λ c. let r = (let h : Reads (c .before .before .before .before .before .before .before .before .before .before .before .before .before .before .before .before .before .args .shape) (c .before .before .before .before .before .before .before .before .before .before .before .before .before .before .before .before .before .args .a) (c .before .before .before .before .before .before .before .before .before .before .before .before .before .before .before .before .before .args .b) (c .before .before .before .before .before .before .before .before .before .before .before .before .before .before .before .before .before .args .a .messages) (c .before .before .before .before .before .before .before .before .before .before .before .before .before .before .before .before .before .args .b .messages) (c .before .before .before .before .before .before .before .before .before .before .before .before .before .wide .result) (c .before .before .before .before .before .before .before .before .before .before .before .wide2 .result) (c .before .before .before .before .before .before .before .before .before .before .least .result) (c .before .before .before .before .before .before .before .before .before .least2 .result) = (record { messages = refl; others = refl; first = c .before .before .before .before .before .before .before .before .before .before .before .before .before .wide .ensures ∙ c .before .before .before .before .before .before .before .before .before .before .before .before .before .before .lowest .ensures; last = c .before .before .before .before .before .before .before .before .before .before .before .wide2 .ensures ∙ c .before .before .before .before .before .before .before .before .before .before .before .before .lowest2 .ensures; count = c .before .before .before .before .before .before .before .before .before .before .least .ensures; counted = c .before .before .before .before .before .before .before .before .before .least2 .ensures }) in last-room (c .before .before .before .before .before .before .before .before .before .before .before .before .before .before .before .before .before .args .exact) (c .before .before .before .before .before .before .before .before .before .before .before .before .before .before .before .before .before .args .shape) (c .before .before .before .before .before .before .before .before .before .before .before .before .before .before .before .before .before .args .a) (c .before .before .before .before .before .before .before .before .before .before .before .before .before .before .before .before .before .args .t4) (c .before .before .before .before .before .before .before .before .before .before .before .before .before .before .before .before .before .args .b) (c .before .before .before .before .before .before .before .before .before .before .before .before .before .before .before .before .before .args .t6) h (c .before .before .before .before .before .before .loop .inv (c .before .before .before .before .before .before .before .before .before .before .before .before .before .before .before .before .before .args .shape) (c .before .before .before .before .before .before .before .before .before .before .before .before .before .before .before .before .before .args .a) (c .before .before .before .before .before .before .before .before .before .before .before .before .before .before .before .before .before .args .b) h) (omega (arith, c .before .before .before .before .if2 .left))) in omega (arith, r .0))
     -- loop-again
-    (λ c s e f. newest-match (c .before .before .before .before .before .before .before .before .before .before .before .before .before .before .before .args .exact) s (c .before .before .before .before .before .before .before .before .before .before .before .before .before .before .before .args .t3) (c .before .before .before .before .before .before .before .before .before .before .before .before .before .before .before .args .t4) (c .before .before .before .before .before .before .before .before .before .before .before .before .before .before .before .args .t5) (c .before .before .before .before .before .before .before .before .before .before .before .before .before .before .before .args .t6) (c .before .before .before .before .before .before .loop .inv s e f) (omega (arith, e, c .before .before .before .before .before .if1 .left)) (omega (arith, f, c .before .before .before .before .if2 .left)) (c .before .message-matches .ensures) (c .if3 .taken))
+    (λ c s a b h. reads-match (c .before .before .before .before .before .before .before .before .before .before .before .before .before .before .before .before .before .args .exact) s a (c .before .before .before .before .before .before .before .before .before .before .before .before .before .before .before .before .before .args .t4) b (c .before .before .before .before .before .before .before .before .before .before .before .before .before .before .before .before .before .args .t6) h (c .before .before .before .before .before .before .loop .inv s a b h) (omega (arith, c .before .before .before .before .before .if1 .left)) (omega (arith, c .before .before .before .before .if2 .left)) (c .before .message-matches .ensures) (c .if3 .taken))
     -- sub-j-2
-    (λ c. omega (arith, c .before .before .before .before .if2 .left, low-positive (c .before .before .before .before .before .before .before .before .before .before .before .before .before .before .before .args .shape) (c .before .before .before .before .before .before .before .before .before .before .before .before .before .before .before .args .t5 .pointers), c .before .before .before .before .before .before .before .before .before .wide2 .ensures, c .before .before .before .before .before .before .before .before .before .before .lowest2 .ensures))
+    (λ c. (let h : Reads (c .before .before .before .before .before .before .before .before .before .before .before .before .before .before .before .before .before .args .shape) (c .before .before .before .before .before .before .before .before .before .before .before .before .before .before .before .before .before .args .a) (c .before .before .before .before .before .before .before .before .before .before .before .before .before .before .before .before .before .args .b) (c .before .before .before .before .before .before .before .before .before .before .before .before .before .before .before .before .before .args .a .messages) (c .before .before .before .before .before .before .before .before .before .before .before .before .before .before .before .before .before .args .b .messages) (c .before .before .before .before .before .before .before .before .before .before .before .before .before .wide .result) (c .before .before .before .before .before .before .before .before .before .before .before .wide2 .result) (c .before .before .before .before .before .before .before .before .before .before .least .result) (c .before .before .before .before .before .before .before .before .before .least2 .result) = (record { messages = refl; others = refl; first = c .before .before .before .before .before .before .before .before .before .before .before .before .before .wide .ensures ∙ c .before .before .before .before .before .before .before .before .before .before .before .before .before .before .lowest .ensures; last = c .before .before .before .before .before .before .before .before .before .before .before .wide2 .ensures ∙ c .before .before .before .before .before .before .before .before .before .before .before .before .lowest2 .ensures; count = c .before .before .before .before .before .before .before .before .before .before .least .ensures; counted = c .before .before .before .before .before .before .before .before .before .least2 .ensures }) in last-room (c .before .before .before .before .before .before .before .before .before .before .before .before .before .before .before .before .before .args .exact) (c .before .before .before .before .before .before .before .before .before .before .before .before .before .before .before .before .before .args .shape) (c .before .before .before .before .before .before .before .before .before .before .before .before .before .before .before .before .before .args .a) (c .before .before .before .before .before .before .before .before .before .before .before .before .before .before .before .before .before .args .t4) (c .before .before .before .before .before .before .before .before .before .before .before .before .before .before .before .before .before .args .b) (c .before .before .before .before .before .before .before .before .before .before .before .before .before .before .before .before .before .args .t6) h (c .before .before .before .before .before .before .loop .inv (c .before .before .before .before .before .before .before .before .before .before .before .before .before .before .before .before .before .args .shape) (c .before .before .before .before .before .before .before .before .before .before .before .before .before .before .before .before .before .args .a) (c .before .before .before .before .before .before .before .before .before .before .before .before .before .before .before .before .before .args .b) h) (omega (arith, c .before .before .before .before .if2 .left))) .0)
     -- loop-less-2
-    (λ c. omega (arith, c .before .before .before .before .if2 .left, low-positive (c .before .before .before .before .before .before .before .before .before .before .before .before .before .before .before .args .shape) (c .before .before .before .before .before .before .before .before .before .before .before .before .before .before .before .args .t5 .pointers), c .before .before .before .before .before .before .before .before .before .wide2 .ensures, c .before .before .before .before .before .before .before .before .before .before .lowest2 .ensures))
+    (λ c. let r = (let h : Reads (c .before .before .before .before .before .before .before .before .before .before .before .before .before .before .before .before .before .args .shape) (c .before .before .before .before .before .before .before .before .before .before .before .before .before .before .before .before .before .args .a) (c .before .before .before .before .before .before .before .before .before .before .before .before .before .before .before .before .before .args .b) (c .before .before .before .before .before .before .before .before .before .before .before .before .before .before .before .before .before .args .a .messages) (c .before .before .before .before .before .before .before .before .before .before .before .before .before .before .before .before .before .args .b .messages) (c .before .before .before .before .before .before .before .before .before .before .before .before .before .wide .result) (c .before .before .before .before .before .before .before .before .before .before .before .wide2 .result) (c .before .before .before .before .before .before .before .before .before .before .least .result) (c .before .before .before .before .before .before .before .before .before .least2 .result) = (record { messages = refl; others = refl; first = c .before .before .before .before .before .before .before .before .before .before .before .before .before .wide .ensures ∙ c .before .before .before .before .before .before .before .before .before .before .before .before .before .before .lowest .ensures; last = c .before .before .before .before .before .before .before .before .before .before .before .wide2 .ensures ∙ c .before .before .before .before .before .before .before .before .before .before .before .before .lowest2 .ensures; count = c .before .before .before .before .before .before .before .before .before .before .least .ensures; counted = c .before .before .before .before .before .before .before .before .before .least2 .ensures }) in last-room (c .before .before .before .before .before .before .before .before .before .before .before .before .before .before .before .before .before .args .exact) (c .before .before .before .before .before .before .before .before .before .before .before .before .before .before .before .before .before .args .shape) (c .before .before .before .before .before .before .before .before .before .before .before .before .before .before .before .before .before .args .a) (c .before .before .before .before .before .before .before .before .before .before .before .before .before .before .before .before .before .args .t4) (c .before .before .before .before .before .before .before .before .before .before .before .before .before .before .before .before .before .args .b) (c .before .before .before .before .before .before .before .before .before .before .before .before .before .before .before .before .before .args .t6) h (c .before .before .before .before .before .before .loop .inv (c .before .before .before .before .before .before .before .before .before .before .before .before .before .before .before .before .before .args .shape) (c .before .before .before .before .before .before .before .before .before .before .before .before .before .before .before .before .before .args .a) (c .before .before .before .before .before .before .before .before .before .before .before .before .before .before .before .before .before .args .b) h) (omega (arith, c .before .before .before .before .if2 .left))) in omega (arith, r .0))
     -- loop-again-2
-    (λ c s e f. newest-skip (c .before .before .before .before .before .before .before .before .before .before .before .before .before .before .before .args .exact) s (c .before .before .before .before .before .before .before .before .before .before .before .before .before .before .before .args .t3) (c .before .before .before .before .before .before .before .before .before .before .before .before .before .before .before .args .t4) (c .before .before .before .before .before .before .before .before .before .before .before .before .before .before .before .args .t5) (c .before .before .before .before .before .before .before .before .before .before .before .before .before .before .before .args .t6) (c .before .before .before .before .before .before .loop .inv s e f) (omega (arith, e, c .before .before .before .before .before .if1 .left)) (omega (arith, f, c .before .before .before .before .if2 .left)) (c .before .message-matches .ensures) (c .if3 .left)))
+    (λ c s a b h. reads-skip (c .before .before .before .before .before .before .before .before .before .before .before .before .before .before .before .before .before .args .exact) s a (c .before .before .before .before .before .before .before .before .before .before .before .before .before .before .before .before .before .args .t4) b (c .before .before .before .before .before .before .before .before .before .before .before .before .before .before .before .before .before .args .t6) h (c .before .before .before .before .before .before .loop .inv s a b h) (omega (arith, c .before .before .before .before .before .if1 .left)) (omega (arith, c .before .before .before .before .if2 .left)) (c .before .message-matches .ensures) (c .if3 .left)))

@@ -1,7 +1,5 @@
-use Prim.Native.Nat.{ℕ}
-use mathlib.Core.Path.{_≡_, sym, ap, _∙_}
+use mathlib.Core.Path.{sym, ap, _∙_}
 use mathlib.Core.Bool.{Bool, cond}
-use native.Mathlib.Omega.{arith}
 use Rattle.reading.specs.Cube.{waitingOf}
 use Rattle.matching.proofs.PackLaws.{empty-none, empty-some}
 use borrow.Author.Needs.{needs}

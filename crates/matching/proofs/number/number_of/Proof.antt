@@ -1,9 +1,9 @@
-use Prim.Native.Nat.{ℕ, _-_, _≤_, min}
+use Prim.Native.Nat.{ℕ, _≤_, min}
 use mathlib.Core.Path.{_≡_, refl, sym, ap, ap₂, _∙_}
 use mathlib.Core.List.{List}
 use native.Mathlib.Omega.{arith}
 use Rattle.matching.specs.Tags.{tagsOf}
-use Rattle.matching.specs.Number.{stir, packedStates, packedQueues, withTags, numberOf}
+use Rattle.matching.specs.Number.{stir, packedQueues, withTags, numberOf}
 use Rattle.matching.proofs.PackLaws.{tags-hit, tags-pass}
 use borrow.Author.Needs.{needs}
 use Rattle.matching.proofs.number.number_of.Statement.{statement}
