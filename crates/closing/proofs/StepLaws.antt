@@ -38,6 +38,7 @@ use Rattle.before.specs.declared.Kind.{Kind}
 use Rattle.before.specs.Kinds.{kindOf, Sound, Named, hasTake, takeBefore, hasSerialise, serialiseBefore}
 use Rattle.before.specs.Changes.{withMemory, CubeFor}
 use Rattle.before.proofs.Steps.{named, take-has, take-cube, serialise-has, serialise-kind, serialise-cube, update-has, update-cube}
+use Rattle.summary.specs.Summary.{Summed}
 use Rattle.cover.specs.Search.{Searchable}
 use Rattle.closing.specs.Walk.{byteOf, stepAt, kindAt, kindCount, kindHeld, stepHeld, Stepping, Walkable}
 use Rattle.closing.proofs.WalkLaws.{byte-small, truth, walk-closed}
@@ -142,7 +143,7 @@ short c g p v = at (ltb p 4 && ltb v 4) refl
         rw (queue-of (c .queues) p v x y) (omega (arith, length-take (q .count) (q .values), g (4 * p + v) (omega arith)))
     at false e = rw (queue-none (c .queues) p v e) (omega arith)
 
-module _ (f list : List ℕ) (n : ℕ) (p : Program) (c : Cube) where
+module _ (f list sum : List ℕ) (n : ℕ) (p : Program) (c : Cube) where
   abbrev P : pws.Program
   P = programOf f p
 
@@ -150,14 +151,14 @@ module _ (f list : List ℕ) (n : ℕ) (p : Program) (c : Cube) where
   es = entriesOf f list n
 
   module _ (s : Step) (k : Kind) {b : Bool} (e : Stepping f p c → b ≡ has (programOf f p) (configurationOf c) s (kindOf k)) where
-    pub kind-absent : b ≡ false → Walkable f list n p c → true ≡ kindHeld (programOf f p) (entriesOf f list n) (configurationOf c) s (kindOf k)
+    pub kind-absent : b ≡ false → Walkable f list sum n p c → true ≡ kindHeld (programOf f p) (entriesOf f list n) (configurationOf c) s (kindOf k)
     kind-absent g W =
         sym (ap (λ (b : Bool). cond b (held (shapeOf (p .shape)) (entriesOf f list n) (cube (programOf f p) (configurationOf c) s (kindOf k))) true) (sym (e (W .stepping)) ∙ g))
 
     pub kind-there : b ≡ true → {r : Cube} {h : Bool}
         → (Stepping f p c → has (programOf f p) (configurationOf c) s (kindOf k) ≡ true → CubeFor r (cube (programOf f p) (configurationOf c) s (kindOf k)))
-        → (Searchable f list n (p .shape) r → h ≡ held (shapeOf (p .shape)) (entriesOf f list n) (configurationOf r))
-        → Walkable f list n p c → h ≡ kindHeld (programOf f p) (entriesOf f list n) (configurationOf c) s (kindOf k)
+        → (Searchable f list sum n (p .shape) r → h ≡ held (shapeOf (p .shape)) (entriesOf f list n) (configurationOf r))
+        → Walkable f list sum n p c → h ≡ kindHeld (programOf f p) (entriesOf f list n) (configurationOf c) s (kindOf k)
     kind-there g {r} {h} x y W =
         let i = sym (e (W .stepping)) ∙ g in
         let d = x (W .stepping) i in
@@ -165,6 +166,7 @@ module _ (f list : List ℕ) (n : ℕ) (p : Program) (c : Cube) where
           count = W .count;
           shape = W .stepping .program .shape;
           entries = W .entries;
+          summed = W .summed;
           fits = subst (Fits (ValueOrFF (shapeOf (p .shape))) (shapeOf (p .shape))) (sym (d .configuration))
               (entry-cube (programOf f p) (W .stepping .program) (configurationOf c) (W .own) s (kindOf k) (subst T (sym i) tt) .fits);
           messages = d .count;
@@ -176,12 +178,12 @@ module _ (f list : List ℕ) (n : ℕ) (p : Program) (c : Cube) where
   -- the first i tests passed
   pub record Passed (g : ℕ → Bool) (m i : ℕ) : Type 0 where
     pub most : i ≤ m
-    pub each : Walkable f list n p c → (q : ℕ) → q < i → g q ≡ true
+    pub each : Walkable f list sum n p c → (q : ℕ) → q < i → g q ≡ true
 
   pub passed-begin : (g : ℕ → Bool) (m : ℕ) → Passed g m 0
   passed-begin g m = record { most = omega arith; each = λ W q l. absurd (omega arith) }
 
-  pub passed-next : {g : ℕ → Bool} {m i : ℕ} → Passed g m i → i < m → (Walkable f list n p c → g i ≡ true) → Passed g m (i + 1)
+  pub passed-next : {g : ℕ → Bool} {m i : ℕ} → Passed g m i → i < m → (Walkable f list sum n p c → g i ≡ true) → Passed g m (i + 1)
   passed-next {g} {m} {i} w l e =
       record { most = omega arith; each = λ W q k. elim (ℕ-discrete q i) [ yes d ↦ ap g d ∙ e W | no d ↦ w .each W q (omega arith) ] }
 
@@ -189,14 +191,14 @@ module _ (f list : List ℕ) (n : ℕ) (p : Program) (c : Cube) where
   kindTest s i = kindHeld (programOf f p) (entriesOf f list n) (configurationOf c) s (kindOf (kindAt (c .count) s i))
 
   module _ (s : Step) {m : ℕ} (e : c .count ≤ 20 → m ≡ kindCount (c .count) s) where
-    count-kinds : Walkable f list n p c → m ≡ kindCount (c .count) s
+    count-kinds : Walkable f list sum n p c → m ≡ kindCount (c .count) s
     count-kinds W = e (omega (arith, W .stepping .sound .count))
 
-    pub step-all : {i : ℕ} → Passed (kindTest s) m i → m ≤ i → Walkable f list n p c → true ≡ stepHeld (programOf f p) (entriesOf f list n) c s
+    pub step-all : {i : ℕ} → Passed (kindTest s) m i → m ≤ i → Walkable f list sum n p c → true ≡ stepHeld (programOf f p) (entriesOf f list n) c s
     unfolding stepHeld
     step-all w l W = let x = count-kinds W in sym (all-true (kindCount (c .count) s) (kindTest s) (λ q k. w .each W q (omega arith)))
 
-    pub step-fails : (i : ℕ) → i < m → {h : Bool} → (Walkable f list n p c → h ≡ kindTest s i) → h ≡ false → Walkable f list n p c
+    pub step-fails : (i : ℕ) → i < m → {h : Bool} → (Walkable f list sum n p c → h ≡ kindTest s i) → h ≡ false → Walkable f list sum n p c
         → h ≡ stepHeld (programOf f p) (entriesOf f list n) c s
     unfolding stepHeld
     step-fails i l g d W = let x = count-kinds W in d ∙ sym (all-false (kindCount (c .count) s) (kindTest s) i (omega arith) (sym (g W) ∙ d))
@@ -205,27 +207,27 @@ module _ (f list : List ℕ) (n : ℕ) (p : Program) (c : Cube) where
   stepTest m j = stepHeld (programOf f p) (entriesOf f list n) c (stepAt m j)
 
   module _ (m : ℕ) (e : m ≡ min (p .transitions .count) 256) where
-    steps-count : Walkable f list n p c → m ≡ length (programOf f p .transitions)
+    steps-count : Walkable f list sum n p c → m ≡ length (programOf f p .transitions)
     steps-count W = let x = W .transitions in omega (arith, count-is f p)
 
-    whole-walk : Walkable f list n p c → allBelow (m + 20) (stepTest m) ≡ closed (programOf f p) (entriesOf f list n) (configurationOf c)
+    whole-walk : Walkable f list sum n p c → allBelow (m + 20) (stepTest m) ≡ closed (programOf f p) (entriesOf f list n) (configurationOf c)
     whole-walk W =
         ap (λ (m : ℕ). allBelow (m + 20) (stepTest m)) (steps-count W)
         ∙ walk-closed (programOf f p) (W .stepping .program .shape) c (W .stepping .sound .some) (let x = W .stepping .sound .count in omega arith) (entriesOf f list n)
 
-    pub closed-all : {j : ℕ} → Passed (stepTest m) (m + 20) j → m + 20 ≤ j → Walkable f list n p c → true ≡ closed (programOf f p) (entriesOf f list n) (configurationOf c)
+    pub closed-all : {j : ℕ} → Passed (stepTest m) (m + 20) j → m + 20 ≤ j → Walkable f list sum n p c → true ≡ closed (programOf f p) (entriesOf f list n) (configurationOf c)
     closed-all w l W = sym (all-true (m + 20) (stepTest m) (λ q k. w .each W q (omega arith))) ∙ whole-walk W
 
-    pub closed-fails : (j : ℕ) → j < m + 20 → {h : Bool} → (Walkable f list n p c → h ≡ stepTest m j) → h ≡ false → Walkable f list n p c
+    pub closed-fails : (j : ℕ) → j < m + 20 → {h : Bool} → (Walkable f list sum n p c → h ≡ stepTest m j) → h ≡ false → Walkable f list sum n p c
         → h ≡ closed (programOf f p) (entriesOf f list n) (configurationOf c)
     closed-fails j l g d W = d ∙ sym (all-false (m + 20) (stepTest m) j l (sym (g W) ∙ d)) ∙ whole-walk W
 
 -- ---- an entry of a file that was read can be walked
 
-pub walkable : (f list : List ℕ) (n : ℕ) (p : Program) (c : Cube) → n ≤ 524288 → p .transitions .count ≤ 256 → pws.ProgramInRange (programOf f p)
+pub walkable : (f list sum : List ℕ) (n : ℕ) (p : Program) (c : Cube) → n ≤ 524288 → p .transitions .count ≤ 256 → pws.ProgramInRange (programOf f p)
     → ((k : ℕ) → k < n → Fits (ValueOrFF (shapeOf (p .shape))) (shapeOf (p .shape)) (configurationOf (cubeAt f list k)))
-    → EntryOf (programOf f p) (configurationOf c) → CubeRange c → Walkable f list n p c
-walkable f list n p c l m R o e g =
+    → EntryOf (programOf f p) (configurationOf c) → CubeRange c → Summed f list sum n (p .shape) → Walkable f list sum n p c
+walkable f list sum n p c l m R o e g z =
     record {
       count = l;
       transitions = m;
@@ -248,4 +250,5 @@ walkable f list n p c l m R o e g =
           };
       own = e;
       entries = o;
+      summed = z;
     }

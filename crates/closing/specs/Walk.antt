@@ -21,6 +21,7 @@ use Rattle.contents.specs.Again.{cubeAt, entriesOf}
 use Rattle.before.specs.declared.Kind.{Kind}
 use Rattle.before.specs.declared.Kind.the-variants.{Undone, Waited, Inside, OnTop, Pointed}
 use Rattle.before.specs.Kinds.{Sound, kindOf}
+use Rattle.summary.specs.Summary.{Summed}
 
 -- numbers past a byte do not occur
 unfoldable pub byteOf : ℕ → ℕ
@@ -56,9 +57,10 @@ pub record Stepping (f : List ℕ) (p : Program) (c : Cube) : Type 0 where
   pub sound : Sound (p .shape) c
 
 -- and the entries with it
-pub record Walkable (f list : List ℕ) (n : ℕ) (p : Program) (c : Cube) : Type 0 where
+pub record Walkable (f list sum : List ℕ) (n : ℕ) (p : Program) (c : Cube) : Type 0 where
   pub count : n ≤ 524288
   pub transitions : p .transitions .count ≤ 256
   pub stepping : Stepping f p c
   pub own : EntryOf (programOf f p) (configurationOf c)
   pub entries : (k : ℕ) → k < n → Fits (ValueOrFF (shapeOf (p .shape))) (shapeOf (p .shape)) (configurationOf (cubeAt f list k))
+  pub summed : Summed f list sum n (p .shape)

@@ -25,7 +25,6 @@ use before::has_take;
 use before::has_update;
 use contents::entry_at;
 use contents::transition_of;
-use cover::search::Found;
 use cover::search::search;
 use matching::least;
 use pws::Step;
@@ -216,89 +215,55 @@ fn cube_before(file: &[u8], program: Program, cube: Cube, step: Step, kind: Kind
 fn kind_held(
     file: &[u8],
     list: &[u8],
+    sum: &[u8],
     n: usize,
     program: Program,
     cube: Cube,
     step: Step,
     kind: Kind,
-    near: usize,
-) -> Found
-    ensures { λ r. ⌜ (Walkable (now (file .entry)) (now (list .entry)) n program cube → r .held ≡ kindHeld (programOf (now (file .entry)) program) (entriesOf (now (file .entry)) (now (list .entry)) n) (configurationOf cube) step (kindOf kind)) ⌝ }
+) -> bool
+    ensures { λ r. ⌜ (Walkable (now (file .entry)) (now (list .entry)) (now (sum .entry)) n program cube → r ≡ kindHeld (programOf (now (file .entry)) program) (entriesOf (now (file .entry)) (now (list .entry)) n) (configurationOf cube) step (kindOf kind)) ⌝ }
 {
     if !has_before(file, program, cube, step, kind) {
-        return Found {
-            held: true,
-            near: near,
-        };
+        return true;
     }
     let before = cube_before(file, program, cube, step, kind);
     let shape = program.shape;
-    search(file, list, n, shape, before, near)
-}
-
-// Whether an entry is closed, and for steps and kinds the entries found last: the next entry's are mostly near them.
-pub struct Closed {
-    pub held: bool,
-    pub near: [usize; 256],
-}
-
-// The place of a step and a kind among them. Several may share one.
-fn near_place(j: usize, i: usize) -> usize
-    requires { ⌜ (j < 276) × (i < 276) ⌝ }
-    ensures { λ r. ⌜ r < 256 ⌝ }
-{
-    (18 * j + i) % 256
+    search(file, list, sum, n, shape, before)
 }
 
 // All cubes before an entry, by step and kind.
-fn cube_closed(
-    file: &[u8],
-    list: &[u8],
-    n: usize,
-    program: Program,
-    cube: Cube,
-    near: [usize; 256],
-) -> Closed
-    ensures { λ r. ⌜ (Walkable (now (file .entry)) (now (list .entry)) n program cube → r .held ≡ closed (programOf (now (file .entry)) program) (entriesOf (now (file .entry)) (now (list .entry)) n) (configurationOf cube)) ⌝ }
+fn cube_closed(file: &[u8], list: &[u8], sum: &[u8], n: usize, program: Program, cube: Cube) -> bool
+    ensures { λ r. ⌜ (Walkable (now (file .entry)) (now (list .entry)) (now (sum .entry)) n program cube → r ≡ closed (programOf (now (file .entry)) program) (entriesOf (now (file .entry)) (now (list .entry)) n) (configurationOf cube)) ⌝ }
 {
     let row = program.transitions;
     let transitions = least(row.count, 256);
     let m = transitions + 20;
     let count = cube.count;
-    let mut last = near;
     for j in 0..m {
         let step = step_at(transitions, j);
         let kinds = kind_count(count, step);
         for i in 0..kinds {
             let kind = kind_at(count, step, i);
-            let at = near_place(j, i);
-            let found = kind_held(file, list, n, program, cube, step, kind, last[at]);
-            last[at] = found.near;
-            if !found.held {
-                return Closed {
-                    held: false,
-                    near: last,
-                };
+            if !kind_held(file, list, sum, n, program, cube, step, kind) {
+                return false;
             }
         }
     }
-    Closed {
-        held: true,
-        near: last,
-    }
+    true
 }
 
-// Is every configuration one step before those above entry k above the list?
+// Is every configuration one step before those above entry k above the list? `sum` is the list's summary.
 pub fn entry_closed(
     file: &[u8],
     list: &[u8],
+    sum: &[u8],
     n: usize,
     program: Program,
     k: usize,
-    near: [usize; 256],
-) -> Closed
-    ensures { λ r. ⌜ (Walkable (now (file .entry)) (now (list .entry)) n program (cubeAt (now (file .entry)) (now (list .entry)) k) → r .held ≡ closed (programOf (now (file .entry)) program) (entriesOf (now (file .entry)) (now (list .entry)) n) (configurationOf (cubeAt (now (file .entry)) (now (list .entry)) k))) ⌝ }
+) -> bool
+    ensures { λ r. ⌜ (Walkable (now (file .entry)) (now (list .entry)) (now (sum .entry)) n program (cubeAt (now (file .entry)) (now (list .entry)) k) → r ≡ closed (programOf (now (file .entry)) program) (entriesOf (now (file .entry)) (now (list .entry)) n) (configurationOf (cubeAt (now (file .entry)) (now (list .entry)) k))) ⌝ }
 {
     let cube = entry_at(file, list, k);
-    cube_closed(file, list, n, program, cube, near)
+    cube_closed(file, list, sum, n, program, cube)
 }

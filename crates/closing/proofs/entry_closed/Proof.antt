@@ -11,9 +11,9 @@ use Rattle.closing.proofs.entry_closed.Tie as tie
 
 pub entry-closed-spec : {M : Type 1} → statement M
 entry-closed-spec = tie.close (tie.spec
-    -- entry-at-requires 288:9
+    -- entry-at-requires
     (λ c κs. search needs)
-    -- cube-closed-requires 289:5
+    -- cube-closed-requires
     (λ c κs. search needs)
-    -- returns 285:1
-    (λ c. subst (λ (k : Cube). Walkable (c .before .before .before .before .args .file .now) (c .before .before .before .before .args .list .now) (c .before .before .before .before .args .n) (c .before .before .before .before .args .program) k → c .cube-closed .result .held ≡ closed (programOf (c .before .before .before .before .args .file .now) (c .before .before .before .before .args .program)) (entriesOf (c .before .before .before .before .args .file .now) (c .before .before .before .before .args .list .now) (c .before .before .before .before .args .n)) (configurationOf k)) (c .before .entry-at .ensures) (c .cube-closed .ensures)))
+    -- returns
+    (λ c. subst (λ (k : Cube). Walkable (c .before .before .before .before .before .args .file .now) (c .before .before .before .before .before .args .list .now) (c .before .before .before .before .before .args .sum .now) (c .before .before .before .before .before .args .n) (c .before .before .before .before .before .args .program) k → c .cube-closed .result ≡ closed (programOf (c .before .before .before .before .before .args .file .now) (c .before .before .before .before .before .args .program)) (entriesOf (c .before .before .before .before .before .args .file .now) (c .before .before .before .before .before .args .list .now) (c .before .before .before .before .before .args .n)) (configurationOf k)) (c .before .entry-at .ensures) (c .cube-closed .ensures)))
