@@ -104,21 +104,20 @@ module _ (f list sum : List ℕ) (n : ℕ) (p : Program) (c : Cube) (W : Walkabl
   pub write-none : endsAlike (newestWaiting (configurationOf c .queue q v)) y ≡ false → true ≡ stepHeld (programOf f p) (entriesOf f list n) (configurationOf c) (Take j)
   write-none z = take-true f list sum n p c W j q x (Write v y) A (λ k i. absurd (not-both (and-true (writeKind k) ends i .1) z))
 
-  pub write-all : held (shapeOf (p .shape)) (entriesOf f list n) (takeBefore (configurationOf c) q x (Write v y) undone) ≡ true
-      → endsAlike (newestWaiting (configurationOf c .queue q v)) y ≡ true → {h : Bool} → h ≡ held (shapeOf (p .shape)) (entriesOf f list n) (takeBefore (configurationOf c) q x (Write v y) waited)
-      → h ≡ stepHeld (programOf f p) (entriesOf f list n) (configurationOf c) (Take j)
-  write-all g z {h} a =
-      decided h (stepHeld (programOf f p) (entriesOf f list n) (configurationOf c) (Take j))
-      (λ t. sym (take-true f list sum n p c W j q x (Write v y) A (λ k i. at (sym a ∙ t) k (and-true (writeKind k) ends i .0))))
-      (λ t. sym (take-false f list sum n p c W j q x (Write v y) A waited z (sym a ∙ t)))
+  pub write-both : endsAlike (newestWaiting (configurationOf c .queue q v)) y ≡ true → (u w : Bool)
+      → u ≡ held (shapeOf (p .shape)) (entriesOf f list n) (takeBefore (configurationOf c) q x (Write v y) undone)
+      → w ≡ held (shapeOf (p .shape)) (entriesOf f list n) (takeBefore (configurationOf c) q x (Write v y) waited)
+      → u && w ≡ stepHeld (programOf f p) (entriesOf f list n) (configurationOf c) (Take j)
+  write-both z false w a b = take-false f list sum n p c W j q x (Write v y) A undone z (sym a)
+  write-both z true false a b = take-false f list sum n p c W j q x (Write v y) A waited z (sym b)
+  write-both z true true a b = take-true f list sum n p c W j q x (Write v y) A (λ k i. at k (and-true (writeKind k) ends i .0))
     where
-      at : held (shapeOf (p .shape)) (entriesOf f list n) (takeBefore (configurationOf c) q x (Write v y) waited) ≡ true → (k : lists.Kind) → writeKind k ≡ true
-          → held (shapeOf (p .shape)) (entriesOf f list n) (takeBefore (configurationOf c) q x (Write v y) k) ≡ true
-      at t undone e = g
-      at t waited e = t
-      at t (inside k) e = absurd (not-both e refl)
-      at t (onTop u) e = absurd (not-both e refl)
-      at t (pointed r u) e = absurd (not-both e refl)
+      at : (k : lists.Kind) → writeKind k ≡ true → held (shapeOf (p .shape)) (entriesOf f list n) (takeBefore (configurationOf c) q x (Write v y) k) ≡ true
+      at undone e = sym a
+      at waited e = sym b
+      at (inside k) e = absurd (not-both e refl)
+      at (onTop u) e = absurd (not-both e refl)
+      at (pointed r u) e = absurd (not-both e refl)
 
 -- ---- arw
 

@@ -135,17 +135,16 @@ fn write_held(
     if !may_write(cube, p, v, x) {
         return true;
     }
-    if !search(file, list, sum, n, shape, before_write(cube, p, from, v)) {
-        return false;
-    }
-    search(
+    let undone = search(file, list, sum, n, shape, before_write(cube, p, from, v));
+    let waited = search(
         file,
         list,
         sum,
         n,
         shape,
         before_write_waited(cube, p, from, v),
-    )
+    );
+    both(undone, waited)
 }
 
 // Before an arw, with nothing beside: if there is such a cube, it is held.
