@@ -1,7 +1,5 @@
+pub mod WriteLaws
 pub mod MessageLaws
 pub mod QueueLaws
-pub mod ChangeLaws
-pub mod ReadLaws
 pub mod NewestLaws
-pub mod SerialiseLaws
-pub mod Steps
+pub mod CubeLaws

@@ -1,6 +1,6 @@
 -- Messages of a cube: LastWrite, and a message inserted.
-use Prim.Native.Nat.{ℕ, zero, suc, _+_, _<_, _≤_}
-use mathlib.Core.Path.{_≡_, refl, sym, ap, ap₂, _∙_}
+use Prim.Native.Nat.{ℕ, zero, suc, _+_, _<_, _≤_, min}
+use mathlib.Core.Path.{_≡_, refl, sym, ap, ap₂, subst, _∙_}
 use mathlib.Core.Bool.{Bool, true, false, cond}
 use mathlib.Core.List.{List, [], _∷_}
 use native.Mathlib.Omega.{arith}
@@ -11,15 +11,15 @@ use lib.Seq.{getD-set-same, getD-set-other}
 use lib.Dec.{eqb}
 use borrow.Author.Tests.{le-leb, lt-leb, eq-eqb, ne-eqb}
 use Rattle.pws.specs.declared.Message.{Message}
-use Rattle.pws.specs.Machine.{noMessage, labelled, lastLabelled}
+use Rattle.pws.specs.Machine.{noMessage, labelled, lastLabelled, lastWrite}
 use Rattle.pws.specs.Insertion.{insert}
-use Rattle.lists.specs.Cubes.{withValues, setValue}
+use Rattle.lists.specs.Cubes.{memoryOf, withValues, setValue}
 use Rattle.records.specs.declared.program.Shape.{Shape}
 use Rattle.reading.specs.declared.entry.Cube.{Cube}
-use Rattle.reading.specs.Cube.{channelOf}
+use Rattle.reading.specs.Cube.{channelOf, configurationOf}
 use Rattle.reading.proofs.CubeParts.{channel-length, channel-equal}
-use Rattle.before.specs.Kinds.{Sound}
-use Rattle.before.specs.Changes.{LastWrite}
+use Rattle.before.specs.Before.{Sound, LastWrites, byNumber}
+use Rattle.before.proofs.WriteLaws.{last-most}
 
 pub last-next : (ms : List Message) (p v i : ℕ) → lastLabelled (channelOf ms (i + 1)) p v ≡ cond (labelled (getD ms i noMessage) p v) (i + 1) (lastLabelled (channelOf ms i) p v)
 last-next ms p v i = simp unary-clauses (ap (λ (k : ℕ). cond (labelled (getD ms i noMessage) p v) (suc k) (lastLabelled (channelOf ms i) p v)) (channel-length ms i))
@@ -92,18 +92,16 @@ set-value ms i v x (suc n) e l k = elim (ℕ-discrete i n) [
         ≡ cond b (withValues (getD ms n noMessage) (set (getD ms n noMessage .snapshot) v x) ∷ channelOf ms n) (getD ms n noMessage ∷ setValue (channelOf ms n) (suc i) v x)
     split b f = ap (λ (b : Bool). cond b (withValues (getD ms n noMessage) (set (getD ms n noMessage .snapshot) v x) ∷ channelOf ms n) (getD ms n noMessage ∷ setValue (channelOf ms n) (suc i) v x)) f
 
-last-most : (ms : List Message) (p v : ℕ) → lastLabelled ms p v ≤ length ms
-last-most [] p v = omega arith
-last-most (m ∷ ms) p v = at (last-most ms p v) (labelled m p v)
-  where
-    at : lastLabelled ms p v ≤ length ms → (b : Bool) → cond b (suc (length ms)) (lastLabelled ms p v) ≤ suc (length ms)
-    at w true = omega arith
-    at w false = omega arith
+-- ---- LastWrite of an entry
 
-pub write-some : {s : Shape} {c : Cube} → Sound s c → (p v : ℕ) → p < s .processes → LastWrite c p v
-write-some {s} {c} w p v l =
-    record {
-      count = omega (arith, w .count);
-      some = omega (arith, w .pointer p l);
-      most = omega (arith, last-most (channelOf (c .messages) (c .count)) p v, channel-length (c .messages) (c .count), w .pointers p (omega (arith, w .processes)));
-    }
+module _ {s : Shape} {c : Cube} (w : Sound s c) where
+  pub write-some : (p v : ℕ) → p < s .processes → (1 ≤ lastWrite (configurationOf c .memory) p v) × (lastWrite (configurationOf c .memory) p v ≤ c .count)
+  write-some p v l = (
+    omega (arith, w .pointer p l),
+    omega (arith, last-most (channelOf (c .messages) (c .count)) p v, channel-length (c .messages) (c .count), w .pointers p (omega (arith, w .processes))),
+  )
+
+  pub all-messages : (ws : List ℕ) → LastWrites ws (memoryOf (channelOf (c .messages) (min (c .count) 20)) (byNumber (c .pointers))) → LastWrites ws (configurationOf c .memory)
+  all-messages ws g =
+      let e : min (c .count) 20 ≡ c .count = omega (arith, w .count) in
+      subst (λ (n : ℕ). LastWrites ws (memoryOf (channelOf (c .messages) n) (byNumber (c .pointers)))) e g

@@ -1,6 +1,7 @@
 -- The newest message of a cube, taken away or replaced.
 use Prim.Native.Nat.{ℕ, zero, suc, _-_, _<_, _≤_}
 use mathlib.Core.Path.{_≡_, refl, sym, ap, ap₂, _∙_}
+use mathlib.Core.Bool.{true}
 use mathlib.Core.List.{List, [], _∷_}
 use native.Mathlib.Omega.{arith}
 use native.Mathlib.Numerals.{unary-clauses}
@@ -9,14 +10,11 @@ use lib.Seq.{getD-set-same, getD-set-other}
 use Rattle.pws.specs.declared.Message.{Message}
 use Rattle.pws.specs.Machine.{noMessage}
 use Rattle.lists.specs.Values.{meet, meetAll}
-use Rattle.lists.specs.Cubes.{messageOf, withValues, topmost, older, meetNewest}
-use Rattle.lists.specs.Predecessors.{joined, replaced}
-use Rattle.reading.specs.declared.entry.Cube.{Cube}
-use Rattle.reading.specs.Cube.{channelOf, configurationOf}
+use Rattle.lists.specs.Cubes.{withValues, topmost, older, alikeNewest, meetNewest}
+use Rattle.reading.specs.Cube.{channelOf}
 use Rattle.reading.proofs.CubeParts.{channel-length, channel-equal}
-use Rattle.matching.proofs.RoleLaws.{four-list}
-use Rattle.before.specs.Changes.{withMemory, withMessages, Changed}
-use Rattle.before.proofs.ChangeLaws.{changed-memory}
+use Rattle.before.proofs.WriteLaws.{four-list}
+use Rattle.before.proofs.QueueLaws.{no-both}
 
 pub newest-channel : (ms : List Message) (n : ℕ) → 1 ≤ n → getD ms (n - 1) noMessage ≡ topmost (channelOf ms n)
 newest-channel ms zero l = absurd (omega arith)
@@ -44,32 +42,22 @@ met-four xs ys a b c d m n e f g h =
     four-equal a b c d (meet (getD xs 0 0) (getD ys 0 0)) (meet (getD xs 1 0) (getD ys 1 0)) (meet (getD xs 2 0) (getD ys 2 0)) (meet (getD xs 3 0) (getD ys 3 0)) e f g h
     ∙ ap₂ meetAll (four-list xs m) (four-list ys n)
 
--- ---- memory without the newest message
+-- ---- messages without the newest one, or with another
 
-module _ (c : Cube) (xs : List ℕ) where
-  abbrev newest : ℕ → Message
-  newest k = withValues (getD (c .messages) k noMessage) (meetAll (getD (c .messages) k noMessage .snapshot) xs)
+pub met-channel : (ms : List Message) (xs : List ℕ) (k n : ℕ) (μ : Message) → n ≡ suc (suc k) → n ≤ 20 → length ms ≡ 20
+    → μ ≡ withValues (getD ms k noMessage) (meetAll (getD ms k noMessage .snapshot) xs) → channelOf (set ms k μ) (n - 1) ≡ meetNewest (older (channelOf ms n)) xs
+met-channel ms xs k n μ e l r f =
+    let z : n - 1 ≡ suc k = omega arith in
+    ap (channelOf (set ms k μ)) z ∙ channel-top ms k μ (omega arith) ∙ ap (λ (m : Message). m ∷ channelOf ms k) f
+    ∙ ap (λ (n : ℕ). meetNewest (channelOf ms n) xs) (sym z) ∙ sym (ap (λ (ms : List Message). meetNewest ms xs) (older-channel ms n))
 
-  pub joined-none : c .count < 2 → Changed (withMessages c (c .messages) 0) (withMemory (configurationOf c) (joined (configurationOf c .memory) xs)) (c .count - 1) (c .queues)
-  joined-none l =
-      let z : 0 ≡ c .count - 1 = omega arith in
-      let w = changed-memory c (c .pointers) (c .messages) 0 (joined (configurationOf c .memory) xs)
-      (ap (λ (n : ℕ). meetNewest (channelOf (c .messages) n) xs) z ∙ sym (ap (λ (ms : List Message). meetNewest ms xs) (older-channel (c .messages) (c .count)))) refl in
-      record { configuration = w .configuration; count = z; queues = refl }
+pub newest-put : (ms : List Message) (k n : ℕ) (μ : Message) → n ≡ suc k → n ≤ 20 → length ms ≡ 20 → channelOf (set ms k μ) n ≡ μ ∷ older (channelOf ms n)
+newest-put ms k n μ e l r =
+    let z : k ≡ n - 1 = omega arith in
+    ap (channelOf (set ms k μ)) e ∙ channel-top ms k μ (omega arith) ∙ ap (λ (n : ℕ). μ ∷ channelOf ms n) z ∙ sym (ap (λ (ns : List Message). μ ∷ ns) (older-channel ms n))
 
-  pub joined-some : (k : ℕ) → c .count ≡ suc (suc k) → k < 20 → length (c .messages) ≡ 20
-      → Changed (withMessages c (set (c .messages) k (newest k)) (suc k)) (withMemory (configurationOf c) (joined (configurationOf c .memory) xs)) (c .count - 1) (c .queues)
-  joined-some k e l r =
-      let z : suc k ≡ c .count - 1 = omega arith in
-      let w = changed-memory c (c .pointers) (set (c .messages) k (newest k)) (suc k) (joined (configurationOf c .memory) xs)
-      (channel-top (c .messages) k (newest k) (omega arith) ∙ ap (λ (n : ℕ). meetNewest (channelOf (c .messages) n) xs) z
-      ∙ sym (ap (λ (ms : List Message). meetNewest ms xs) (older-channel (c .messages) (c .count)))) refl in
-      record { configuration = w .configuration; count = z; queues = refl }
-
-  pub replaced-some : (p v k : ℕ) → c .count ≡ suc k → k < 20 → length (c .messages) ≡ 20
-      → Changed (withMessages c (set (c .messages) k (messageOf p v xs)) (c .count)) (withMemory (configurationOf c) (replaced (configurationOf c .memory) p v xs)) (c .count) (c .queues)
-  replaced-some p v k e l r =
-      let z : k ≡ c .count - 1 = omega arith in
-      changed-memory c (c .pointers) (set (c .messages) k (messageOf p v xs)) (c .count) (replaced (configurationOf c .memory) p v xs)
-      (ap (channelOf (set (c .messages) k (messageOf p v xs))) e ∙ channel-top (c .messages) k (messageOf p v xs) (omega arith)
-      ∙ ap (λ (n : ℕ). messageOf p v xs ∷ channelOf (c .messages) n) z ∙ sym (ap (λ (ms : List Message). messageOf p v xs ∷ ms) (older-channel (c .messages) (c .count)))) refl
+-- there is one before the newest
+pub older-some : (ms : List Message) (n : ℕ) (xs : List ℕ) → alikeNewest (older (channelOf ms n)) xs ≡ true → 2 ≤ n
+older-some ms zero xs e = absurd (no-both (sym e))
+older-some ms (suc zero) xs e = absurd (no-both (sym e))
+older-some ms (suc (suc n)) xs e = omega arith

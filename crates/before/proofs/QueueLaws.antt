@@ -1,23 +1,25 @@
 -- Waiting values of a cube: the newest, and those before a write.
-use Prim.Native.Nat.{ℕ, zero, suc, _+_, _-_, _<_, _≤_}
+use Prim.Native.Nat.{ℕ, zero, suc, _+_, _-_, _<_, _≤_, min}
 use mathlib.Core.Path.{_≡_, refl, sym, ap, ap₂, subst, _∙_}
 use mathlib.Core.Logic.{_≢_}
 use mathlib.Core.Bool.{true, false, _&&_}
 use mathlib.Core.List.{List, [], _∷_, map}
 use native.Mathlib.Omega.{arith}
-use native.Mathlib.Decide.{ℕ-discrete}
+use native.Mathlib.Decide.{decLt, ℕ-discrete}
 use lib.ListN.{length, getD, set, take, length-map}
 use lib.Seq.{getD-set-same, getD-set-other, take-take}
 use lib.Dec.{T, eqb, ltb}
-use borrow.Author.Tests.{ne-eqb, lt-ltb}
+use borrow.Author.Tests.{ne-eqb, lt-ltb, le-ltb}
 use Rattle.pws.specs.Machine.{isEmpty, newestWaiting, newestOr}
 use Rattle.lists.specs.Values.{alike}
 use Rattle.lists.specs.Cubes.{withoutLast, withLast}
 use Rattle.lists.specs.Predecessors.{endsAlike}
 use Rattle.reading.specs.declared.entry.Queue.{Queue}
-use Rattle.reading.specs.Cube.{noQueue, waitingOf}
+use Rattle.reading.specs.Cube.{noQueue, waitingOf, queueOf}
+use Rattle.reading.proofs.CubeParts.{queue-none}
+use Rattle.matching.proofs.Below.{and-false}
 use Rattle.matching.proofs.ValueLaws.{newest-at}
-use Rattle.before.specs.Changes.{Waits}
+use Rattle.before.specs.Before.{Waits}
 
 -- an array of structs in a struct has its length
 pub length-mapped : (X Y : Type 0) (f : X → Y) (l : List X) (n : ℕ) → length (map f l) ≡ n → length l ≡ n
@@ -123,4 +125,11 @@ pub put-sizes : (qs : List Queue) (at : ℕ) (q : Queue) → length qs ≡ 16 �
 put-sizes qs at q e f l i k = elim (ℕ-discrete i at) [
   | yes d ↦ subst (λ (r : Queue). r .count ≤ 9) (sym (ap (λ (j : ℕ). getD (set qs at q) j noQueue) d ∙ getD-set-same qs at q noQueue (omega arith))) l
   | no d ↦ subst (λ (r : Queue). r .count ≤ 9) (sym (getD-set-other qs at i q noQueue d)) (f i k)
+]
+
+-- past the variables of a cube nothing waits
+pub past-empty : (qs : List Queue) (p : ℕ) {n : ℕ} → ((v : ℕ) → v < min n 4 → isEmpty (queueOf qs p v) ≡ true) → (v : ℕ) → v < n → isEmpty (queueOf qs p v) ≡ true
+past-empty qs p {n} g v l = elim (decLt v 4) [
+  | yes d ↦ g v (omega arith)
+  | no d ↦ ap isEmpty (queue-none qs p v (rw (le-ltb v 4 (omega arith)) (and-false (ltb p 4))))
 ]

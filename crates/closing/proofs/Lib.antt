@@ -1,2 +1,5 @@
-pub mod WalkLaws
 pub mod StepLaws
+pub mod WalkLaws
+pub mod TakeLaws
+pub mod SerialiseLaws
+pub mod UpdateLaws

@@ -1,64 +1,78 @@
--- The walk over the predecessors of an entry, by numbers: steps in the order of `steps`, and for each the kinds that may be there.
+-- The walk over the predecessors of an entry, in the order of `steps`.
 use Prim.Native.Nat.{ℕ, _+_, _-_, _/_, _%_, _<_, _≤_}
-use mathlib.Core.Bool.{Bool, true, cond}
+use mathlib.Core.Path.{_≡_}
+use mathlib.Core.Bool.{Bool, true, false, cond}
 use mathlib.Core.List.{List}
 use lib.ListN.{length}
-use lib.Dec.{eqb, ltb}
+use lib.Dec.{ltb}
+use Rattle.pws.specs.declared.Operation.{Operation}
 use Rattle.pws.specs.declared.Step.{Step}
 use Rattle.pws.specs.declared.Step.the-variants.{Take, Serialise, Update}
 use Rattle.pws.specs.Program as pws
-use Rattle.pws.specs.Machine.{Configuration, allBelow}
+use Rattle.pws.specs.Program.{transition}
+use Rattle.pws.specs.Machine.{Configuration}
 use Rattle.pws.specs.Configurations.{Fits}
 use Rattle.pws.specs.Entries.{ValueOrFF, EntryOf}
-use Rattle.lists.specs.Predecessors as lists
-use Rattle.lists.specs.Predecessors.{has, cube}
+use Rattle.lists.specs.Lists.{every}
+use Rattle.lists.specs.Predecessors.{predecessors, serialised}
 use Rattle.lists.specs.Decision.{held}
 use Rattle.records.specs.declared.program.Program.{Program}
 use Rattle.reading.specs.declared.entry.Cube.{Cube}
 use Rattle.records.specs.ProgramPart.{shapeOf, programOf}
 use Rattle.reading.specs.Cube.{configurationOf}
 use Rattle.contents.specs.Again.{cubeAt, entriesOf}
-use Rattle.before.specs.declared.Kind.{Kind}
-use Rattle.before.specs.declared.Kind.the-variants.{Undone, Waited, Inside, OnTop, Pointed}
-use Rattle.before.specs.Kinds.{Sound, kindOf}
+use Rattle.summary.specs.Summary.{Summed}
+use Rattle.before.specs.Before.{Sound}
 
--- numbers past a byte do not occur
-unfoldable pub byteOf : ℕ → ℕ
-byteOf x = cond (ltb 255 x) 0 x
+-- every predecessor cube of e for the step s is held: `closed` asks it of each step
+unfoldable pub stepHeld : pws.Program → List Configuration → Configuration → Step → Bool
+stepHeld P es e s = every (held (P .shape) es) (predecessors P e s)
 
--- step j: a transition, then a serialise, then an update; those that the shape does not have have no cubes
+-- ---- steps by number
+
+-- Step j: a transition, then a serialise by process and variable, then an update. Those that the shape does not have have no cubes, and the
+-- others stand in the order of `steps`.
 unfoldable pub stepAt : ℕ → ℕ → Step
 stepAt transitions j =
     cond (ltb j transitions) (Take j)
     (cond (ltb (j - transitions) 16) (Serialise ((j - transitions) / 4) ((j - transitions) % 4)) (Update (j - transitions - 16)))
 
--- kind i before a step, for an entry with so many messages
-unfoldable pub kindAt : ℕ → Step → ℕ → Kind
-kindAt count (Take n) i = cond (eqb i 0) Undone (cond (eqb i 1) Waited (OnTop (byteOf (i - 2))))
-kindAt count (Serialise p v) i = cond (eqb i 0) Undone (cond (ltb i count) (Inside (byteOf i)) (OnTop (byteOf v)))
-kindAt count (Update p) i = cond (eqb i 0) Undone (Pointed (byteOf ((i - 1) / 4)) (byteOf ((i - 1) % 4)))
+-- r is the lowest number below n that fails the test, or n if none does
+pub record LowestFailing (g : ℕ → Bool) (n r : ℕ) : Type 0 where
+  pub most : r ≤ n
+  pub each : (j : ℕ) → j < r → g j ≡ true
+  pub fails : r < n → g r ≡ false
 
-abbrev pub kindCount : ℕ → Step → ℕ
-kindCount count (Take n) = 6
-kindCount count (Serialise p v) = count + 1
-kindCount count (Update p) = 17
-
--- if there is a cube of this kind, it is held
-abbrev pub kindHeld : pws.Program → List Configuration → Configuration → Step → lists.Kind → Bool
-kindHeld P es e s k = cond (has P e s k) (held (P .shape) es (cube P e s k)) true
-
-unfoldable pub stepHeld : pws.Program → List Configuration → Cube → Step → Bool
-stepHeld P es c s = allBelow (kindCount (c .count) s) (λ i. kindHeld P es (configurationOf c) s (kindOf (kindAt (c .count) s i)))
+-- ---- what the walk goes over
 
 -- an entry of a file that was read
 pub record Stepping (f : List ℕ) (p : Program) (c : Cube) : Type 0 where
   pub program : pws.ProgramInRange (programOf f p)
   pub sound : Sound (p .shape) c
 
--- and the entries with it
-pub record Walkable (f list : List ℕ) (n : ℕ) (p : Program) (c : Cube) : Type 0 where
+-- And the entries with it. It is the one condition of this crate's contracts; on other bytes its functions end, and nothing is said of
+-- what they give.
+pub record Walkable (f list sum : List ℕ) (n : ℕ) (p : Program) (c : Cube) : Type 0 where
   pub count : n ≤ 524288
   pub transitions : p .transitions .count ≤ 256
   pub stepping : Stepping f p c
   pub own : EntryOf (programOf f p) (configurationOf c)
   pub entries : (k : ℕ) → k < n → Fits (ValueOrFF (shapeOf (p .shape))) (shapeOf (p .shape)) (configurationOf (cubeAt f list k))
+  pub summed : Summed f list sum n (p .shape)
+
+-- transition j is one of p from x, with the operation o, to the state that p has in e
+pub record Acting (P : pws.Program) (e : Configuration) (j p x : ℕ) (o : Operation) : Type 0 where
+  pub exists : j < length (P .transitions)
+  pub is : transition P j ≡ record { process = p; from = x; operation = o; to = e .state p }
+
+-- r says whether all predecessor cubes for such a transition are held
+abbrev pub TakenHeld : List ℕ → List ℕ → List ℕ → ℕ → Program → Cube → ℕ → ℕ → Operation → Bool → Type 0
+TakenHeld f list sum n p c q x o r =
+    Walkable f list sum n p c → (j : ℕ) → Acting (programOf f p) (configurationOf c) j q x o → r ≡ stepHeld (programOf f p) (entriesOf f list n) (configurationOf c) (Take j)
+
+-- the newest message is one that a serialise of p and v made
+pub record Serialising (f list sum : List ℕ) (n : ℕ) (s : Program) (c : Cube) (p v : ℕ) : Type 0 where
+  pub walkable : Walkable f list sum n s c
+  pub process : p < s .shape .processes
+  pub variable : v < s .shape .variables
+  pub made : serialised (shapeOf (s .shape)) (configurationOf c .memory) p v ≡ true

@@ -1,304 +1,138 @@
 // Is every configuration one step before those above an entry above the list (number 11)? The predecessor cubes of the entry are made one
-// after another, and each is searched for (theory, section 5, T7 and T8).
+// after another, and each is searched for (theory, section 5, T7 and T8). Steps that have none are passed over before a cube is made.
 ghost use mathlib.Core.Path.{_≡_};
-ghost use mathlib.Core.Bool.{Bool, true, false, _&&_};
-ghost use Prim.Native.Nat.{ℕ, _+_, _*_, _-_, _≤_, _<_, min};
-ghost use lib.ListN.{length, getD};
-ghost use Rattle.pws.specs.Program as pws;
-ghost use Rattle.pws.specs.Machine.{allBelow};
+ghost use Prim.Native.Nat.{ℕ, _+_, _*_, _-_, _/_, _%_, _≤_, _<_, min};
 ghost use Rattle.pws.specs.declared.Step.the-variants.{Take, Serialise, Update};
-ghost use Rattle.lists.specs.Predecessors as lists;
-ghost use Rattle.lists.specs.Predecessors.{has};
-ghost use Rattle.lists.specs.Decision.{held, closed};
-ghost use Rattle.records.specs.ProgramPart.{shapeOf, programOf};
+ghost use Rattle.lists.specs.Decision.{closed};
+ghost use Rattle.records.specs.ProgramPart.{programOf};
 ghost use Rattle.reading.specs.Cube.{configurationOf};
 ghost use Rattle.contents.specs.Again.{cubeAt, entriesOf};
-ghost use Rattle.before.specs.Changes.{CubeFor};
-ghost use Rattle.before.specs.Kinds.{Sound, kindOf};
-ghost use Rattle.closing.specs.Walk.{byteOf, stepAt, kindAt, kindCount, kindHeld, Stepping, Walkable};
-use before::Kind;
-use before::before_serialise;
-use before::before_take;
-use before::before_update;
-use before::has_serialise;
-use before::has_take;
-use before::has_update;
+ghost use Rattle.before.specs.Before.{LastWrites};
+ghost use Rattle.closing.specs.Walk.{stepHeld, stepAt, LowestFailing, Walkable};
+use crate::serialise::serialised_held;
+use crate::take::taken_held;
+use crate::update::updated_held;
+use before::messages::last_writes;
+use before::newest::newest;
 use contents::entry_at;
-use contents::transition_of;
-use cover::search::Found;
-use cover::search::search;
 use matching::least;
-use pws::Step;
 use reading::entry::Cube;
-use records::bytes::both;
+use records::bytes::wide;
 use records::program::Program;
-use records::program::Shape;
 
-// ---- steps and kinds by number
+mod serialise;
+mod take;
+mod update;
 
-pub fn byte_of(x: usize) -> u8
-    ensures { λ r. ⌜ r ≡ byteOf x ⌝ }
-{
-    if 255 < x {
-        return 0;
-    }
-    x as u8
-}
-
-pub fn step_at(transitions: usize, j: usize) -> Step
-    ensures { λ r. ⌜ r ≡ stepAt transitions j ⌝ }
-{
-    if j < transitions {
-        return Step::Take { transition: j };
-    }
-    let i = j - transitions;
-    if i < 16 {
-        return Step::Serialise {
-            process: i / 4,
-            variable: i % 4,
-        };
-    }
-    Step::Update { process: i - 16 }
-}
-
-fn taken_kind(i: usize) -> Kind
-    ensures { λ r. ⌜ r ≡ kindAt 0 (Take 0) i ⌝ }
-{
-    if i == 0 {
-        return Kind::Undone;
-    }
-    if i == 1 {
-        return Kind::Waited;
-    }
-    Kind::OnTop(byte_of(i - 2))
-}
-
-fn serialised_kind(count: usize, variable: usize, i: usize) -> Kind
-    ensures { λ r. ⌜ r ≡ kindAt count (Serialise 0 variable) i ⌝ }
-{
-    if i == 0 {
-        return Kind::Undone;
-    }
-    if i < count {
-        return Kind::Inside(byte_of(i));
-    }
-    Kind::OnTop(byte_of(variable))
-}
-
-fn updated_kind(i: usize) -> Kind
-    ensures { λ r. ⌜ r ≡ kindAt 0 (Update 0) i ⌝ }
-{
-    if i == 0 {
-        return Kind::Undone;
-    }
-    let k = i - 1;
-    Kind::Pointed(byte_of(k / 4), byte_of(k % 4))
-}
-
-pub fn kind_at(count: usize, step: Step, i: usize) -> Kind
-    ensures { λ r. ⌜ r ≡ kindAt count step i ⌝ }
-{
-    match step {
-        Step::Take { transition: _ } => taken_kind(i),
-        Step::Serialise {
-            process: _,
-            variable,
-        } => serialised_kind(count, variable, i),
-        Step::Update { process: _ } => updated_kind(i),
-    }
-}
-
-pub fn kind_count(count: usize, step: Step) -> usize
-    ensures { λ r. ⌜ (r ≤ 21) × (count ≤ 20 → r ≡ kindCount count step) ⌝ }
-{
-    let n = least(count, 20);
-    match step {
-        Step::Take { transition: _ } => 6,
-        Step::Serialise {
-            process: _,
-            variable: _,
-        } => n + 1,
-        Step::Update { process: _ } => 17,
-    }
-}
-
-// ---- one kind before one step
-
-fn has_taken(file: &[u8], program: Program, cube: Cube, n: usize, kind: Kind) -> bool
-    ensures { λ r. ⌜ (Stepping (now (file .entry)) program cube → r ≡ has (programOf (now (file .entry)) program) (configurationOf cube) (Take n) (kindOf kind)) ⌝ }
-{
-    let row = program.transitions;
-    if row.count <= n {
-        return false;
-    }
-    let shape = program.shape;
-    let transition = transition_of(file, program, n);
-    has_take(shape, cube, transition, kind)
-}
-
-fn has_serialised(shape: Shape, cube: Cube, process: usize, variable: usize, kind: Kind) -> bool
-    ensures { λ r. ⌜ (Sound shape cube → (P : pws.Program) → P .shape ≡ shapeOf shape → r ≡ has P (configurationOf cube) (Serialise process variable) (kindOf kind)) ⌝ }
-{
-    if !both(process < shape.processes, variable < shape.variables) {
-        return false;
-    }
-    has_serialise(shape, cube, byte_of(process), byte_of(variable), kind)
-}
-
-fn has_updated(shape: Shape, cube: Cube, process: usize, kind: Kind) -> bool
-    ensures { λ r. ⌜ (Sound shape cube → (P : pws.Program) → P .shape ≡ shapeOf shape → r ≡ has P (configurationOf cube) (Update process) (kindOf kind)) ⌝ }
-{
-    if shape.processes <= process {
-        return false;
-    }
-    has_update(shape, cube, byte_of(process), kind)
-}
-
-// Is there a cube of this kind before a step?
-fn has_before(file: &[u8], program: Program, cube: Cube, step: Step, kind: Kind) -> bool
-    ensures { λ r. ⌜ (Stepping (now (file .entry)) program cube → r ≡ has (programOf (now (file .entry)) program) (configurationOf cube) step (kindOf kind)) ⌝ }
-{
-    let shape = program.shape;
-    match step {
-        Step::Take { transition } => has_taken(file, program, cube, transition, kind),
-        Step::Serialise { process, variable } => has_serialised(
-            shape,
-            cube,
-            process,
-            variable,
-            kind,
-        ),
-        Step::Update { process } => has_updated(shape, cube, process, kind),
-    }
-}
-
-fn before_taken(file: &[u8], program: Program, cube: Cube, n: usize, kind: Kind) -> Cube
-    ensures { λ r. ⌜ (Stepping (now (file .entry)) program cube → has (programOf (now (file .entry)) program) (configurationOf cube) (Take n) (kindOf kind) ≡ true → CubeFor r (lists.cube (programOf (now (file .entry)) program) (configurationOf cube) (Take n) (kindOf kind))) ⌝ }
-{
-    let shape = program.shape;
-    let transition = transition_of(file, program, n);
-    before_take(shape, cube, transition, kind)
-}
-
-fn before_serialised(shape: Shape, cube: Cube, process: usize, variable: usize, kind: Kind) -> Cube
-    ensures { λ r. ⌜ (Sound shape cube → (P : pws.Program) → P .shape ≡ shapeOf shape → has P (configurationOf cube) (Serialise process variable) (kindOf kind) ≡ true → CubeFor r (lists.cube P (configurationOf cube) (Serialise process variable) (kindOf kind))) ⌝ }
-{
-    before_serialise(shape, cube, byte_of(process), byte_of(variable), kind)
-}
-
-fn before_updated(shape: Shape, cube: Cube, process: usize, kind: Kind) -> Cube
-    ensures { λ r. ⌜ (Sound shape cube → (P : pws.Program) → P .shape ≡ shapeOf shape → has P (configurationOf cube) (Update process) (kindOf kind) ≡ true → CubeFor r (lists.cube P (configurationOf cube) (Update process) (kindOf kind))) ⌝ }
-{
-    before_update(shape, cube, byte_of(process), kind)
-}
-
-// That cube.
-fn cube_before(file: &[u8], program: Program, cube: Cube, step: Step, kind: Kind) -> Cube
-    ensures { λ r. ⌜ (Stepping (now (file .entry)) program cube → has (programOf (now (file .entry)) program) (configurationOf cube) step (kindOf kind) ≡ true → CubeFor r (lists.cube (programOf (now (file .entry)) program) (configurationOf cube) step (kindOf kind))) ⌝ }
-{
-    let shape = program.shape;
-    match step {
-        Step::Take { transition } => before_taken(file, program, cube, transition, kind),
-        Step::Serialise { process, variable } => before_serialised(
-            shape,
-            cube,
-            process,
-            variable,
-            kind,
-        ),
-        Step::Update { process } => before_updated(shape, cube, process, kind),
-    }
-}
-
-// ---- are they held?
-
-// If there is such a cube, it is held by the list.
-fn kind_held(
+// The lowest transition one of whose predecessor cubes is not held, or their number.
+fn open_take(
     file: &[u8],
     list: &[u8],
+    sum: &[u8],
     n: usize,
     program: Program,
     cube: Cube,
-    step: Step,
-    kind: Kind,
-    near: usize,
-) -> Found
-    ensures { λ r. ⌜ (Walkable (now (file .entry)) (now (list .entry)) n program cube → r .held ≡ kindHeld (programOf (now (file .entry)) program) (entriesOf (now (file .entry)) (now (list .entry)) n) (configurationOf cube) step (kindOf kind)) ⌝ }
-{
-    if !has_before(file, program, cube, step, kind) {
-        return Found {
-            held: true,
-            near: near,
-        };
-    }
-    let before = cube_before(file, program, cube, step, kind);
-    let shape = program.shape;
-    search(file, list, n, shape, before, near)
-}
-
-// Whether an entry is closed, and for steps and kinds the entries found last: the next entry's are mostly near them.
-pub struct Closed {
-    pub held: bool,
-    pub near: [usize; 256],
-}
-
-// The place of a step and a kind among them. Several may share one.
-fn near_place(j: usize, i: usize) -> usize
-    requires { ⌜ (j < 276) × (i < 276) ⌝ }
-    ensures { λ r. ⌜ r < 256 ⌝ }
-{
-    (18 * j + i) % 256
-}
-
-// All cubes before an entry, by step and kind.
-fn cube_closed(
-    file: &[u8],
-    list: &[u8],
-    n: usize,
-    program: Program,
-    cube: Cube,
-    near: [usize; 256],
-) -> Closed
-    ensures { λ r. ⌜ (Walkable (now (file .entry)) (now (list .entry)) n program cube → r .held ≡ closed (programOf (now (file .entry)) program) (entriesOf (now (file .entry)) (now (list .entry)) n) (configurationOf cube)) ⌝ }
+    writes: [u8; 16],
+) -> usize
+    ensures { λ r. ⌜ (r ≤ 256) × (Walkable (now (file .entry)) (now (list .entry)) (now (sum .entry)) n program cube → LastWrites writes (configurationOf cube .memory) → LowestFailing (λ j. stepHeld (programOf (now (file .entry)) program) (entriesOf (now (file .entry)) (now (list .entry)) n) (configurationOf cube) (Take j)) (min (program .transitions .count) 256) r) ⌝ }
 {
     let row = program.transitions;
-    let transitions = least(row.count, 256);
-    let m = transitions + 20;
-    let count = cube.count;
-    let mut last = near;
+    let m = least(row.count, 256);
     for j in 0..m {
-        let step = step_at(transitions, j);
-        let kinds = kind_count(count, step);
-        for i in 0..kinds {
-            let kind = kind_at(count, step, i);
-            let at = near_place(j, i);
-            let found = kind_held(file, list, n, program, cube, step, kind, last[at]);
-            last[at] = found.near;
-            if !found.held {
-                return Closed {
-                    held: false,
-                    near: last,
-                };
-            }
+        if !taken_held(file, list, sum, n, program, cube, writes, j) {
+            return j;
         }
     }
-    Closed {
-        held: true,
-        near: last,
+    m
+}
+
+// The serialise of process p and variable v has the number 4 p + v: the lowest that is open, or 16.
+fn open_serialise(
+    file: &[u8],
+    list: &[u8],
+    sum: &[u8],
+    n: usize,
+    program: Program,
+    cube: Cube,
+) -> usize
+    ensures { λ r. ⌜ (r ≤ 1275) × (Walkable (now (file .entry)) (now (list .entry)) (now (sum .entry)) n program cube → LowestFailing (λ i. stepHeld (programOf (now (file .entry)) program) (entriesOf (now (file .entry)) (now (list .entry)) n) (configurationOf cube) (Serialise (i / 4) (i % 4))) 16 r) ⌝ }
+{
+    if serialised_held(file, list, sum, n, program, cube) {
+        return 16;
     }
+    let message = newest(cube);
+    4 * wide(message.process) + wide(message.variable)
+}
+
+// The lowest process whose update is open, or 4.
+fn open_update(
+    file: &[u8],
+    list: &[u8],
+    sum: &[u8],
+    n: usize,
+    program: Program,
+    cube: Cube,
+    writes: [u8; 16],
+) -> usize
+    ensures { λ r. ⌜ (r ≤ 4) × (Walkable (now (file .entry)) (now (list .entry)) (now (sum .entry)) n program cube → LastWrites writes (configurationOf cube .memory) → LowestFailing (λ p. stepHeld (programOf (now (file .entry)) program) (entriesOf (now (file .entry)) (now (list .entry)) n) (configurationOf cube) (Update p)) 4 r) ⌝ }
+{
+    let shape = program.shape;
+    let m = least(shape.processes, 4);
+    for p in 0..m {
+        if !updated_held(file, list, sum, n, program, cube, writes, p) {
+            return p;
+        }
+    }
+    4
+}
+
+// The number of the lowest step, in the order of `stepAt`, one of whose predecessor cubes is not held; 20 past the transitions if there is
+// none.
+fn cube_open(file: &[u8], list: &[u8], sum: &[u8], n: usize, program: Program, cube: Cube) -> usize
+    ensures { λ r. ⌜ (Walkable (now (file .entry)) (now (list .entry)) (now (sum .entry)) n program cube → LowestFailing (λ j. stepHeld (programOf (now (file .entry)) program) (entriesOf (now (file .entry)) (now (list .entry)) n) (configurationOf cube) (stepAt (min (program .transitions .count) 256) j)) (min (program .transitions .count) 256 + 20) r) ⌝ }
+{
+    let row = program.transitions;
+    let m = least(row.count, 256);
+    let writes = last_writes(cube);
+    let t = open_take(file, list, sum, n, program, cube, writes);
+    if t < m {
+        return t;
+    }
+    let s = open_serialise(file, list, sum, n, program, cube);
+    if s < 16 {
+        return m + s;
+    }
+    let u = open_update(file, list, sum, n, program, cube, writes);
+    m + 16 + u
+}
+
+// Through which step does a configuration outside the list get above entry k? `sum` is the list's summary.
+pub fn open_step(
+    file: &[u8],
+    list: &[u8],
+    sum: &[u8],
+    n: usize,
+    program: Program,
+    k: usize,
+) -> usize
+    ensures { λ r. ⌜ (Walkable (now (file .entry)) (now (list .entry)) (now (sum .entry)) n program (cubeAt (now (file .entry)) (now (list .entry)) k) → LowestFailing (λ j. stepHeld (programOf (now (file .entry)) program) (entriesOf (now (file .entry)) (now (list .entry)) n) (configurationOf (cubeAt (now (file .entry)) (now (list .entry)) k)) (stepAt (min (program .transitions .count) 256) j)) (min (program .transitions .count) 256 + 20) r) ⌝ }
+{
+    let cube = entry_at(file, list, k);
+    cube_open(file, list, sum, n, program, cube)
 }
 
 // Is every configuration one step before those above entry k above the list?
 pub fn entry_closed(
     file: &[u8],
     list: &[u8],
+    sum: &[u8],
     n: usize,
     program: Program,
     k: usize,
-    near: [usize; 256],
-) -> Closed
-    ensures { λ r. ⌜ (Walkable (now (file .entry)) (now (list .entry)) n program (cubeAt (now (file .entry)) (now (list .entry)) k) → r .held ≡ closed (programOf (now (file .entry)) program) (entriesOf (now (file .entry)) (now (list .entry)) n) (configurationOf (cubeAt (now (file .entry)) (now (list .entry)) k))) ⌝ }
+) -> bool
+    ensures { λ r. ⌜ (Walkable (now (file .entry)) (now (list .entry)) (now (sum .entry)) n program (cubeAt (now (file .entry)) (now (list .entry)) k) → r ≡ closed (programOf (now (file .entry)) program) (entriesOf (now (file .entry)) (now (list .entry)) n) (configurationOf (cubeAt (now (file .entry)) (now (list .entry)) k))) ⌝ }
 {
-    let cube = entry_at(file, list, k);
-    cube_closed(file, list, n, program, cube, near)
+    let row = program.transitions;
+    let m = least(row.count, 256);
+    open_step(file, list, sum, n, program, k) == m + 20
 }

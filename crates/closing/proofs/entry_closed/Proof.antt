@@ -1,19 +1,20 @@
-use mathlib.Core.Path.{_≡_, subst}
-use Rattle.lists.specs.Decision.{closed}
-use Rattle.reading.specs.declared.entry.Cube.{Cube}
-use Rattle.records.specs.ProgramPart.{programOf}
-use Rattle.reading.specs.Cube.{configurationOf}
-use Rattle.contents.specs.Again.{entriesOf}
-use Rattle.closing.specs.Walk.{Walkable}
+use Prim.Native.Nat.{ℕ, _+_}
+use mathlib.Core.Path.{ap, _∙_}
+use lib.Dec.{eqb}
+use Rattle.contents.specs.Again.{cubeAt}
+use Rattle.closing.proofs.WalkLaws.{closed-is}
+use native.Mathlib.Omega.{arith}
 use borrow.Author.Needs.{needs}
 use Rattle.closing.proofs.entry_closed.Statement.{statement}
 use Rattle.closing.proofs.entry_closed.Tie as tie
 
 pub entry-closed-spec : {M : Type 1} → statement M
 entry-closed-spec = tie.close (tie.spec
-    -- entry-at-requires 288:9
+    -- least-requires
     (λ c κs. search needs)
-    -- cube-closed-requires 289:5
+    -- open-step-requires
     (λ c κs. search needs)
-    -- returns 285:1
-    (λ c. subst (λ (k : Cube). Walkable (c .before .before .before .before .args .file .now) (c .before .before .before .before .args .list .now) (c .before .before .before .before .args .n) (c .before .before .before .before .args .program) k → c .cube-closed .result .held ≡ closed (programOf (c .before .before .before .before .args .file .now) (c .before .before .before .before .args .program)) (entriesOf (c .before .before .before .before .args .file .now) (c .before .before .before .before .args .list .now) (c .before .before .before .before .args .n)) (configurationOf k)) (c .before .entry-at .ensures) (c .cube-closed .ensures)))
+    -- add-result
+    (λ c. omega (arith, c .before .least .ensures))
+    -- returns
+    (λ c. λ W. ap (λ (m : ℕ). eqb (c .open-step .result) (m + 20)) (c .before .least .ensures) ∙ closed-is (c .before .before .before .before .before .before .args .file .now) (c .before .before .before .before .before .before .args .list .now) (c .before .before .before .before .before .before .args .sum .now) (c .before .before .before .before .before .before .args .n) (c .before .before .before .before .before .before .args .program) (cubeAt (c .before .before .before .before .before .before .args .file .now) (c .before .before .before .before .before .before .args .list .now) (c .before .before .before .before .before .before .args .k)) W (c .open-step .ensures W)))

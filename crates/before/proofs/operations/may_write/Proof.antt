@@ -1,0 +1,17 @@
+use Prim.Native.Nat.{ℕ}
+use mathlib.Core.Path.{ap, _∙_}
+use mathlib.Core.List.{List}
+use Rattle.pws.specs.Machine.{newestWaiting}
+use Rattle.lists.specs.Predecessors.{endsAlike}
+use borrow.Author.Needs.{needs}
+use Rattle.before.proofs.operations.may_write.Statement.{statement}
+use Rattle.before.proofs.operations.may_write.Tie as tie
+
+pub may-write-spec : {M : Type 1} → statement M
+may-write-spec = tie.close (tie.spec
+    -- queue-at-requires
+    (λ c κs. search needs)
+    -- ends-alike-requires
+    (λ c κs. search needs)
+    -- returns
+    (λ c. c .ends-alike .ensures ∙ ap (λ (xs : List ℕ). endsAlike (newestWaiting xs) (c .before .before .before .args .x)) (c .before .queue-at .ensures .0)))

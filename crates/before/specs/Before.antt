@@ -1,0 +1,93 @@
+-- The predecessor cubes of an entry as the code makes them, and the entries that it makes them of.
+use Prim.Native.Nat.{ℕ, _+_, _*_, _<_, _≤_}
+use mathlib.Core.Path.{_≡_}
+use mathlib.Core.Bool.{_&&_}
+use mathlib.Core.List.{List, _∷_}
+use lib.ListN.{getD, set}
+use lib.Dec.{leb, ltb}
+use Rattle.pws.specs.declared.Message.{Message}
+use Rattle.pws.specs.declared.Operation.{Operation}
+use Rattle.pws.specs.Program as pws
+use Rattle.pws.specs.Machine.{Memory, Configuration, lastWrite, put, putQueue}
+use Rattle.lists.specs.Cubes.{topmost}
+use Rattle.lists.specs.Predecessors as lists
+use Rattle.records.specs.declared.program.Shape.{Shape}
+use Rattle.records.specs.Bytes.{choose}
+use Rattle.reading.specs.declared.entry.Queue.{Queue}
+use Rattle.reading.specs.declared.entry.Cube.{Cube}
+use Rattle.pws.specs.Insertion.{insert}
+use Rattle.reading.specs.Cube.{noQueue, waitingOf, channelOf, queueOf, configurationOf}
+
+-- The sizes of an entry of a file that was read: its predecessor cubes have room. It is the one condition of this crate's contracts; of
+-- other cubes its functions end, and nothing is said of what they give.
+pub record Sound (s : Shape) (c : Cube) : Type 0 where
+  pub processes : s .processes ≤ 4
+  pub variables : s .variables ≤ 4
+  pub some : 1 ≤ c .count
+  pub count : c .count ≤ 16
+  pub queues : (i : ℕ) → i < 16 → getD (c .queues) i noQueue .count ≤ 8
+  pub pointer : (p : ℕ) → p < s .processes → 1 ≤ getD (c .pointers) p 0
+  pub pointers : (p : ℕ) → p < 4 → getD (c .pointers) p 0 ≤ c .count
+
+-- r stands for e, and there is room for it in a cube
+pub record CubeFor (r : Cube) (e : Configuration) : Type 0 where
+  pub configuration : configurationOf r ≡ e
+  pub count : r .count ≤ 20
+  pub queues : (i : ℕ) → i < 16 → getD (r .queues) i noQueue .count ≤ 9
+
+-- ---- the cubes that `lists.cube` has for each step, of a transition by its parts and not by its number
+
+abbrev pub takeBefore : Configuration → ℕ → ℕ → Operation → lists.Kind → Configuration
+takeBefore e p x o k = record { state = put (e .state) p x; queue = lists.queueBefore e p o k; memory = lists.memoryBefore e p o k }
+
+abbrev pub serialiseBefore : pws.Shape → Configuration → ℕ → ℕ → lists.Kind → Configuration
+serialiseBefore S e p v k =
+    record {
+      state = e .state;
+      queue = putQueue (e .queue) p v (getD (topmost (e .memory .channel) .snapshot) v 0 ∷ e .queue p v);
+      memory = lists.serialiseMemory S (e .memory) p v k;
+    }
+
+abbrev pub updateBefore : pws.Shape → Configuration → ℕ → lists.Kind → Configuration
+updateBefore S e p k = record { state = e .state; queue = e .queue; memory = lists.updateMemory S (e .memory) p k }
+
+-- ---- LastWrite of each process and variable
+
+-- that of p and v is at 4 p + v
+abbrev pub LastWrites : List ℕ → Memory → Type 0
+LastWrites ws m = (p v : ℕ) → p < 4 → v < 4 → getD ws (4 * p + v) 0 ≡ lastWrite m p v
+
+-- with the message of this number, which is newer than those before
+unfoldable pub withWrite : List ℕ → Message → ℕ → List ℕ
+withWrite ws m n =
+    choose (ltb (m .process) 4 && ltb (m .variable) 4)
+    (λ _. choose (leb n (getD ws (4 * m .process + m .variable) 0)) (λ _. ws) (λ _. set ws (4 * m .process + m .variable) n))
+    (λ _. ws)
+
+-- ---- parts of a cube
+
+-- these values wait in r, and there is room for them
+pub record Waits (r : Queue) (xs : List ℕ) : Type 0 where
+  pub waiting : waitingOf r ≡ xs
+  pub most : r .count ≤ 9
+
+abbrev pub byNumber : List ℕ → ℕ → ℕ
+byNumber zs q = getD zs q 0
+
+-- r is c with μ put in as message k, and these pointers
+pub record Inserted (r c : Cube) (k : ℕ) (μ : Message) (zs : List ℕ) : Type 0 where
+  pub states : r .states ≡ c .states
+  pub pointers : r .pointers ≡ zs
+  pub queues : r .queues ≡ c .queues
+  pub count : r .count ≡ c .count + 1
+  pub channel : channelOf (r .messages) (c .count + 1) ≡ insert (channelOf (c .messages) (c .count)) k μ
+
+-- r is c with p in another state, and another queue of p and v
+abbrev pub Requeued : Cube → Cube → ℕ → ℕ → ℕ → Queue → Type 0
+Requeued r c p x v q =
+    r ≡ record { states = set (c .states) p x; pointers = c .pointers; queues = set (c .queues) (4 * p + v) q; messages = c .messages; count = c .count }
+
+-- in these queues the value of v of c's newest message waits again, as the oldest of p
+pub record Again (qs : List Queue) (c : Cube) (p v : ℕ) : Type 0 where
+  pub waiting : queueOf qs ≡ putQueue (configurationOf c .queue) p v (getD (topmost (configurationOf c .memory .channel) .snapshot) v 0 ∷ configurationOf c .queue p v)
+  pub most : (i : ℕ) → i < 16 → getD qs i noQueue .count ≤ 9

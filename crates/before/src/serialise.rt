@@ -1,0 +1,99 @@
+// The cubes before a serialise of p and v, the label of the newest message.
+ghost use mathlib.Core.Path.{_≡_};
+ghost use mathlib.Core.Bool.{true, _&&_, not};
+ghost use Prim.Native.Nat.{_≤_, _<_};
+ghost use lib.ListN.{length};
+ghost use lib.Dec.{ltb};
+ghost use Rattle.pws.specs.Machine.{allBelow, atNewest};
+ghost use Rattle.lists.specs.Cubes.{anyMessage};
+ghost use Rattle.lists.specs.Predecessors.{serialiseKind, undone, inside, onTop};
+ghost use Rattle.records.specs.ProgramPart.{shapeOf};
+ghost use Rattle.records.specs.declared.program.Shape.{Shape};
+ghost use Rattle.reading.specs.Cube.{configurationOf};
+ghost use Rattle.before.specs.Before.{Sound, CubeFor, serialiseBefore, Again};
+use crate::messages::any_message;
+use crate::messages::inserted;
+use crate::messages::raised;
+use crate::newest::met_older;
+use crate::newest::newest;
+use crate::newest::newest_with;
+use crate::newest::none_at_newest;
+use crate::newest::with_newest;
+use crate::queues::put_queue;
+use crate::queues::queue_at;
+use crate::queues::with_first;
+use pws::Message;
+use reading::entry::Cube;
+use reading::entry::Queue;
+use records::bytes::both;
+use records::program::Shape;
+use records::program::of_four;
+
+// The newest message may be what a serialise made: it is not the only one, and no process points at it.
+pub fn may_serialise(shape: Shape, cube: Cube) -> bool
+    ensures { λ r. ⌜ r ≡ (ltb 1 (length (configurationOf cube .memory .channel)) && allBelow (shape .processes) (λ q. not (atNewest (configurationOf cube .memory) q))) ⌝ }
+{
+    both(1 < cube.count, none_at_newest(shape, cube))
+}
+
+// The queues in which its value waits again, as the oldest.
+fn waiting_again(cube: Cube, p: usize, v: usize) -> [Queue; 16]
+    ensures { λ r. ⌜ ((s : Shape) → Sound s cube → p < 4 → v < 4 → Again r cube p v) ⌝ }
+{
+    let message = newest(cube);
+    let snapshot = message.snapshot;
+    let queues = cube.queues;
+    let queue = queue_at(queues, p, v);
+    put_queue(queues, p, v, with_first(queue, of_four(snapshot, v)))
+}
+
+// Without the newest message.
+pub fn before_serialise(cube: Cube, p: u8, v: u8) -> Cube
+    ensures { λ r. ⌜ ((s : Shape) → Sound s cube → p < s .processes → v < s .variables → serialiseKind (configurationOf cube .memory) p v undone ≡ true → CubeFor r (serialiseBefore (shapeOf s) (configurationOf cube) p v undone)) ⌝ }
+{
+    let n = cube.count;
+    if n < 2 {
+        return cube;
+    }
+    if 20 < n {
+        return cube;
+    }
+    let q = p as usize;
+    let w = v as usize;
+    let queues = waiting_again(cube, q, w);
+    let messages = met_older(cube, newest_with(cube, w, 255));
+    let mut next = cube;
+    next.queues = queues;
+    next.messages = messages;
+    next.count = n - 1;
+    next
+}
+
+// And with a message inside, as number k.
+pub fn before_serialise_inside(shape: Shape, cube: Cube, p: u8, v: u8, k: u8) -> Cube
+    ensures { λ r. ⌜ (Sound shape cube → p < shape .processes → v < shape .variables → serialiseKind (configurationOf cube .memory) p v (inside k) ≡ true → CubeFor r (serialiseBefore (shapeOf shape) (configurationOf cube) p v (inside k))) ⌝ }
+{
+    let pointers = cube.pointers;
+    let next = before_serialise(cube, p, v);
+    inserted(next, k, any_message(shape, p, v), raised(pointers, k))
+}
+
+// With another newest message, of the same label.
+pub fn before_serialise_on_top(cube: Cube, p: u8, v: u8) -> Cube
+    ensures { λ r. ⌜ ((s : Shape) → Sound s cube → p < s .processes → v < s .variables → CubeFor r (serialiseBefore (shapeOf s) (configurationOf cube) p v (onTop v))) ⌝ }
+{
+    let q = p as usize;
+    let w = v as usize;
+    let queues = waiting_again(cube, q, w);
+    let values = newest_with(cube, w, 255);
+    let message = Message {
+        process: p,
+        variable: v,
+        snapshot: values,
+    };
+    let messages = with_newest(cube, message);
+    let mut next = cube;
+    next.queues = queues;
+    next.messages = messages;
+    next
+}

@@ -1,0 +1,201 @@
+-- The predecessor cubes for a transition whose end is the entry's local state, by its operation.
+use Prim.Native.Nat.{ℕ, _<_}
+use mathlib.Core.Path.{_≡_, refl, sym, ap, ap₂, subst, _∙_}
+use mathlib.Core.Bool.{Bool, true, false, cond, _&&_}
+use mathlib.Core.List.{List}
+use native.Mathlib.Omega.{arith}
+use lib.ListN.{length, getD}
+use lib.Dec.{eqb, ltb}
+use borrow.Author.Tests.{lt-ltb, ltb-true, eqb-true, eq-eqb}
+use Rattle.pws.specs.declared.Operation.{Operation}
+use Rattle.pws.specs.declared.Operation.the-variants.{Write, Arw}
+use Rattle.pws.specs.declared.Step.the-variants.{Take}
+use Rattle.pws.specs.declared.Transition.{Transition}
+use Rattle.pws.specs.Program as pws
+use Rattle.pws.specs.Program.{OperationOf, transition}
+use Rattle.pws.specs.Machine.{isEmpty, newestWaiting}
+use Rattle.lists.specs.Predecessors as lists
+use Rattle.lists.specs.Predecessors.{has, cube, hasOperation, isUndone, writeKind, endsAlike, swapped, arwKind, undone, waited, inside, onTop, pointed}
+use Rattle.lists.specs.Decision.{held}
+use Rattle.records.specs.declared.program.Program.{Program}
+use Rattle.reading.specs.declared.entry.Cube.{Cube}
+use Rattle.records.specs.ProgramPart.{shapeOf, programOf}
+use Rattle.reading.specs.Cube.{configurationOf}
+use Rattle.contents.specs.Again.{transitionOf, entriesOf}
+use Rattle.contents.proofs.Again.{transition-again}
+use Rattle.records.proofs.ProgramLaws.{and-true}
+use Rattle.before.specs.Before.{CubeFor, takeBefore}
+use Rattle.before.proofs.CubeLaws.{cube-is}
+use Rattle.cover.specs.Search.{Searchable}
+use Rattle.closing.specs.Walk.{stepHeld, Walkable, Acting}
+use Rattle.closing.proofs.WalkLaws.{count-is}
+use Rattle.closing.proofs.StepLaws.{not-both, decided, step-true, step-false, searched}
+
+undone-only : (k : lists.Kind) → isUndone k ≡ true → k ≡ undone
+undone-only undone e = refl
+undone-only waited e = absurd (not-both e refl)
+undone-only (inside k) e = absurd (not-both e refl)
+undone-only (onTop u) e = absurd (not-both e refl)
+undone-only (pointed r u) e = absurd (not-both e refl)
+
+module _ (f list sum : List ℕ) (n : ℕ) (p : Program) (c : Cube) (W : Walkable f list sum n p c) (j q x : ℕ) (o : Operation) (A : Acting (programOf f p) (configurationOf c) j q x o) where
+  take-has : (k : lists.Kind) → has (programOf f p) (configurationOf c) (Take j) k ≡ hasOperation (shapeOf (p .shape)) (configurationOf c) q o k
+  take-has k =
+      ap (λ (t : Transition). (ltb j (length (programOf f p .transitions)) && eqb (configurationOf c .state (t .process)) (t .to))
+      && hasOperation (shapeOf (p .shape)) (configurationOf c) (t .process) (t .operation) k) (A .is)
+      ∙ ap₂ (λ (a b : Bool). (a && b) && hasOperation (shapeOf (p .shape)) (configurationOf c) q o k) (lt-ltb j (length (programOf f p .transitions)) (A .exists))
+      (eq-eqb (configurationOf c .state q) (configurationOf c .state q) refl)
+
+  take-cube : (k : lists.Kind) → cube (programOf f p) (configurationOf c) (Take j) k ≡ takeBefore (configurationOf c) q x o k
+  take-cube k = ap (λ (t : Transition). takeBefore (configurationOf c) (t .process) (t .from) (t .operation) k) (A .is)
+
+  pub process-exists : q < p .shape .processes
+  process-exists = subst (λ (t : Transition). t .process < p .shape .processes) (A .is) (W .stepping .program .transitions j (A .exists) .process)
+
+  pub operation-exists : OperationOf (shapeOf (p .shape)) o
+  operation-exists = subst (λ (t : Transition). OperationOf (shapeOf (p .shape)) (t .operation)) (A .is) (W .stepping .program .transitions j (A .exists) .operation)
+
+  -- the search's answer h for the cube r
+  abbrev Answer : Cube → Bool → Type 0
+  Answer r h = Searchable f list sum n (p .shape) r → h ≡ held (shapeOf (p .shape)) (entriesOf f list n) (configurationOf r)
+
+  abbrev heldBefore : lists.Kind → Bool
+  heldBefore k = held (shapeOf (p .shape)) (entriesOf f list n) (takeBefore (configurationOf c) q x o k)
+
+  pub take-searched : (k : lists.Kind) → hasOperation (shapeOf (p .shape)) (configurationOf c) q o k ≡ true → {r : Cube} {h : Bool} → CubeFor r (takeBefore (configurationOf c) q x o k) → Answer r h → h ≡ heldBefore k
+  take-searched k i d y =
+      searched f list sum n p c W (Take j) k (take-has k ∙ i) (cube-is (sym (take-cube k)) d) y ∙ ap (held (shapeOf (p .shape)) (entriesOf f list n)) (take-cube k)
+
+  pub take-true : ((k : lists.Kind) → hasOperation (shapeOf (p .shape)) (configurationOf c) q o k ≡ true → heldBefore k ≡ true)
+      → true ≡ stepHeld (programOf f p) (entriesOf f list n) (configurationOf c) (Take j)
+  take-true g =
+      sym (step-true (programOf f p) (entriesOf f list n) (configurationOf c) (Take j) (λ k i. ap (held (shapeOf (p .shape)) (entriesOf f list n)) (take-cube k) ∙ g k (sym (take-has k) ∙ i)))
+
+  pub take-false : (k : lists.Kind) → hasOperation (shapeOf (p .shape)) (configurationOf c) q o k ≡ true → heldBefore k ≡ false
+      → false ≡ stepHeld (programOf f p) (entriesOf f list n) (configurationOf c) (Take j)
+  take-false k i g =
+      sym (step-false (programOf f p) (entriesOf f list n) (configurationOf c) (Take j) k (take-has k ∙ i) (ap (held (shapeOf (p .shape)) (entriesOf f list n)) (take-cube k) ∙ g))
+
+  pub take-fails : (k : lists.Kind) → hasOperation (shapeOf (p .shape)) (configurationOf c) q o k ≡ true → {r : Cube} {h : Bool} → CubeFor r (takeBefore (configurationOf c) q x o k) → Answer r h → h ≡ false
+      → false ≡ stepHeld (programOf f p) (entriesOf f list n) (configurationOf c) (Take j)
+  take-fails k i d y z = take-false k i (sym (take-searched k i d y) ∙ z)
+
+  -- ---- operations that have one cube at most, with nothing beside
+
+  module _ (b : Bool) (is : (k : lists.Kind) → hasOperation (shapeOf (p .shape)) (configurationOf c) q o k ≡ isUndone k && b) where
+    pub plain-none : b ≡ false → true ≡ stepHeld (programOf f p) (entriesOf f list n) (configurationOf c) (Take j)
+    plain-none z = take-true (λ k i. absurd (not-both (and-true (isUndone k) b (sym (is k) ∙ i) .1) z))
+
+    pub plain-held : b ≡ true → {r : Cube} {h : Bool} → CubeFor r (takeBefore (configurationOf c) q x o undone) → Answer r h
+        → h ≡ stepHeld (programOf f p) (entriesOf f list n) (configurationOf c) (Take j)
+    plain-held z {r} {h} d y =
+        let i = is undone ∙ z in
+        let a = take-searched undone i d y in
+        decided h (stepHeld (programOf f p) (entriesOf f list n) (configurationOf c) (Take j))
+        (λ t. sym (take-true (λ k m. ap heldBefore (undone-only k (and-true (isUndone k) b (sym (is k) ∙ m) .0)) ∙ sym a ∙ t)))
+        (λ t. sym (take-false undone i (sym a ∙ t)))
+
+-- ---- write
+
+module _ (f list sum : List ℕ) (n : ℕ) (p : Program) (c : Cube) (W : Walkable f list sum n p c) (j q x v y : ℕ) (A : Acting (programOf f p) (configurationOf c) j q x (Write v y)) where
+  abbrev ends : Bool
+  ends = endsAlike (newestWaiting (configurationOf c .queue q v)) y
+
+  pub write-none : endsAlike (newestWaiting (configurationOf c .queue q v)) y ≡ false → true ≡ stepHeld (programOf f p) (entriesOf f list n) (configurationOf c) (Take j)
+  write-none z = take-true f list sum n p c W j q x (Write v y) A (λ k i. absurd (not-both (and-true (writeKind k) ends i .1) z))
+
+  pub write-both : endsAlike (newestWaiting (configurationOf c .queue q v)) y ≡ true → (u w : Bool)
+      → u ≡ held (shapeOf (p .shape)) (entriesOf f list n) (takeBefore (configurationOf c) q x (Write v y) undone)
+      → w ≡ held (shapeOf (p .shape)) (entriesOf f list n) (takeBefore (configurationOf c) q x (Write v y) waited)
+      → u && w ≡ stepHeld (programOf f p) (entriesOf f list n) (configurationOf c) (Take j)
+  write-both z false w a b = take-false f list sum n p c W j q x (Write v y) A undone z (sym a)
+  write-both z true false a b = take-false f list sum n p c W j q x (Write v y) A waited z (sym b)
+  write-both z true true a b = take-true f list sum n p c W j q x (Write v y) A (λ k i. at k (and-true (writeKind k) ends i .0))
+    where
+      at : (k : lists.Kind) → writeKind k ≡ true → held (shapeOf (p .shape)) (entriesOf f list n) (takeBefore (configurationOf c) q x (Write v y) k) ≡ true
+      at undone e = sym a
+      at waited e = sym b
+      at (inside k) e = absurd (not-both e refl)
+      at (onTop u) e = absurd (not-both e refl)
+      at (pointed r u) e = absurd (not-both e refl)
+
+-- ---- arw
+
+module _ (f list sum : List ℕ) (n : ℕ) (p : Program) (c : Cube) (W : Walkable f list sum n p c) (j q x v old new : ℕ)
+    (A : Acting (programOf f p) (configurationOf c) j q x (Arw v old new)) where
+  abbrev made : Bool
+  made = isEmpty (configurationOf c .queue q v) && swapped (shapeOf (p .shape)) (configurationOf c .memory) q v new
+
+  abbrev heldArw : lists.Kind → Bool
+  heldArw k = held (shapeOf (p .shape)) (entriesOf f list n) (takeBefore (configurationOf c) q x (Arw v old new) k)
+
+  abbrev undoneHeld : Bool
+  undoneHeld = cond (arwKind (shapeOf (p .shape)) (configurationOf c .memory) v old undone) (heldArw undone) true
+
+  pub arw-none : made ≡ false → true ≡ stepHeld (programOf f p) (entriesOf f list n) (configurationOf c) (Take j)
+  arw-none z =
+      take-true f list sum n p c W j q x (Arw v old new) A (λ k i. absurd (not-both (and-true made (arwKind (shapeOf (p .shape)) (configurationOf c .memory) v old k) i .0) z))
+
+  arw-has : made ≡ true → (k : lists.Kind) → arwKind (shapeOf (p .shape)) (configurationOf c .memory) v old k ≡ true
+      → hasOperation (shapeOf (p .shape)) (configurationOf c) q (Arw v old new) k ≡ true
+  arw-has z k i = ap₂ _&&_ z i
+
+  pub undone-absent : arwKind (shapeOf (p .shape)) (configurationOf c .memory) v old undone ≡ false → true ≡ undoneHeld
+  undone-absent z = sym (ap (λ (b : Bool). cond b (heldArw undone) true) z)
+
+  pub undone-there : made ≡ true → arwKind (shapeOf (p .shape)) (configurationOf c .memory) v old undone ≡ true
+      → {r : Cube} {h : Bool} → CubeFor r (takeBefore (configurationOf c) q x (Arw v old new) undone)
+      → (Searchable f list sum n (p .shape) r → h ≡ held (shapeOf (p .shape)) (entriesOf f list n) (configurationOf r)) → h ≡ undoneHeld
+  undone-there z i d y =
+      take-searched f list sum n p c W j q x (Arw v old new) A undone (arw-has z undone i) d y ∙ sym (ap (λ (b : Bool). cond b (heldArw undone) true) i)
+
+  pub undone-fails : made ≡ true → undoneHeld ≡ false → false ≡ stepHeld (programOf f p) (entriesOf f list n) (configurationOf c) (Take j)
+  undone-fails z g = at (arwKind (shapeOf (p .shape)) (configurationOf c .memory) v old undone) refl g
+    where
+      at : (b : Bool) → arwKind (shapeOf (p .shape)) (configurationOf c .memory) v old undone ≡ b → cond b (heldArw undone) true ≡ false
+          → false ≡ stepHeld (programOf f p) (entriesOf f list n) (configurationOf c) (Take j)
+      at true i g = take-false f list sum n p c W j q x (Arw v old new) A undone (arw-has z undone i) g
+      at false i g = absurd (not-both refl g)
+
+  pub top-has : made ≡ true → (u : ℕ) → u < p .shape .variables → hasOperation (shapeOf (p .shape)) (configurationOf c) q (Arw v old new) (onTop u) ≡ true
+  top-has z u l = arw-has z (onTop u) (lt-ltb u (p .shape .variables) l)
+
+  pub arw-all : undoneHeld ≡ true → ((u : ℕ) → u < p .shape .variables → heldArw (onTop u) ≡ true)
+      → true ≡ stepHeld (programOf f p) (entriesOf f list n) (configurationOf c) (Take j)
+  arw-all g t =
+      take-true f list sum n p c W j q x (Arw v old new) A (λ k i. at k (and-true made (arwKind (shapeOf (p .shape)) (configurationOf c .memory) v old k) i .1))
+    where
+      at : (k : lists.Kind) → arwKind (shapeOf (p .shape)) (configurationOf c .memory) v old k ≡ true → heldArw k ≡ true
+      at undone e = sym (ap (λ (b : Bool). cond b (heldArw undone) true) e) ∙ g
+      at waited e = absurd (not-both e refl)
+      at (inside k) e = absurd (not-both e refl)
+      at (onTop u) e = t u (ltb-true u (p .shape .variables) e)
+      at (pointed r u) e = absurd (not-both e refl)
+
+-- what the loop over the variables rests on
+pub record Swapping (f list sum : List ℕ) (n : ℕ) (p : Program) (c : Cube) (q x v old new : ℕ) : Type 0 where
+  pub walkable : Walkable f list sum n p c
+  pub number : ℕ
+  pub acting : Acting (programOf f p) (configurationOf c) number q x (Arw v old new)
+  pub made : isEmpty (configurationOf c .queue q v) && swapped (shapeOf (p .shape)) (configurationOf c .memory) q v new ≡ true
+
+-- ---- the transition of a number
+
+module _ (f list : List ℕ) (n : ℕ) (p : Program) (c : Cube) (j : ℕ) (t : Transition) (e : t ≡ transitionOf f p j) (l : j < p .transitions .count) where
+  is-transition : transition (programOf f p) j ≡ t
+  is-transition = transition-again f p j l ∙ sym e
+
+  pub state-differs : (getD (c .states) (t .process) 0 ≡ t .to → ⊥) → true ≡ stepHeld (programOf f p) (entriesOf f list n) (configurationOf c) (Take j)
+  state-differs d =
+      sym (step-true (programOf f p) (entriesOf f list n) (configurationOf c) (Take j) (λ k h.
+      let u = transition (programOf f p) j in
+      let a = and-true (ltb j (length (programOf f p .transitions)) && eqb (configurationOf c .state (u .process)) (u .to)) (hasOperation (shapeOf (p .shape)) (configurationOf c) (u .process) (u .operation) k) h in
+      let b = and-true (ltb j (length (programOf f p .transitions))) (eqb (configurationOf c .state (u .process)) (u .to)) (a .0) in
+      absurd (d (subst (λ (u : Transition). getD (c .states) (u .process) 0 ≡ u .to) is-transition (eqb-true (getD (c .states) (u .process) 0) (u .to) (b .1))))))
+
+  pub acting : getD (c .states) (t .process) 0 ≡ t .to → {o : Operation} → t .operation ≡ o → Acting (programOf f p) (configurationOf c) j (t .process) (t .from) o
+  acting a b =
+      record {
+        exists = omega (arith, count-is f p);
+        is = is-transition ∙ (λ i. record { process = t .process; from = t .from; operation = b i; to = sym a i });
+      }

@@ -1,0 +1,138 @@
+-- The predecessor cubes for an update.
+use Prim.Native.Nat.{ℕ, _+_, _*_, _/_, _%_, _<_, _≤_}
+use mathlib.Core.Path.{_≡_, refl, sym, ap, ap₂, _∙_}
+use mathlib.Core.Bool.{Bool, true, false, cond, _&&_}
+use mathlib.Core.List.{List}
+use native.Mathlib.Omega.{arith}
+use lib.ListN.{getD}
+use lib.Dec.{leb, ltb}
+use borrow.Author.Tests.{lt-ltb, le-leb, le-ltb, ltb-true, leb-true}
+use Rattle.pws.specs.declared.Step.the-variants.{Update}
+use Rattle.pws.specs.Machine.{lastWrite}
+use Rattle.lists.specs.Predecessors as lists
+use Rattle.lists.specs.Predecessors.{has, updateKind, undone, waited, inside, onTop, pointed}
+use Rattle.lists.specs.Decision.{held}
+use Rattle.records.specs.declared.program.Program.{Program}
+use Rattle.reading.specs.declared.entry.Cube.{Cube}
+use Rattle.records.specs.ProgramPart.{shapeOf, programOf}
+use Rattle.reading.specs.Cube.{configurationOf}
+use Rattle.contents.specs.Again.{entriesOf}
+use Rattle.records.proofs.ProgramLaws.{and-true}
+use Rattle.before.specs.Before.{CubeFor, LastWrites, updateBefore}
+use Rattle.cover.specs.Search.{Searchable}
+use Rattle.closing.specs.Walk.{stepHeld, Walkable}
+use Rattle.closing.proofs.StepLaws.{not-both, step-true, step-false, searched}
+
+-- that process p does not exist
+pub update-absent : (f list : List ℕ) (n : ℕ) (s : Program) (c : Cube) (p : ℕ) → s .shape .processes ≤ p
+    → stepHeld (programOf f s) (entriesOf f list n) (configurationOf c) (Update p) ≡ true
+update-absent f list n s c p l =
+    step-true (programOf f s) (entriesOf f list n) (configurationOf c) (Update p) (λ k h.
+    absurd (not-both (and-true (ltb p (s .shape .processes)) (updateKind (shapeOf (s .shape)) (configurationOf c .memory) p k) h .0) (le-ltb p (s .shape .processes) l)))
+
+module _ (f list sum : List ℕ) (n : ℕ) (s : Program) (c : Cube) (W : Walkable f list sum n s c) (p : ℕ) (exists : p < s .shape .processes) where
+  abbrev kindOf : lists.Kind → Bool
+  kindOf k = updateKind (shapeOf (s .shape)) (configurationOf c .memory) p k
+
+  abbrev heldUpdate : lists.Kind → Bool
+  heldUpdate k = held (shapeOf (s .shape)) (entriesOf f list n) (updateBefore (shapeOf (s .shape)) (configurationOf c) p k)
+
+  abbrev undoneHeld : Bool
+  undoneHeld = cond (kindOf undone) (heldUpdate undone) true
+
+  update-has : (k : lists.Kind) → kindOf k ≡ true → has (programOf f s) (configurationOf c) (Update p) k ≡ true
+  update-has k e = ap₂ _&&_ (lt-ltb p (s .shape .processes) exists) e
+
+  pub update-searched : (k : lists.Kind) → kindOf k ≡ true → {r : Cube} {h : Bool} → CubeFor r (updateBefore (shapeOf (s .shape)) (configurationOf c) p k)
+      → (Searchable f list sum n (s .shape) r → h ≡ held (shapeOf (s .shape)) (entriesOf f list n) (configurationOf r)) → h ≡ heldUpdate k
+  update-searched k i d y = searched f list sum n s c W (Update p) k (update-has k i) d y
+
+  pub update-fails : (k : lists.Kind) → kindOf k ≡ true → heldUpdate k ≡ false → false ≡ stepHeld (programOf f s) (entriesOf f list n) (configurationOf c) (Update p)
+  update-fails k i g = sym (step-false (programOf f s) (entriesOf f list n) (configurationOf c) (Update p) k (update-has k i) g)
+
+  pub undone-absent : getD (c .pointers) p 0 < 2 → true ≡ undoneHeld
+  undone-absent l = sym (ap (λ (b : Bool). cond b (heldUpdate undone) true) (le-ltb 1 (getD (c .pointers) p 0) (omega arith)))
+
+  pub undone-there : 2 ≤ getD (c .pointers) p 0 → {r : Cube} {h : Bool} → CubeFor r (updateBefore (shapeOf (s .shape)) (configurationOf c) p undone)
+      → (Searchable f list sum n (s .shape) r → h ≡ held (shapeOf (s .shape)) (entriesOf f list n) (configurationOf r)) → h ≡ undoneHeld
+  undone-there l d y =
+      let i = lt-ltb 1 (getD (c .pointers) p 0) (omega arith) in
+      update-searched undone i d y ∙ sym (ap (λ (b : Bool). cond b (heldUpdate undone) true) i)
+
+  pub undone-fails : undoneHeld ≡ false → false ≡ stepHeld (programOf f s) (entriesOf f list n) (configurationOf c) (Update p)
+  undone-fails g = at (kindOf undone) refl g
+    where
+      at : (b : Bool) → kindOf undone ≡ b → cond b (heldUpdate undone) true ≡ false → false ≡ stepHeld (programOf f s) (entriesOf f list n) (configurationOf c) (Update p)
+      at true i g = update-fails undone i g
+      at false i g = absurd (not-both refl g)
+
+  -- ---- the label r = i / 4, u = i % 4
+
+  label-number : (i : ℕ) → i < 16 → (i / 4 < 4) × (i % 4 < 4) × (4 * (i / 4) + i % 4 ≡ i)
+  label-number i l = (omega arith, omega arith, omega arith)
+
+  pub written-at : (ws : List ℕ) → LastWrites ws (configurationOf c .memory) → (i : ℕ) → i < 16 → getD ws i 0 ≡ lastWrite (configurationOf c .memory) (i / 4) (i % 4)
+  written-at ws g i l = let x = label-number i l in ap (λ (k : ℕ). getD ws k 0) (sym (x .2)) ∙ g (i / 4) (i % 4) (x .0) (x .1)
+
+  pub pointed-there : (r u : ℕ) → r < s .shape .processes → u < s .shape .variables → getD (c .pointers) p 0 ≤ lastWrite (configurationOf c .memory) r u → kindOf (pointed r u) ≡ true
+  pointed-there r u a b d =
+      ap₂ _&&_ (ap₂ _&&_ (lt-ltb r (s .shape .processes) a) (lt-ltb u (s .shape .variables) b)) (le-leb (getD (c .pointers) p 0) (lastWrite (configurationOf c .memory) r u) d)
+
+  pub pointed-parts : (r u : ℕ) → kindOf (pointed r u) ≡ true
+      → (r < s .shape .processes) × (u < s .shape .variables) × (getD (c .pointers) p 0 ≤ lastWrite (configurationOf c .memory) r u)
+  pointed-parts r u e =
+      let l = leb (getD (c .pointers) p 0) (lastWrite (configurationOf c .memory) r u) in
+      let a = and-true (ltb r (s .shape .processes) && ltb u (s .shape .variables)) l e in
+      let b = and-true (ltb r (s .shape .processes)) (ltb u (s .shape .variables)) (a .0) in
+      (ltb-true r (s .shape .processes) (b .0), ltb-true u (s .shape .variables) (b .1), leb-true (getD (c .pointers) p 0) (lastWrite (configurationOf c .memory) r u) (a .1))
+
+  abbrev pub pointedHeld : ℕ → Bool
+  pointedHeld i = cond (kindOf (pointed (i / 4) (i % 4))) (heldUpdate (pointed (i / 4) (i % 4))) true
+
+  no-label : (i : ℕ) → (kindOf (pointed (i / 4) (i % 4)) ≡ true → ⊥) → true ≡ pointedHeld i
+  no-label i z = at (kindOf (pointed (i / 4) (i % 4))) z
+    where
+      at : (b : Bool) → (b ≡ true → ⊥) → true ≡ cond b (heldUpdate (pointed (i / 4) (i % 4))) true
+      at true z = absurd (z refl)
+      at false z = refl
+
+  pub no-process : (i : ℕ) → s .shape .processes ≤ i / 4 → true ≡ pointedHeld i
+  no-process i l = no-label i (λ e. omega (arith, pointed-parts (i / 4) (i % 4) e .0))
+
+  pub no-variable : (i : ℕ) → s .shape .variables ≤ i % 4 → true ≡ pointedHeld i
+  no-variable i l = no-label i (λ e. omega (arith, pointed-parts (i / 4) (i % 4) e .1))
+
+  pub no-message : (ws : List ℕ) → LastWrites ws (configurationOf c .memory) → (i : ℕ) → i < 16 → getD ws i 0 < getD (c .pointers) p 0 → true ≡ pointedHeld i
+  no-message ws g i l a = no-label i (λ e. omega (arith, pointed-parts (i / 4) (i % 4) e .2, written-at ws g i l))
+
+  pub pointed-searched : (ws : List ℕ) → LastWrites ws (configurationOf c .memory) → (i : ℕ) → i < 16 → i / 4 < s .shape .processes → i % 4 < s .shape .variables → getD (c .pointers) p 0 ≤ getD ws i 0
+      → {r : Cube} {h : Bool} → CubeFor r (updateBefore (shapeOf (s .shape)) (configurationOf c) p (pointed (i / 4) (i % 4)))
+      → (Searchable f list sum n (s .shape) r → h ≡ held (shapeOf (s .shape)) (entriesOf f list n) (configurationOf r)) → h ≡ pointedHeld i
+  pointed-searched ws g i l a b d x y =
+      let k = pointed-there (i / 4) (i % 4) a b (omega (arith, written-at ws g i l)) in
+      update-searched (pointed (i / 4) (i % 4)) k x y ∙ sym (ap (λ (t : Bool). cond t (heldUpdate (pointed (i / 4) (i % 4))) true) k)
+
+  pub pointed-fails : (i : ℕ) → pointedHeld i ≡ false → false ≡ stepHeld (programOf f s) (entriesOf f list n) (configurationOf c) (Update p)
+  pointed-fails i z = at (kindOf (pointed (i / 4) (i % 4))) refl z
+    where
+      at : (b : Bool) → kindOf (pointed (i / 4) (i % 4)) ≡ b → cond b (heldUpdate (pointed (i / 4) (i % 4))) true ≡ false
+          → false ≡ stepHeld (programOf f s) (entriesOf f list n) (configurationOf c) (Update p)
+      at true e z = update-fails (pointed (i / 4) (i % 4)) e z
+      at false e z = absurd (not-both refl z)
+
+  pub update-all : undoneHeld ≡ true → ((i : ℕ) → i < 16 → pointedHeld i ≡ true) → true ≡ stepHeld (programOf f s) (entriesOf f list n) (configurationOf c) (Update p)
+  update-all g t =
+      sym (step-true (programOf f s) (entriesOf f list n) (configurationOf c) (Update p) (λ k h. at k (and-true (ltb p (s .shape .processes)) (kindOf k) h .1)))
+    where
+      at : (k : lists.Kind) → kindOf k ≡ true → heldUpdate k ≡ true
+      at undone e = sym (ap (λ (b : Bool). cond b (heldUpdate undone) true) e) ∙ g
+      at waited e = absurd (not-both e refl)
+      at (inside k) e = absurd (not-both e refl)
+      at (onTop u) e = absurd (not-both e refl)
+      at (pointed r u) e =
+          let w = pointed-parts r u e in
+          let a : r < 4 = omega (arith, w .0, W .stepping .sound .processes) in
+          let b : u < 4 = omega (arith, w .1, W .stepping .sound .variables) in
+          let y : (4 * r + u) / 4 ≡ r = omega arith in
+          let z : (4 * r + u) % 4 ≡ u = omega arith in
+          sym (ap (λ (b : Bool). cond b (heldUpdate (pointed r u)) true) e) ∙ ap₂ (λ (r u : ℕ). cond (kindOf (pointed r u)) (heldUpdate (pointed r u)) true) (sym y) (sym z) ∙ t (4 * r + u) (omega arith)

@@ -1,0 +1,38 @@
+use Prim.Native.Nat.{ℕ, _+_, _<_, _≤_, min}
+use mathlib.Core.Path.{_≡_, sym, subst}
+use Rattle.pws.specs.declared.Step.{Step}
+use Rattle.records.specs.ProgramPart.{programOf}
+use Rattle.reading.specs.Cube.{configurationOf}
+use Rattle.contents.specs.Again.{entriesOf}
+use Rattle.before.proofs.MessageLaws.{all-messages}
+use Rattle.closing.specs.Walk.{stepHeld, stepAt, LowestFailing}
+use Rattle.closing.proofs.WalkLaws.{walk-take, walk-serialise, walk-update}
+use native.Mathlib.Omega.{arith}
+use borrow.Author.Needs.{needs}
+use Rattle.closing.proofs.cube_open.Statement.{statement}
+use Rattle.closing.proofs.cube_open.Tie as tie
+
+pub cube-open-spec : {M : Type 1} → statement M
+cube-open-spec = tie.close (tie.spec
+    -- least-requires
+    (λ c κs. search needs)
+    -- last-writes-requires
+    (λ c κs. search needs)
+    -- open-take-requires
+    (λ c κs. search needs)
+    -- returns
+    (λ c. λ W. walk-take (stepHeld (programOf (c .before .before .before .before .before .before .before .before .args .file .now) (c .before .before .before .before .before .before .before .before .args .program)) (entriesOf (c .before .before .before .before .before .before .before .before .args .file .now) (c .before .before .before .before .before .before .before .before .args .list .now) (c .before .before .before .before .before .before .before .before .args .n)) (configurationOf (c .before .before .before .before .before .before .before .before .args .cube))) (min ((c .before .before .before .before .before .before .before .before .args .program) .transitions .count) 256) (c .before .open-take .ensures .1 W (all-messages (W .stepping .sound) (c .before .before .last-writes .result) (c .before .before .last-writes .ensures))) (omega (arith, c .if1 .taken, c .before .before .before .least .ensures)))
+    -- open-serialise-requires
+    (λ c κs. search needs)
+    -- add-result
+    (λ c. omega (arith, c .before .before .before .before .before .least .ensures, c .if2 .taken))
+    -- returns-2
+    (λ c. λ W. rw (c .before .before .before .before .before .least .ensures) (walk-serialise (stepHeld (programOf (c .before .before .before .before .before .before .before .before .before .before .args .file .now) (c .before .before .before .before .before .before .before .before .before .before .args .program)) (entriesOf (c .before .before .before .before .before .before .before .before .before .before .args .file .now) (c .before .before .before .before .before .before .before .before .before .before .args .list .now) (c .before .before .before .before .before .before .before .before .before .before .args .n)) (configurationOf (c .before .before .before .before .before .before .before .before .before .before .args .cube))) (min ((c .before .before .before .before .before .before .before .before .before .before .args .program) .transitions .count) 256) (c .before .before .before .open-take .ensures .1 W (all-messages (W .stepping .sound) (c .before .before .before .before .last-writes .result) (c .before .before .before .before .last-writes .ensures))) (omega (arith, c .before .before .if1 .left, c .before .before .before .before .before .least .ensures)) (c .before .open-serialise .ensures .1 W) (c .if2 .taken)))
+    -- open-update-requires
+    (λ c κs. search needs)
+    -- add-result-2
+    (λ c. omega (arith, c .before .before .before .before .before .before .least .ensures))
+    -- add-result-3
+    (λ c. omega (arith, c .before .before .before .before .before .before .least .ensures, c .open-update .ensures .0))
+    -- returns-3
+    (λ c. λ W. let g = all-messages (W .stepping .sound) (c .before .before .before .before .before .last-writes .result) (c .before .before .before .before .before .last-writes .ensures) in rw (c .before .before .before .before .before .before .least .ensures) (walk-update (stepHeld (programOf (c .before .before .before .before .before .before .before .before .before .before .before .args .file .now) (c .before .before .before .before .before .before .before .before .before .before .before .args .program)) (entriesOf (c .before .before .before .before .before .before .before .before .before .before .before .args .file .now) (c .before .before .before .before .before .before .before .before .before .before .before .args .list .now) (c .before .before .before .before .before .before .before .before .before .before .before .args .n)) (configurationOf (c .before .before .before .before .before .before .before .before .before .before .before .args .cube))) (min ((c .before .before .before .before .before .before .before .before .before .before .before .args .program) .transitions .count) 256) (c .before .before .before .before .open-take .ensures .1 W g) (omega (arith, c .before .before .before .if1 .left, c .before .before .before .before .before .before .least .ensures)) (c .before .before .open-serialise .ensures .1 W) (omega (arith, c .before .if2 .left)) (c .open-update .ensures .1 W g))))

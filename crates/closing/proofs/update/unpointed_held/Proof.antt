@@ -1,0 +1,18 @@
+use Rattle.closing.proofs.UpdateLaws.{undone-absent, undone-there}
+use native.Mathlib.Omega.{arith}
+use borrow.Author.Needs.{needs}
+use Rattle.closing.proofs.update.unpointed_held.Statement.{statement}
+use Rattle.closing.proofs.update.unpointed_held.Tie as tie
+
+pub unpointed-held-spec : {M : Type 1} → statement M
+unpointed-held-spec = tie.close (tie.spec
+    -- of-four-requires
+    (λ c κs. search needs)
+    -- returns
+    (λ c. λ W l. undone-absent (c .before .before .before .before .before .before .before .args .file .now) (c .before .before .before .before .before .before .before .args .list .now) (c .before .before .before .before .before .before .before .args .sum .now) (c .before .before .before .before .before .before .before .args .n) (c .before .before .before .before .before .before .before .args .program) (c .before .before .before .before .before .before .before .args .cube) W (c .before .before .before .before .before .before .before .args .p) l (omega (arith, c .before .of-four .ensures, c .if1 .taken)))
+    -- before-update-requires
+    (λ c κs. search needs)
+    -- search-requires
+    (λ c κs. search needs)
+    -- returns-2
+    (λ c. λ W l. undone-there (c .before .before .before .before .before .before .before .before .before .args .file .now) (c .before .before .before .before .before .before .before .before .before .args .list .now) (c .before .before .before .before .before .before .before .before .before .args .sum .now) (c .before .before .before .before .before .before .before .before .before .args .n) (c .before .before .before .before .before .before .before .before .before .args .program) (c .before .before .before .before .before .before .before .before .before .args .cube) W (c .before .before .before .before .before .before .before .before .before .args .p) l (omega (arith, c .before .before .before .of-four .ensures, c .before .before .if1 .left)) (c .before .before-update .ensures ((c .before .before .before .before .before .before .before .before .before .args .program) .shape) (W .stepping .sound) l) (c .search .ensures)))

@@ -1,0 +1,135 @@
+// The predecessor cubes of an entry for a serialise. Only the newest message's own label has any.
+ghost use mathlib.Core.Path.{_≡_};
+ghost use mathlib.Core.Bool.{true, cond};
+ghost use Prim.Native.Nat.{ℕ, _≤_, _<_};
+ghost use Rattle.pws.specs.declared.Step.the-variants.{Serialise};
+ghost use lib.Dec.{ltb};
+ghost use Rattle.pws.specs.Machine.{allBelow, labelled, lastWrite};
+ghost use Rattle.lists.specs.Cubes.{topmost};
+ghost use Rattle.lists.specs.Predecessors.{withoutNewest, serialiseKind, undone, inside};
+ghost use Rattle.lists.specs.Decision.{held};
+ghost use Rattle.records.specs.ProgramPart.{shapeOf, programOf};
+ghost use Rattle.reading.specs.Cube.{configurationOf};
+ghost use Rattle.contents.specs.Again.{entriesOf};
+ghost use Rattle.before.specs.Before.{serialiseBefore};
+ghost use Rattle.closing.specs.Walk.{stepHeld, Walkable, Serialising};
+use before::messages::older_write;
+use before::newest::alike_before;
+use before::newest::newest;
+use before::serialise::before_serialise;
+use before::serialise::before_serialise_inside;
+use before::serialise::before_serialise_on_top;
+use before::serialise::may_serialise;
+use cover::search::search;
+use matching::least;
+use reading::entry::Cube;
+use reading::evidence::pair_exists;
+use records::program::Program;
+
+// With message k inside, which is past LastWrite: if there is such a cube, it is held.
+fn inside_held(
+    file: &[u8],
+    list: &[u8],
+    sum: &[u8],
+    n: usize,
+    program: Program,
+    cube: Cube,
+    p: u8,
+    v: u8,
+    last: usize,
+    k: u8,
+) -> bool
+    ensures { λ r. ⌜ (Serialising (now (file .entry)) (now (list .entry)) (now (sum .entry)) n program cube p v → serialiseKind (configurationOf cube .memory) p v undone ≡ true → last ≡ lastWrite (withoutNewest (configurationOf cube .memory)) p v → k < cube .count → r ≡ cond (ltb last k) (held (shapeOf (program .shape)) (entriesOf (now (file .entry)) (now (list .entry)) n) (serialiseBefore (shapeOf (program .shape)) (configurationOf cube) p v (inside k))) true) ⌝ }
+{
+    let shape = program.shape;
+    if (k as usize) <= last {
+        return true;
+    }
+    search(
+        file,
+        list,
+        sum,
+        n,
+        shape,
+        before_serialise_inside(shape, cube, p, v, k),
+    )
+}
+
+fn insides_held(
+    file: &[u8],
+    list: &[u8],
+    sum: &[u8],
+    n: usize,
+    program: Program,
+    cube: Cube,
+    p: u8,
+    v: u8,
+) -> bool
+    ensures { λ r. ⌜ (Serialising (now (file .entry)) (now (list .entry)) (now (sum .entry)) n program cube p v → serialiseKind (configurationOf cube .memory) p v undone ≡ true → r ≡ allBelow (cube .count) (λ k. cond (ltb (lastWrite (withoutNewest (configurationOf cube .memory)) p v) k) (held (shapeOf (program .shape)) (entriesOf (now (file .entry)) (now (list .entry)) n) (serialiseBefore (shapeOf (program .shape)) (configurationOf cube) p v (inside k))) true)) ⌝ }
+{
+    let last = older_write(cube, p as usize, v as usize);
+    let count = least(cube.count, 20);
+    for k in 0..count {
+        if !inside_held(file, list, sum, n, program, cube, p, v, last, k as u8) {
+            return false;
+        }
+    }
+    true
+}
+
+// Are all predecessor cubes for a serialise of the newest message's label held?
+fn label_held(
+    file: &[u8],
+    list: &[u8],
+    sum: &[u8],
+    n: usize,
+    program: Program,
+    cube: Cube,
+    p: u8,
+    v: u8,
+) -> bool
+    ensures { λ r. ⌜ (Serialising (now (file .entry)) (now (list .entry)) (now (sum .entry)) n program cube p v → r ≡ stepHeld (programOf (now (file .entry)) program) (entriesOf (now (file .entry)) (now (list .entry)) n) (configurationOf cube) (Serialise p v)) ⌝ }
+{
+    let shape = program.shape;
+    if !search(
+        file,
+        list,
+        sum,
+        n,
+        shape,
+        before_serialise_on_top(cube, p, v),
+    ) {
+        return false;
+    }
+    if !alike_before(cube, v as usize, 255) {
+        return true;
+    }
+    if !search(file, list, sum, n, shape, before_serialise(cube, p, v)) {
+        return false;
+    }
+    insides_held(file, list, sum, n, program, cube, p, v)
+}
+
+// Are they for any label? The answer is about the newest message's own; the others have no cubes.
+pub(crate) fn serialised_held(
+    file: &[u8],
+    list: &[u8],
+    sum: &[u8],
+    n: usize,
+    program: Program,
+    cube: Cube,
+) -> bool
+    ensures { λ r. ⌜ (Walkable (now (file .entry)) (now (list .entry)) (now (sum .entry)) n program cube → (p v : ℕ) → stepHeld (programOf (now (file .entry)) program) (entriesOf (now (file .entry)) (now (list .entry)) n) (configurationOf cube) (Serialise p v) ≡ cond (labelled (topmost (configurationOf cube .memory .channel)) p v) r true) ⌝ }
+{
+    let shape = program.shape;
+    if !may_serialise(shape, cube) {
+        return true;
+    }
+    let message = newest(cube);
+    let p = message.process;
+    let v = message.variable;
+    if !pair_exists(shape, p, v) {
+        return true;
+    }
+    label_held(file, list, sum, n, program, cube, p, v)
+}

@@ -1,0 +1,309 @@
+// The predecessor cubes of an entry for a transition whose end is the entry's local state, by its operation.
+ghost use mathlib.Core.Path.{_≡_};
+ghost use mathlib.Core.Bool.{true, cond, _&&_};
+ghost use Prim.Native.Nat.{ℕ, _≤_, _<_};
+ghost use lib.ListN.{length};
+ghost use Rattle.pws.specs.declared.Operation.the-variants.{Nop, Read, Write, Mfence, Sfence, Arw};
+ghost use Rattle.pws.specs.declared.Step.the-variants.{Take};
+ghost use Rattle.pws.specs.Machine.{isEmpty};
+ghost use Rattle.lists.specs.Predecessors as lists;
+ghost use Rattle.lists.specs.Decision.{held};
+ghost use Rattle.records.specs.ProgramPart.{shapeOf, programOf};
+ghost use Rattle.reading.specs.Cube.{configurationOf};
+ghost use Rattle.contents.specs.Again.{entriesOf};
+ghost use Rattle.before.specs.Before.{LastWrites, takeBefore};
+ghost use Rattle.closing.specs.Walk.{stepHeld, Walkable, Acting, TakenHeld};
+use before::newest::alike_before;
+use before::newest::at_newest;
+use before::operations::before_arw;
+use before::operations::before_arw_on_top;
+use before::operations::before_nop;
+use before::operations::before_read;
+use before::operations::before_write;
+use before::operations::before_write_waited;
+use before::operations::may_read;
+use before::operations::may_swap;
+use before::operations::may_write;
+use before::queues::none_waiting;
+use contents::transition_of;
+use cover::search::search;
+use matching::least;
+use pws::Operation;
+use reading::entry::Cube;
+use records::bytes::both;
+use records::program::Program;
+use records::program::of_four;
+
+fn nop_held(
+    file: &[u8],
+    list: &[u8],
+    sum: &[u8],
+    n: usize,
+    program: Program,
+    cube: Cube,
+    p: usize,
+    from: u8,
+) -> bool
+    ensures { λ r. ⌜ TakenHeld (now (file .entry)) (now (list .entry)) (now (sum .entry)) n program cube p from Nop r ⌝ }
+{
+    let shape = program.shape;
+    search(file, list, sum, n, shape, before_nop(cube, p, from))
+}
+
+fn mfence_held(
+    file: &[u8],
+    list: &[u8],
+    sum: &[u8],
+    n: usize,
+    program: Program,
+    cube: Cube,
+    p: usize,
+    from: u8,
+) -> bool
+    ensures { λ r. ⌜ TakenHeld (now (file .entry)) (now (list .entry)) (now (sum .entry)) n program cube p from Mfence r ⌝ }
+{
+    let shape = program.shape;
+    if !both(none_waiting(shape, cube, p), at_newest(cube, p)) {
+        return true;
+    }
+    search(file, list, sum, n, shape, before_nop(cube, p, from))
+}
+
+fn sfence_held(
+    file: &[u8],
+    list: &[u8],
+    sum: &[u8],
+    n: usize,
+    program: Program,
+    cube: Cube,
+    p: usize,
+    from: u8,
+) -> bool
+    ensures { λ r. ⌜ TakenHeld (now (file .entry)) (now (list .entry)) (now (sum .entry)) n program cube p from Sfence r ⌝ }
+{
+    let shape = program.shape;
+    if !none_waiting(shape, cube, p) {
+        return true;
+    }
+    search(file, list, sum, n, shape, before_nop(cube, p, from))
+}
+
+fn read_held(
+    file: &[u8],
+    list: &[u8],
+    sum: &[u8],
+    n: usize,
+    program: Program,
+    cube: Cube,
+    writes: [u8; 16],
+    p: usize,
+    from: u8,
+    v: usize,
+    x: u8,
+) -> bool
+    ensures { λ r. ⌜ (LastWrites writes (configurationOf cube .memory) → TakenHeld (now (file .entry)) (now (list .entry)) (now (sum .entry)) n program cube p from (Read v x) r) ⌝ }
+{
+    let shape = program.shape;
+    if !may_read(cube, writes, p, v, x) {
+        return true;
+    }
+    search(
+        file,
+        list,
+        sum,
+        n,
+        shape,
+        before_read(cube, writes, p, from, v, x),
+    )
+}
+
+fn write_held(
+    file: &[u8],
+    list: &[u8],
+    sum: &[u8],
+    n: usize,
+    program: Program,
+    cube: Cube,
+    p: usize,
+    from: u8,
+    v: usize,
+    x: u8,
+) -> bool
+    ensures { λ r. ⌜ TakenHeld (now (file .entry)) (now (list .entry)) (now (sum .entry)) n program cube p from (Write v x) r ⌝ }
+{
+    let shape = program.shape;
+    if !may_write(cube, p, v, x) {
+        return true;
+    }
+    let undone = search(file, list, sum, n, shape, before_write(cube, p, from, v));
+    let waited = search(
+        file,
+        list,
+        sum,
+        n,
+        shape,
+        before_write_waited(cube, p, from, v),
+    );
+    both(undone, waited)
+}
+
+// Before an arw, with nothing beside: if there is such a cube, it is held.
+fn unswapped_held(
+    file: &[u8],
+    list: &[u8],
+    sum: &[u8],
+    n: usize,
+    program: Program,
+    cube: Cube,
+    p: usize,
+    from: u8,
+    v: usize,
+    old: u8,
+    x: u8,
+) -> bool
+    ensures { λ r. ⌜ (Walkable (now (file .entry)) (now (list .entry)) (now (sum .entry)) n program cube → (j : ℕ) → Acting (programOf (now (file .entry)) program) (configurationOf cube) j p from (Arw v old x) → (isEmpty (configurationOf cube .queue p v) && lists.swapped (shapeOf (program .shape)) (configurationOf cube .memory) p v x) ≡ true → r ≡ cond (lists.arwKind (shapeOf (program .shape)) (configurationOf cube .memory) v old lists.undone) (held (shapeOf (program .shape)) (entriesOf (now (file .entry)) (now (list .entry)) n) (takeBefore (configurationOf cube) p from (Arw v old x) lists.undone)) true) ⌝ }
+{
+    let shape = program.shape;
+    if !alike_before(cube, v, old) {
+        return true;
+    }
+    search(file, list, sum, n, shape, before_arw(cube, p, from, v, old))
+}
+
+// With the newest message for u.
+fn on_top_held(
+    file: &[u8],
+    list: &[u8],
+    sum: &[u8],
+    n: usize,
+    program: Program,
+    cube: Cube,
+    p: usize,
+    from: u8,
+    v: usize,
+    old: u8,
+    x: u8,
+    u: u8,
+) -> bool
+    ensures { λ r. ⌜ (Walkable (now (file .entry)) (now (list .entry)) (now (sum .entry)) n program cube → (j : ℕ) → Acting (programOf (now (file .entry)) program) (configurationOf cube) j p from (Arw v old x) → (isEmpty (configurationOf cube .queue p v) && lists.swapped (shapeOf (program .shape)) (configurationOf cube .memory) p v x) ≡ true → u < program .shape .variables → r ≡ held (shapeOf (program .shape)) (entriesOf (now (file .entry)) (now (list .entry)) n) (takeBefore (configurationOf cube) p from (Arw v old x) (lists.onTop u))) ⌝ }
+{
+    let shape = program.shape;
+    search(
+        file,
+        list,
+        sum,
+        n,
+        shape,
+        before_arw_on_top(cube, p, from, v, old, u),
+    )
+}
+
+fn arw_held(
+    file: &[u8],
+    list: &[u8],
+    sum: &[u8],
+    n: usize,
+    program: Program,
+    cube: Cube,
+    p: usize,
+    from: u8,
+    v: usize,
+    old: u8,
+    x: u8,
+) -> bool
+    ensures { λ r. ⌜ TakenHeld (now (file .entry)) (now (list .entry)) (now (sum .entry)) n program cube p from (Arw v old x) r ⌝ }
+{
+    let shape = program.shape;
+    if !may_swap(shape, cube, p, v, x) {
+        return true;
+    }
+    if !unswapped_held(file, list, sum, n, program, cube, p, from, v, old, x) {
+        return false;
+    }
+    let m = least(shape.variables, 4);
+    for u in 0..m {
+        if !on_top_held(
+            file,
+            list,
+            sum,
+            n,
+            program,
+            cube,
+            p,
+            from,
+            v,
+            old,
+            x,
+            u as u8,
+        ) {
+            return false;
+        }
+    }
+    true
+}
+
+// Are all predecessor cubes for transition j held?
+pub(crate) fn taken_held(
+    file: &[u8],
+    list: &[u8],
+    sum: &[u8],
+    n: usize,
+    program: Program,
+    cube: Cube,
+    writes: [u8; 16],
+    j: usize,
+) -> bool
+    ensures { λ r. ⌜ (Walkable (now (file .entry)) (now (list .entry)) (now (sum .entry)) n program cube → LastWrites writes (configurationOf cube .memory) → j < program .transitions .count → r ≡ stepHeld (programOf (now (file .entry)) program) (entriesOf (now (file .entry)) (now (list .entry)) n) (configurationOf cube) (Take j)) ⌝ }
+{
+    let transition = transition_of(file, program, j);
+    let p = transition.process;
+    let from = transition.from;
+    let operation = transition.operation;
+    let states = cube.states;
+    if of_four(states, p) != transition.to {
+        return true;
+    }
+    match operation {
+        Operation::Nop => nop_held(file, list, sum, n, program, cube, p, from),
+        Operation::Read { variable, value } => read_held(
+            file,
+            list,
+            sum,
+            n,
+            program,
+            cube,
+            writes,
+            p,
+            from,
+            variable,
+            value,
+        ),
+        Operation::Write { variable, value } => write_held(
+            file,
+            list,
+            sum,
+            n,
+            program,
+            cube,
+            p,
+            from,
+            variable,
+            value,
+        ),
+        Operation::Mfence => mfence_held(file, list, sum, n, program, cube, p, from),
+        Operation::Sfence => sfence_held(file, list, sum, n, program, cube, p, from),
+        Operation::Arw { variable, old, new } => arw_held(
+            file,
+            list,
+            sum,
+            n,
+            program,
+            cube,
+            p,
+            from,
+            variable,
+            old,
+            new,
+        ),
+    }
+}

@@ -1,0 +1,102 @@
+// The predecessor cubes of an entry for an update.
+ghost use mathlib.Core.Path.{_≡_};
+ghost use mathlib.Core.Bool.{true, cond};
+ghost use Prim.Native.Nat.{ℕ, _+_, _*_, _/_, _%_, _≤_, _<_};
+ghost use Rattle.pws.specs.declared.Step.the-variants.{Update};
+ghost use Rattle.lists.specs.Predecessors as lists;
+ghost use Rattle.lists.specs.Decision.{held};
+ghost use Rattle.records.specs.ProgramPart.{shapeOf, programOf};
+ghost use Rattle.reading.specs.Cube.{configurationOf};
+ghost use Rattle.contents.specs.Again.{entriesOf};
+ghost use Rattle.before.specs.Before.{LastWrites, updateBefore};
+ghost use Rattle.closing.specs.Walk.{stepHeld, Walkable};
+use before::update::before_update;
+use before::update::before_update_pointed;
+use cover::search::search;
+use reading::entry::Cube;
+use records::program::Program;
+use records::program::of_four;
+
+// With nothing beside: if there is such a cube, it is held.
+fn unpointed_held(
+    file: &[u8],
+    list: &[u8],
+    sum: &[u8],
+    n: usize,
+    program: Program,
+    cube: Cube,
+    p: usize,
+) -> bool
+    ensures { λ r. ⌜ (Walkable (now (file .entry)) (now (list .entry)) (now (sum .entry)) n program cube → p < program .shape .processes → r ≡ cond (lists.updateKind (shapeOf (program .shape)) (configurationOf cube .memory) p lists.undone) (held (shapeOf (program .shape)) (entriesOf (now (file .entry)) (now (list .entry)) n) (updateBefore (shapeOf (program .shape)) (configurationOf cube) p lists.undone)) true) ⌝ }
+{
+    let shape = program.shape;
+    let pointers = cube.pointers;
+    if of_four(pointers, p) < 2 {
+        return true;
+    }
+    search(file, list, sum, n, shape, before_update(cube, p))
+}
+
+// With the message that p pointed at, of the label i / 4 and i % 4, whose LastWrite is at its pointer or past it.
+fn pointed_held(
+    file: &[u8],
+    list: &[u8],
+    sum: &[u8],
+    n: usize,
+    program: Program,
+    cube: Cube,
+    writes: [u8; 16],
+    p: usize,
+    i: usize,
+) -> bool
+    ensures { λ r. ⌜ (Walkable (now (file .entry)) (now (list .entry)) (now (sum .entry)) n program cube → LastWrites writes (configurationOf cube .memory) → p < program .shape .processes → i < 16 → r ≡ cond (lists.updateKind (shapeOf (program .shape)) (configurationOf cube .memory) p (lists.pointed (i / 4) (i % 4))) (held (shapeOf (program .shape)) (entriesOf (now (file .entry)) (now (list .entry)) n) (updateBefore (shapeOf (program .shape)) (configurationOf cube) p (lists.pointed (i / 4) (i % 4)))) true) ⌝ }
+{
+    let shape = program.shape;
+    if 16 <= i {
+        return true;
+    }
+    let r = i / 4;
+    let u = i % 4;
+    if shape.processes <= r {
+        return true;
+    }
+    if shape.variables <= u {
+        return true;
+    }
+    let pointers = cube.pointers;
+    if writes[i] < of_four(pointers, p) {
+        return true;
+    }
+    search(
+        file,
+        list,
+        sum,
+        n,
+        shape,
+        before_update_pointed(shape, cube, p, r as u8, u as u8),
+    )
+}
+
+// Are all predecessor cubes for an update of p held?
+pub(crate) fn updated_held(
+    file: &[u8],
+    list: &[u8],
+    sum: &[u8],
+    n: usize,
+    program: Program,
+    cube: Cube,
+    writes: [u8; 16],
+    p: usize,
+) -> bool
+    ensures { λ r. ⌜ (Walkable (now (file .entry)) (now (list .entry)) (now (sum .entry)) n program cube → LastWrites writes (configurationOf cube .memory) → p < program .shape .processes → r ≡ stepHeld (programOf (now (file .entry)) program) (entriesOf (now (file .entry)) (now (list .entry)) n) (configurationOf cube) (Update p)) ⌝ }
+{
+    if !unpointed_held(file, list, sum, n, program, cube, p) {
+        return false;
+    }
+    for i in 0..16 {
+        if !pointed_held(file, list, sum, n, program, cube, writes, p, i) {
+            return false;
+        }
+    }
+    true
+}
