@@ -9,7 +9,7 @@ use records::bytes::both;
 use records::bytes::byte_at;
 use records::bytes::field;
 use records::bytes::wide;
-use records::program::is_kind;
+use records::record::is_kind;
 
 // Waiting values, oldest first.
 pub struct Queue {

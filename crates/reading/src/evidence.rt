@@ -21,15 +21,15 @@ use records::program::Program;
 use records::program::Refusal;
 use records::program::Row;
 use records::program::Shape;
-use records::program::answer;
-use records::program::first_number;
-use records::program::is_kind;
 use records::program::read_program;
 use records::program::refusal_of;
-use records::program::state_names;
 use records::program::stop_of;
 use records::program::unless_end;
 use records::program::value_count;
+use records::record::answer;
+use records::record::first_number;
+use records::record::is_kind;
+use records::record::state_names;
 
 pub fn either(a: bool, b: bool) -> bool
     ensures { λ r. ⌜ r ≡ (a || b) ⌝ }

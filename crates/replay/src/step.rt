@@ -22,7 +22,7 @@ use records::bytes::wide;
 use records::program::Row;
 use records::program::Shape;
 use records::program::of_four;
-use records::program::transition_at;
+use records::record::transition_at;
 
 // Why the machine refuses a step, in the order in which it is tested: the process is in another local state; a queue is not empty; the
 // pointer is not at the newest message; another value is there; there is nothing to serialise, or no newer message.
