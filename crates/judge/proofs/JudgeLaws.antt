@@ -10,7 +10,7 @@ use Rattle.records.specs.declared.program.Checked.the-variants.{Fine, Refused}
 use Rattle.records.specs.declared.program.Program.{Program}
 use Rattle.reading.specs.declared.evidence.Reading.{Reading}
 use Rattle.records.specs.ProgramPart.{refusalOf, programOf, targetsOf}
-use Rattle.reading.specs.EvidencePart.{stepsOf, allowed}
+use Rattle.reading.specs.EvidencePart.{stepsOf, entriesAllowed}
 use Rattle.reading.specs.Cube.{configurationOf}
 use Rattle.reading.specs.Reading as reading
 use Rattle.contents.specs.Again.{cubeAt, entriesOf}
@@ -53,7 +53,7 @@ module _ (f w : List ℕ) (R : Reading) (r : R ≡ reading.readingOf (reading.pa
       ap (λ (z : Refusal). refused (z .number) (z .place)) (e ∙ ap refusalOf q) ∙ judged-of (reading.refused x) (reading-refused f w R r x q)
 
   module _ (q : R .answer ≡ Fine) where
-    module _ (work : List ℕ) (e : work ≡ reading.areaAfter (reading.partsOf f (length w)) w) (c : R .contents .claim ≡ 0) (list : List ℕ) (d : list ≡ drop 16384 work) where
+    module _ (work : List ℕ) (e : work ≡ reading.areaRead (reading.partsOf f (length w)) w) (c : R .contents .claim ≡ 0) (list : List ℕ) (d : list ≡ drop 16384 work) where
       entries-length : length (entriesOf f (drop 16384 work) n) ≡ n
       entries-length = table-length (λ i. configurationOf (cubeAt f (drop 16384 work) i)) 0 n
 
@@ -64,7 +64,7 @@ module _ (f w : List ℕ) (R : Reading) (r : R ≡ reading.readingOf (reading.pa
           record {
             sizes = reading-sizes f w R r q;
             part = L .part;
-            count = omega (arith, reading-count f w R r q work e c, few (allowed (length w)) (length w) refl);
+            count = omega (arith, reading-count f w R r q work e c, few (entriesAllowed (length w)) (length w) refl);
             entries = λ k l. L .entries k (omega (arith, entries-length));
             cubes = reading-cube f w R r q work e c;
           })

@@ -7,7 +7,7 @@ use lib.Dec.{ltb}
 use Rattle.lists.specs.Verdict as lists
 use Rattle.lists.specs.Decision as decision
 use Rattle.records.specs.Bytes.{choose}
-use Rattle.reading.specs.EvidencePart.{allowed}
+use Rattle.reading.specs.EvidencePart.{entriesAllowed}
 use Rattle.reading.specs.Reading as reading
 use Rattle.replay.specs.Replay as runs
 
@@ -58,7 +58,7 @@ judged f area = ofFile (reading.readFile f area)
 
 -- the first 16,384 bytes, and four for each entry allowed
 unfoldable pub usedOf : ℕ → ℕ
-usedOf area = 16384 + 4 * allowed area
+usedOf area = 16384 + 4 * entriesAllowed area
 
 -- these are 0 and the rest is untouched; after 8 all of it is
 unfoldable pub areaAfter : List ℕ → List ℕ

@@ -5,7 +5,7 @@ ghost use mathlib.Core.Path.{_≡_};
 ghost use Prim.Native.Nat.{_+_, _*_, _<_};
 ghost use lib.ListN.{getD, set};
 ghost use Rattle.replay.specs.Causes.{causeNumber, firstCause};
-ghost use Rattle.replay.specs.Layout.{moveOf, transitionIn, pointerOf, lastWriteOf, emptyIn, idleIn, noneWaitingIn, atNewestIn, seesIn, queueFitsIn, newestHasIn, maySerialiseIn, mayUpdateIn, appended, pointerFitsIn, valueFitsIn, takeAnswerIn, answerIn, statesAfter, messagesTaken, messagesAfter, advanced, headsAfter, tailsTaken, tailsAfter, runAfter, pointed, putLast, later, updated, rowsTaken, rowsAfter, areaTaken, areaAfter};
+ghost use Rattle.replay.specs.Layout.{moveOf, transitionIn, pointerOf, lastWriteOf, emptyIn, idleIn, noneWaitingIn, atNewestIn, seesIn, queueFitsIn, newestHasIn, maySerialiseIn, mayUpdateIn, appended, pointerFitsIn, valueFitsIn, takeAnswerIn, answerIn, statesAfter, messagesTaken, messagesAfter, advanced, headsAfter, tailsTaken, tailsAfter, runAfter, pointed, putLast, later, updated, rowsTaken, rowsAfter, lowerTaken, lowerAfter};
 use crate::area::next_number;
 use crate::area::put_snapshot;
 use crate::area::put_waiting;
@@ -535,7 +535,7 @@ pub fn append(lower: &mut [u8], messages: u16, v: usize, x: u8)
 }
 
 pub fn store_taken(lower: &mut [u8], run: Run, p: usize, operation: Operation)
-    ensures { λ _. ⌜ now (lower .exit) ≡ areaTaken (now (lower .entry)) run p operation ⌝ }
+    ensures { λ _. ⌜ now (lower .exit) ≡ lowerTaken (now (lower .entry)) run p operation ⌝ }
 {
     match operation {
         Operation::Nop => {}
@@ -555,7 +555,7 @@ pub fn store_taken(lower: &mut [u8], run: Run, p: usize, operation: Operation)
 
 // `run` is the small part before the step.
 pub fn store(lower: &mut [u8], run: Run, step: Move)
-    ensures { λ _. ⌜ now (lower .exit) ≡ areaAfter (now (lower .entry)) run step ⌝ }
+    ensures { λ _. ⌜ now (lower .exit) ≡ lowerAfter (now (lower .entry)) run step ⌝ }
 {
     match step {
         Move::Absent => {}
