@@ -19,6 +19,9 @@ use Rattle.contents.proofs.Rows.{steps-length}
 use Rattle.contents.proofs.Contents.{list-read, run-read}
 use Rattle.contents.proofs.Again.{reading-refused, reading-sizes, reading-run, reading-list, reading-count, reading-cube}
 use Rattle.replay.specs.declared.run.RunAnswer.{RunAnswer}
+use Rattle.replay.specs.declared.step.Cause.{Cause}
+use Rattle.replay.specs.declared.step.Cause.the-variants.{State, Queue, Pointer, Value, Nothing}
+use Rattle.replay.specs.Causes.{causeNumber}
 use Rattle.replay.specs.Answers.{verdictOfRun, RunOf}
 use Rattle.judge.specs.declared.answer.Answer.{Answer}
 use Rattle.judge.specs.declared.answer.Answer.the-variants.{Unread}
@@ -29,6 +32,14 @@ use Rattle.judge.specs.Ready.{Ready, listSaid}
 use Rattle.judge.proofs.AreaLaws.{few}
 use Rattle.judge.proofs.Numbers.{short-file}
 use Rattle.judge.proofs.Demands.{one-answer}
+
+-- today each cause has the number 12
+pub twelve : (cause : Cause) → causeNumber cause ≡ 12
+twelve State = refl
+twelve Queue = refl
+twelve Pointer = refl
+twelve Value = refl
+twelve Nothing = refl
 
 pub short-said : (f : List ℕ) (area : ℕ) → area < 32768 → refused 8 0 ≡ judged f area
 unfolding judged

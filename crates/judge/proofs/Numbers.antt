@@ -63,7 +63,7 @@ use Rattle.reading.specs.EvidencePart.{
   entryThen,
   entriesFrom,
 }
-use Rattle.reading.specs.Reading.{Evidence, refusal, entries, steps, claimThen, evidenceFrom, both, partsOf, FileRead, refused, list, run, listRead, partsRead, readFile}
+use Rattle.reading.specs.Reading.{Evidence, refusal, entries, steps, claimThen, evidenceFrom, twoParts, partsOf, FileRead, refused, list, run, listRead, partsRead, readFile}
 use Rattle.reading.proofs.ReadingLaws.{parts-short, parts-refused, parts-both}
 
 -- ---- what a refusal is
@@ -246,7 +246,7 @@ pub short-file : (f : List ℕ) (area : ℕ) → area < 32768 → readFile f are
 unfolding readFile
 short-file f area l = ap (partsRead f) (parts-short f area l)
 
-evidence-file : (f : List ℕ) (p : Program) (e : Evidence) → LowEvidence e → LowFile (partsRead f (both p e))
+evidence-file : (f : List ℕ) (p : Program) (e : Evidence) → LowEvidence e → LowFile (partsRead f (twoParts p e))
 evidence-file f p (refusal r) h = h
 evidence-file f p (entries r) h = go (r .answer) h
   where

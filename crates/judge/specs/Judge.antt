@@ -45,7 +45,7 @@ FileJudged (reading.run P ts ss) v = v ≡ ofRun (runs.runVerdict P ts ss)
 unfoldable pub Judged : List ℕ → ℕ → Verdict → Type 0
 Judged f area v = FileJudged (reading.readFile f area) v
 
--- the same by computation: `judged-is` says that it is the verdict, and the only one
+-- the same by computation: `one-answer` says that it is the verdict, and the only one
 abbrev pub ofFile : reading.FileRead → Verdict
 ofFile (reading.refused r) = refused (r .number) (r .place)
 ofFile (reading.list P ts es) = ofList (decision.verdictOf P ts es)

@@ -22,7 +22,7 @@ pub mod answer;
 mod list;
 
 // The bytes of a work area that belong to the judgement: the first 16,384, and four for each entry allowed.
-pub fn used_of(area: usize) -> usize
+fn used_of(area: usize) -> usize
     ensures { λ r. ⌜ r ≡ usedOf area ⌝ }
 {
     16384 + 4 * entries_allowed(area)
