@@ -10,7 +10,7 @@ use borrow.Author.Tests.{lt-leb, ltb-true, leb-true}
 use Rattle.pws.specs.declared.Message.{Message}
 use Rattle.pws.specs.declared.Operation.the-variants.{Read}
 use Rattle.pws.specs.Machine.{Configuration, put, putQueue, isEmpty, lastWrite}
-use Rattle.pws.specs.Insertion.{insert, up}
+use Rattle.pws.specs.Insertion.{putMessage, up}
 use Rattle.pws.specs.Entries.{FF}
 use Rattle.pws.proofs.Facts.{putQueue-each}
 use Rattle.lists.specs.Cubes.{setValue, withLast, older, alikeNewest, meetNewest, topmost}
@@ -36,14 +36,14 @@ cube-equal {b} {c} {e} f w = subst (λ (c : Cube). CubeFor c e) (sym f) w
 
 -- with a message put in
 pub inserted-cube : {r c : Cube} {e : Configuration} {k : ℕ} {μ : Message} {zs : List ℕ} {z : ℕ → ℕ} → CubeFor c e → Inserted r c k μ zs → byNumber zs ≡ z → c .count < 20
-    → CubeFor r (record { state = e .state; queue = e .queue; memory = record { channel = insert (e .memory .channel) k μ; pointer = z } })
+    → CubeFor r (record { state = e .state; queue = e .queue; memory = record { channel = putMessage (e .memory .channel) k μ; pointer = z } })
 inserted-cube {r} {c} {e} {k} {μ} {zs} {z} w h f l =
     record {
       configuration = λ i. record {
         state = (ap byNumber (h .states) ∙ ap (λ (d : Configuration). d .state) (w .configuration)) i;
         queue = (ap queueOf (h .queues) ∙ ap (λ (d : Configuration). d .queue) (w .configuration)) i;
         memory = record {
-          channel = (ap (channelOf (r .messages)) (h .count) ∙ h .channel ∙ ap (λ (d : Configuration). insert (d .memory .channel) k μ) (w .configuration)) i;
+          channel = (ap (channelOf (r .messages)) (h .count) ∙ h .channel ∙ ap (λ (d : Configuration). putMessage (d .memory .channel) k μ) (w .configuration)) i;
           pointer = (ap byNumber (h .pointers) ∙ f) i;
         };
       };

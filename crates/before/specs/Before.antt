@@ -15,7 +15,7 @@ use Rattle.records.specs.declared.program.Shape.{Shape}
 use Rattle.records.specs.Bytes.{choose}
 use Rattle.reading.specs.declared.entry.Queue.{Queue}
 use Rattle.reading.specs.declared.entry.Cube.{Cube}
-use Rattle.pws.specs.Insertion.{insert}
+use Rattle.pws.specs.Insertion.{putMessage}
 use Rattle.reading.specs.Cube.{noQueue, waitingOf, channelOf, queueOf, configurationOf}
 
 -- The sizes of an entry of a file that was read: its predecessor cubes have room. It is the one condition of this crate's contracts; of
@@ -80,7 +80,7 @@ pub record Inserted (r c : Cube) (k : ℕ) (μ : Message) (zs : List ℕ) : Type
   pub pointers : r .pointers ≡ zs
   pub queues : r .queues ≡ c .queues
   pub count : r .count ≡ c .count + 1
-  pub channel : channelOf (r .messages) (c .count + 1) ≡ insert (channelOf (c .messages) (c .count)) k μ
+  pub channel : channelOf (r .messages) (c .count + 1) ≡ putMessage (channelOf (c .messages) (c .count)) k μ
 
 -- r is c with p in another state, and another queue of p and v
 abbrev pub Requeued : Cube → Cube → ℕ → ℕ → ℕ → Queue → Type 0

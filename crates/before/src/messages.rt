@@ -4,7 +4,7 @@ ghost use mathlib.Core.Bool.{cond};
 ghost use Prim.Native.Nat.{ℕ, _+_, _*_, _-_, _≤_, _<_, max, min};
 ghost use lib.ListN.{length, getD, set};
 ghost use Rattle.pws.specs.Machine.{message, labelled, lastLabelled, lastWrite};
-ghost use Rattle.pws.specs.Insertion.{insert, up};
+ghost use Rattle.pws.specs.Insertion.{putMessage, up};
 ghost use Rattle.lists.specs.Cubes.{memoryOf, withValues, anyValue, anyMessage, setValue};
 ghost use Rattle.lists.specs.Predecessors.{withoutNewest};
 ghost use Rattle.records.specs.ProgramPart.{shapeOf};
@@ -149,7 +149,7 @@ pub fn any_message(shape: Shape, p: u8, v: u8) -> Message
 
 // One message more: at this place, those from it on one place further.
 fn put_in(messages: [Message; 20], count: usize, at: usize, message: Message) -> [Message; 20]
-    ensures { λ r. ⌜ (count < 20 → at ≤ count → channelOf r (count + 1) ≡ insert (channelOf messages count) (at + 1) message) ⌝ }
+    ensures { λ r. ⌜ (count < 20 → at ≤ count → channelOf r (count + 1) ≡ putMessage (channelOf messages count) (at + 1) message) ⌝ }
 {
     if 20 <= count {
         return messages;

@@ -1,6 +1,6 @@
 use Prim.Native.Nat.{ℕ, _-_, _+_}
 use mathlib.Core.Path.{_≡_, refl, ap, _∙_}
-use Rattle.pws.specs.Insertion.{insert}
+use Rattle.pws.specs.Insertion.{putMessage}
 use Rattle.reading.specs.Cube.{channelOf}
 use native.Mathlib.Omega.{arith}
 use borrow.Author.Needs.{needs}
@@ -20,4 +20,4 @@ inserted-spec = tie.close (tie.spec
     -- add-next
     (λ c. search needs)
     -- returns-3
-    (λ c. λ a b d. let e : (c .before .before .before .before .args .k) - 1 + 1 ≡ (c .before .before .before .before .args .k) = omega arith in record { states = refl; pointers = refl; queues = refl; count = refl; channel = c .put-in .ensures d (omega arith) ∙ ap (λ (j : ℕ). insert (channelOf ((c .before .before .before .before .args .cube) .messages) ((c .before .before .before .before .args .cube) .count)) j (c .before .before .before .before .args .message)) e }))
+    (λ c. λ a b d. let e : (c .before .before .before .before .args .k) - 1 + 1 ≡ (c .before .before .before .before .args .k) = omega arith in record { states = refl; pointers = refl; queues = refl; count = refl; channel = c .put-in .ensures d (omega arith) ∙ ap (λ (j : ℕ). putMessage (channelOf ((c .before .before .before .before .args .cube) .messages) ((c .before .before .before .before .args .cube) .count)) j (c .before .before .before .before .args .message)) e }))
