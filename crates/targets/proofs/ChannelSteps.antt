@@ -40,23 +40,23 @@ module _ {s : Shape} {most d : ℕ} (w : AtMessage s most d) where
     abbrev placed : Bool
     placed = allBelow (s .processes) (λ q. not (eqb (getD places q 0) 0))
 
-    module _ {f list : List ℕ} {k : ℕ} where
-      pub all-there : {a : Bool} → placed ≡ true → Judges f list k s (map (withQueues (emptyShape s states (outlineOf ms d places))) (queueShapes (s .processes) (s .variables))) a
-          → Judges f list k s (outlineCubes s states ms d places) a
+    module _ {f list sum : List ℕ} {k : ℕ} where
+      pub all-there : {a : Bool} → placed ≡ true → Judges f list sum k s (map (withQueues (emptyShape s states (outlineOf ms d places))) (queueShapes (s .processes) (s .variables))) a
+          → Judges f list sum k s (outlineCubes s states ms d places) a
       all-there e x = judges-same (outline-done s states ms d places short e) x
 
-      pub too-long : placed ≡ false → most ≤ d → Judges f list k s (outlineCubes s states ms d places) true
+      pub too-long : placed ≡ false → most ≤ d → Judges f list sum k s (outlineCubes s states ms d places) true
       too-long e l = judges-same (outline-over s states ms d places short e (subst (λ (n : ℕ). n ≤ d) (w .longest) l)) judges-none
 
-      pub label-not : (p v : ℕ) {a : Bool} → placed ≡ false → p < s .processes → v < s .variables → Judges f list k s (labelled-by s states ms d places p v) a → a ≡ false
-          → Judges f list k s (outlineCubes s states ms d places) a
+      pub label-not : (p v : ℕ) {a : Bool} → placed ≡ false → p < s .processes → v < s .variables → Judges f list sum k s (labelled-by s states ms d places p v) a → a ≡ false
+          → Judges f list sum k s (outlineCubes s states ms d places) a
       label-not p v e l m x g =
           judges-is (sym g)
           (judges-same (outline-labels s states ms d places short e)
           (below-false (s .processes) (written-by s states ms d places) p l (below-false (s .variables) (labelled-by s states ms d places p) v m (judges-is g x))))
 
-      pub labels-held : {i : ℕ} → placed ≡ false → EachHeld f list k s (written-by s states ms d places) (s .processes) i → s .processes ≤ i
-          → Judges f list k s (outlineCubes s states ms d places) true
+      pub labels-held : {i : ℕ} → placed ≡ false → EachHeld f list sum k s (written-by s states ms d places) (s .processes) i → s .processes ≤ i
+          → Judges f list sum k s (outlineCubes s states ms d places) true
       labels-held e x l = judges-same (outline-labels s states ms d places short e) (held-all x l)
 
 module _ {s : Shape} {most d p v q : ℕ} (w : AtPlace s most d p v q) where
@@ -79,25 +79,25 @@ module _ {s : Shape} {most d p v q : ℕ} (w : AtPlace s most d p v q) where
     abbrev allows : Bool
     allows = allowed (shapeOf s) (channelOf ms d) (λ q. getD places q 0) (λ q. getD new q 0) p v
 
-    module _ {f list : List ℕ} {k : ℕ} where
-      pub refused : s .processes ≤ q → allows ≡ false → Judges f list k s (cubes new q) true
+    module _ {f list sum : List ℕ} {k : ℕ} where
+      pub refused : s .processes ≤ q → allows ≡ false → Judges f list sum k s (cubes new q) true
       refused l e = judges-same (choice-refused s states ms d places p v new q l e) judges-none
 
       pub allowed-one : {m : Message} {a : Bool} → s .processes ≤ q → allows ≡ true → d < length ms → m ≡ anyMessage (shapeOf s) p v
-          → Judges f list k s (outlineCubes s states (set ms d m) (d + 1) new) a → Judges f list k s (cubes new q) a
+          → Judges f list sum k s (outlineCubes s states (set ms d m) (d + 1) new) a → Judges f list sum k s (cubes new q) a
       allowed-one {a = a} l e u g x =
           judges-same (choice-allowed s states ms d places p v new q l e u)
-          (subst (λ (y : Message). Judges f list k s (outlineCubes s states (set ms d y) (d + 1) new) a) g x)
+          (subst (λ (y : Message). Judges f list sum k s (outlineCubes s states (set ms d y) (d + 1) new) a) g x)
 
-      module _ (l : q < s .processes) {a : Bool} (x : Judges f list k s (cubes new (q + 1)) a) where
-        pub unplaced-not : q < length new → a ≡ false → Judges f list k s (cubes new q) a
+      module _ (l : q < s .processes) {a : Bool} (x : Judges f list sum k s (cubes new (q + 1)) a) where
+        pub unplaced-not : q < length new → a ≡ false → Judges f list sum k s (cubes new q) a
         unplaced-not u e = elim (ℕ-discrete (getD places q 0) 0) [
           | yes z ↦ judges-same (choice-branch s states ms d places p v new q l u z) (judges-is (sym e) (judges-first (cubes (set new q (d + 1)) (q + 1)) (judges-is e x)))
           | no z ↦ judges-same (choice-skip s states ms d places p v new q l z) x
         ]
 
-        pub was-placed : getD places q 0 ≢ 0 → Judges f list k s (cubes new q) a
+        pub was-placed : getD places q 0 ≢ 0 → Judges f list sum k s (cubes new q) a
         was-placed z = judges-same (choice-skip s states ms d places p v new q l z) x
 
-        pub placed-too : {b : Bool} → q < length new → getD places q 0 ≡ 0 → a ≡ true → Judges f list k s (cubes (set new q (d + 1)) (q + 1)) b → Judges f list k s (cubes new q) b
+        pub placed-too : {b : Bool} → q < length new → getD places q 0 ≡ 0 → a ≡ true → Judges f list sum k s (cubes (set new q (d + 1)) (q + 1)) b → Judges f list sum k s (cubes new q) b
         placed-too u z e y = judges-same (choice-branch s states ms d places p v new q l u z) (judges-both (judges-is e x) y)

@@ -36,23 +36,23 @@ module _ {s : Shape} {c : Cube} {p v : ℕ} (w : AtQueue s c p v) where
     pub next-waiting : {full : Cube} → full ≡ withWaiting c p v → AtQueue s full p (v + 1)
     next-waiting g = subst (λ (x : Cube). AtQueue s x p (v + 1)) (sym g) (record { small = w .small; process = w .process; variable = omega arith; roomy = roomy-waiting c p v low narrow (w .roomy) })
 
-    module _ {f list : List ℕ} {k : ℕ} {a : Bool} (empty : Judges f list k s (queueCubes s (configurationOf c) p (v + 1)) a) where
-      pub empty-not : a ≡ false → Judges f list k s (queueCubes s (configurationOf c) p v) a
+    module _ {f list sum : List ℕ} {k : ℕ} {a : Bool} (empty : Judges f list sum k s (queueCubes s (configurationOf c) p (v + 1)) a) where
+      pub empty-not : a ≡ false → Judges f list sum k s (queueCubes s (configurationOf c) p v) a
       empty-not e =
           judges-is (sym e)
           (judges-same (cubes-branch s c p v low narrow (w .roomy .queues) l) (judges-first (queueCubes s (configurationOf (withWaiting c p v)) p (v + 1)) (judges-is e empty)))
 
-      pub waiting-too : {b : Bool} {full : Cube} → a ≡ true → full ≡ withWaiting c p v → Judges f list k s (queueCubes s (configurationOf full) p (v + 1)) b → Judges f list k s (queueCubes s (configurationOf c) p v) b
+      pub waiting-too : {b : Bool} {full : Cube} → a ≡ true → full ≡ withWaiting c p v → Judges f list sum k s (queueCubes s (configurationOf full) p (v + 1)) b → Judges f list sum k s (queueCubes s (configurationOf c) p v) b
       waiting-too {b} e g x =
           judges-same (cubes-branch s c p v low narrow (w .roomy .queues) l)
-          (judges-both (judges-is e empty) (subst (λ (y : Cube). Judges f list k s (queueCubes s (configurationOf y) p (v + 1)) b) g x))
+          (judges-both (judges-is e empty) (subst (λ (y : Cube). Judges f list sum k s (queueCubes s (configurationOf y) p (v + 1)) b) g x))
 
-  pub row-done : {f list : List ℕ} {k : ℕ} {a : Bool} → s .variables ≤ v → p + 1 < s .processes → Judges f list k s (queueCubes s (configurationOf c) (p + 1) 0) a
-      → Judges f list k s (queueCubes s (configurationOf c) p v) a
+  pub row-done : {f list sum : List ℕ} {k : ℕ} {a : Bool} → s .variables ≤ v → p + 1 < s .processes → Judges f list sum k s (queueCubes s (configurationOf c) (p + 1) 0) a
+      → Judges f list sum k s (queueCubes s (configurationOf c) p v) a
   row-done l m x = judges-same (cubes-row s (configurationOf c) p v l m) x
 
-  pub queues-done : {f list : List ℕ} {k : ℕ} {a : Bool} → s .variables ≤ v → s .processes ≤ p + 1
-      → (Searchable f list k s c → a ≡ held (shapeOf s) (entriesOf f list k) (configurationOf c)) → Judges f list k s (queueCubes s (configurationOf c) p v) a
+  pub queues-done : {f list sum : List ℕ} {k : ℕ} {a : Bool} → s .variables ≤ v → s .processes ≤ p + 1
+      → (Searchable f list sum k s c → a ≡ held (shapeOf s) (entriesOf f list k) (configurationOf c)) → Judges f list sum k s (queueCubes s (configurationOf c) p v) a
   queues-done {a = a} l m x = judges-same (cubes-end s c p v l m) (judges-one c a (w .roomy) x)
 
 -- ---- the shapes of a channel begin at the first queue
@@ -60,7 +60,7 @@ module _ {s : Shape} {c : Cube} {p v : ℕ} (w : AtQueue s c p v) where
 pub first-queue : {s : Shape} {states : List ℕ} {ms : List Message} {d : ℕ} {places : List ℕ} {c : Cube} → SmallShape s → ShapeCube s states ms d places c → AtQueue s c 0 0
 first-queue w x = record { small = w; process = w .some; variable = omega arith; roomy = x .roomy }
 
-pub channel-judged : {s : Shape} {states : List ℕ} {ms : List Message} {d : ℕ} {places : List ℕ} {c : Cube} {f list : List ℕ} {k : ℕ} {a : Bool} → SmallShape s
-    → ShapeCube s states ms d places c → Judges f list k s (queueCubes s (configurationOf c) 0 0) a
-    → Judges f list k s (map (withQueues (emptyShape s states (outlineOf ms d places))) (queueShapes (s .processes) (s .variables))) a
+pub channel-judged : {s : Shape} {states : List ℕ} {ms : List Message} {d : ℕ} {places : List ℕ} {c : Cube} {f list sum : List ℕ} {k : ℕ} {a : Bool} → SmallShape s
+    → ShapeCube s states ms d places c → Judges f list sum k s (queueCubes s (configurationOf c) 0 0) a
+    → Judges f list sum k s (map (withQueues (emptyShape s states (outlineOf ms d places))) (queueShapes (s .processes) (s .variables))) a
 channel-judged {s} {states} {ms} {d} {places} {c} w x j = judges-same (cubes-all s states (outlineOf ms d places) (configurationOf c) (w .some) (x .stands)) j

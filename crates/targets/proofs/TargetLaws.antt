@@ -24,9 +24,9 @@ product (suc (suc (suc zero))) v a b = omega arith
 product (suc (suc (suc (suc zero)))) v a b = omega arith
 product (suc (suc (suc (suc (suc p))))) v a b = absurd (omega arith)
 
-pub target-is : (s : Shape) (states : List ℕ) (ms : List Message) (f list : List ℕ) (n : ℕ) (r : Bool) → Judges f list n s (outlineCubes s states ms 0 (0 ∷ 0 ∷ 0 ∷ 0 ∷ [])) r
-    → (P : pws.Program) → P .shape ≡ shapeOf s → Searches f list n s → r ≡ targetHeld P (entriesOf f list n) (λ q. getD states q 0)
-target-is s states ms f list n r j P e h =
+pub target-is : (s : Shape) (states : List ℕ) (ms : List Message) (f list sum : List ℕ) (n : ℕ) (r : Bool) → Judges f list sum n s (outlineCubes s states ms 0 (0 ∷ 0 ∷ 0 ∷ 0 ∷ [])) r
+    → (P : pws.Program) → P .shape ≡ shapeOf s → Searches f list sum n s → r ≡ targetHeld P (entriesOf f list n) (λ q. getD states q 0)
+target-is s states ms f list sum n r j P e h =
     let w = walk-all s states ms in
     j .judged h (λ c m. shapes-fit (shapeOf s) (h .shape) (λ q. getD states q 0) c (subst (List·Memᴰ c) (sym w) m))
     ∙ ap (every (held (shapeOf s) (entriesOf f list n))) (sym w)

@@ -18,19 +18,21 @@ use Rattle.lists.specs.Cubes.{anyMessage}
 use Rattle.lists.specs.Shapes.{Outline, allowed, outlines, longest, queueShapes}
 use Rattle.lists.specs.Decision.{held}
 use Rattle.contents.specs.Again.{cubeAt, entriesOf}
+use Rattle.summary.specs.Summary.{Summed}
 use Rattle.targets.specs.ShapeCube.{emptyShape}
 
 -- ---- what a walk over some shapes says
 
 -- a list that can be searched: its entries fit the shape
-pub record Searches (f list : List ℕ) (n : ℕ) (s : Shape) : Type 0 where
+pub record Searches (f list sum : List ℕ) (n : ℕ) (s : Shape) : Type 0 where
   pub count : n ≤ 524288
   pub shape : ShapeInRange (shapeOf s)
   pub entries : (k : ℕ) → k < n → Fits (ValueOrFF (shapeOf s)) (shapeOf s) (configurationOf (cubeAt f list k))
+  pub summed : Summed f list sum n s
 
 -- r says whether all of cs are held, if they fit the shape
-pub record Judges (f list : List ℕ) (n : ℕ) (s : Shape) (cs : List Configuration) (r : Bool) : Type 0 where
-  pub judged : Searches f list n s → ((c : Configuration) → List·Memᴰ c cs → Fits (ValueOrFF (shapeOf s)) (shapeOf s) c) → r ≡ every (held (shapeOf s) (entriesOf f list n)) cs
+pub record Judges (f list sum : List ℕ) (n : ℕ) (s : Shape) (cs : List Configuration) (r : Bool) : Type 0 where
+  pub judged : Searches f list sum n s → ((c : Configuration) → List·Memᴰ c cs → Fits (ValueOrFF (shapeOf s)) (shapeOf s) c) → r ≡ every (held (shapeOf s) (entriesOf f list n)) cs
 
 -- ---- queues
 

@@ -19,7 +19,6 @@ ghost use Rattle.targets.specs.ShapeCube.{ShapeCube, outlineOf, emptySha
 ghost use Rattle.contents.specs.Again.{entriesOf};
 ghost use Rattle.targets.specs.Walk.{Searches, Judges, withQueues, queueCubes, outlineCubes, choiceCubes};
 ghost use Rattle.targets.specs.Depth.{SmallShape, AtQueue, AtMessage, AtPlace};
-use cover::search::Found;
 use cover::search::search;
 use matching::least;
 use pws::Message;
@@ -271,62 +270,62 @@ fn with_waiting(cube: Cube, p: usize, v: usize) -> Cube
     next
 }
 
-// ---- targets: the walk ends at the first shape that is not held, and each search begins near the entry found last
+// ---- targets: the walk ends at the first shape that is not held
 
 // The cube, and the shapes that differ from it in the queues of p from v on, or in those of the processes after p.
 fn queues_held(
     file: &[u8],
     list: &[u8],
+    sum: &[u8],
     n: usize,
     shape: Shape,
     cube: Cube,
     p: usize,
     v: usize,
-    near: usize,
-) -> Found
+) -> bool
     requires { ⌜ AtQueue shape cube p v ⌝ }
-    ensures { λ r. ⌜ Judges (now (file .entry)) (now (list .entry)) n shape (queueCubes shape (configurationOf cube) p v) (r .held) ⌝ }
+    ensures { λ r. ⌜ Judges (now (file .entry)) (now (list .entry)) (now (sum .entry)) n shape (queueCubes shape (configurationOf cube) p v) r ⌝ }
 {
     let variables = shape.variables;
     let processes = shape.processes;
     if v < variables {
-        let found = queues_held(file, list, n, shape, cube, p, v + 1, near);
-        if !found.held {
-            return found;
+        let empty = queues_held(file, list, sum, n, shape, cube, p, v + 1);
+        if !empty {
+            return empty;
         }
-        let last = found.near;
         let full = with_waiting(cube, p, v);
-        return queues_held(file, list, n, shape, full, p, v + 1, last);
+        return queues_held(file, list, sum, n, shape, full, p, v + 1);
     }
     if p + 1 < processes {
-        return queues_held(file, list, n, shape, cube, p + 1, 0, near);
+        return queues_held(file, list, sum, n, shape, cube, p + 1, 0);
     }
-    search(file, list, n, shape, cube, near)
+    search(file, list, sum, n, shape, cube)
 }
 
 // The shapes with these messages, newest first, and these places.
 fn channel_held(
     file: &[u8],
     list: &[u8],
+    sum: &[u8],
     n: usize,
     shape: Shape,
     states: [u8; 4],
     messages: [Message; 20],
     d: usize,
     places: [u8; 4],
-    near: usize,
-) -> Found
+) -> bool
     requires { ⌜ SmallShape shape × (d ≤ 20) ⌝ }
-    ensures { λ r. ⌜ Judges (now (file .entry)) (now (list .entry)) n shape (map (withQueues (emptyShape shape states (outlineOf messages d places))) (queueShapes (shape .processes) (shape .variables))) (r .held) ⌝ }
+    ensures { λ r. ⌜ Judges (now (file .entry)) (now (list .entry)) (now (sum .entry)) n shape (map (withQueues (emptyShape shape states (outlineOf messages d places))) (queueShapes (shape .processes) (shape .variables))) r ⌝ }
 {
     let cube = shape_cube(shape, states, messages, d, places);
-    queues_held(file, list, n, shape, cube, 0, 0, near)
+    queues_held(file, list, sum, n, shape, cube, 0, 0)
 }
 
 // The shapes whose newest d messages are these, with these places; no channel has more than `most`.
 fn outlines_held(
     file: &[u8],
     list: &[u8],
+    sum: &[u8],
     n: usize,
     shape: Shape,
     states: [u8; 4],
@@ -334,28 +333,24 @@ fn outlines_held(
     messages: [Message; 20],
     d: usize,
     places: [u8; 4],
-    near: usize,
-) -> Found
+) -> bool
     requires { ⌜ AtMessage shape most d ⌝ }
-    ensures { λ r. ⌜ Judges (now (file .entry)) (now (list .entry)) n shape (outlineCubes shape states messages d places) (r .held) ⌝ }
+    ensures { λ r. ⌜ Judges (now (file .entry)) (now (list .entry)) (now (sum .entry)) n shape (outlineCubes shape states messages d places) r ⌝ }
 {
     let processes = shape.processes;
     let variables = shape.variables;
     if all_placed(processes, places) {
-        return channel_held(file, list, n, shape, states, messages, d, places, near);
+        return channel_held(file, list, sum, n, shape, states, messages, d, places);
     }
-    let mut last = near;
     if most <= d {
-        return Found {
-            held: true,
-            near: last,
-        };
+        return true;
     }
     for p in 0..processes {
         for v in 0..variables {
-            let found = choices_held(
+            let held = choices_held(
                 file,
                 list,
+                sum,
                 n,
                 shape,
                 states,
@@ -367,24 +362,20 @@ fn outlines_held(
                 v,
                 places,
                 0,
-                last,
             );
-            if !found.held {
-                return found;
+            if !held {
+                return held;
             }
-            last = found.near;
         }
     }
-    Found {
-        held: true,
-        near: last,
-    }
+    true
 }
 
 // Those whose next message has the label (p, v), and whose places are the new ones up to q.
 fn choices_held(
     file: &[u8],
     list: &[u8],
+    sum: &[u8],
     n: usize,
     shape: Shape,
     states: [u8; 4],
@@ -396,27 +387,35 @@ fn choices_held(
     v: usize,
     new: [u8; 4],
     q: usize,
-    near: usize,
-) -> Found
+) -> bool
     requires { ⌜ AtPlace shape most d p v q ⌝ }
-    ensures { λ r. ⌜ Judges (now (file .entry)) (now (list .entry)) n shape (choiceCubes shape states messages d places p v new q) (r .held) ⌝ }
+    ensures { λ r. ⌜ Judges (now (file .entry)) (now (list .entry)) (now (sum .entry)) n shape (choiceCubes shape states messages d places p v new q) r ⌝ }
 {
     let processes = shape.processes;
     if processes <= q {
         if !is_allowed(shape, messages, d, places, new, p, v) {
-            return Found {
-                held: true,
-                near: near,
-            };
+            return true;
         }
         let message = any_message(shape, p, v);
         let mut longer = messages;
         longer[d] = message;
-        return outlines_held(file, list, n, shape, states, most, longer, d + 1, new, near);
+        return outlines_held(
+            file,
+            list,
+            sum,
+            n,
+            shape,
+            states,
+            most,
+            longer,
+            d + 1,
+            new,
+        );
     }
-    let found = choices_held(
+    let unplaced = choices_held(
         file,
         list,
+        sum,
         n,
         shape,
         states,
@@ -428,20 +427,19 @@ fn choices_held(
         v,
         new,
         q + 1,
-        near,
     );
-    if !found.held {
-        return found;
+    if !unplaced {
+        return unplaced;
     }
     if places[q] != 0 {
-        return found;
+        return unplaced;
     }
-    let last = found.near;
     let mut placed = new;
     placed[q] = (d + 1) as u8;
     choices_held(
         file,
         list,
+        sum,
         n,
         shape,
         states,
@@ -453,13 +451,19 @@ fn choices_held(
         v,
         placed,
         q + 1,
-        last,
     )
 }
 
 // All configurations in this target are above the list (T6).
-pub fn target_held(file: &[u8], list: &[u8], n: usize, shape: Shape, states: [u8; 4]) -> bool
-    ensures { λ r. ⌜ ((P : Program) → P .shape ≡ shapeOf shape → Searches (now (file .entry)) (now (list .entry)) n shape → r ≡ targetHeld P (entriesOf (now (file .entry)) (now (list .entry)) n) (λ q. getD states q 0)) ⌝ }
+pub fn target_held(
+    file: &[u8],
+    list: &[u8],
+    sum: &[u8],
+    n: usize,
+    shape: Shape,
+    states: [u8; 4],
+) -> bool
+    ensures { λ r. ⌜ ((P : Program) → P .shape ≡ shapeOf shape → Searches (now (file .entry)) (now (list .entry)) (now (sum .entry)) n shape → r ≡ targetHeld P (entriesOf (now (file .entry)) (now (list .entry)) n) (λ q. getD states q 0)) ⌝ }
 {
     let processes = shape.processes;
     let variables = shape.variables;
@@ -480,6 +484,5 @@ pub fn target_held(file: &[u8], list: &[u8], n: usize, shape: Shape, states: [u8
         snapshot: snapshot,
     }; 20];
     let places = [0u8; 4];
-    let found = outlines_held(file, list, n, shape, states, most, messages, 0, places, 0);
-    found.held
+    outlines_held(file, list, sum, n, shape, states, most, messages, 0, places)
 }

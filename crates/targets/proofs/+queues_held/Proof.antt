@@ -13,14 +13,14 @@ use Rattle.targets.proofs.+queues_held.Lts-queues_held as queues-held-l
 use Rattle.targets.proofs.+queues_held.{statement}
 use Rattle.targets.proofs.+queues_held.Tie.{close}
 
-abbrev μ-queues-held : Measures 2 queues-held-kinds.ps ℕ
-μ-queues-held κs a = 5 * (a .1 .1 .1 .0 .processes - a .1 .1 .1 .1 .1 .0) + (a .1 .1 .1 .0 .variables - a .1 .1 .1 .1 .1 .1 .0)
+abbrev μ-queues-held : Measures 3 queues-held-kinds.ps ℕ
+μ-queues-held κs a = 5 * (a .1 .1 .1 .1 .0 .processes - a .1 .1 .1 .1 .1 .1 .0) + (a .1 .1 .1 .1 .0 .variables - a .1 .1 .1 .1 .1 .1 .1 .0)
 
-abbrev queues-held-at : ℕ → In 2 queues-held-kinds.ps
-queues-held-at t = and 2 queues-held-kinds.ps (is 2 queues-held-kinds.ps μ-queues-held t) queues-held.Pre
+abbrev queues-held-at : ℕ → In 3 queues-held-kinds.ps
+queues-held-at t = and 3 queues-held-kinds.ps (is 3 queues-held-kinds.ps μ-queues-held t) queues-held.Pre
 
-abbrev queues-held-below : ℕ → In 2 queues-held-kinds.ps
-queues-held-below t = and 2 queues-held-kinds.ps (falls 2 queues-held-kinds.ps _<_ μ-queues-held t) queues-held.Pre
+abbrev queues-held-below : ℕ → In 3 queues-held-kinds.ps
+queues-held-below t = and 3 queues-held-kinds.ps (falls 3 queues-held-kinds.ps _<_ μ-queues-held t) queues-held.Pre
 
 pub +queues-held-spec : {M : Type 1} → statement M
 +queues-held-spec = close μ-queues-held λ t. queues-held-lts.spec (
@@ -34,28 +34,28 @@ pub +queues-held-spec : {M : Type 1} → statement M
     (queues-held-at t)
     queues-held.Post
     -- add-queues-held
-    (λ c. omega (arith, c .before .before .before .pre .1 .small .variables))
+    (λ c. omega (arith, c .before .before .before .before .pre .1 .small .variables))
     -- queues-held-requires
-    (λ c κs. (omega (arith, c .before .before .before .pre .0), next-queue (c .before .before .before .pre .1) (c .if1 .taken)))
+    (λ c κs. (omega (arith, c .before .before .before .before .pre .0), next-queue (c .before .before .before .before .pre .1) (c .if1 .taken)))
     -- returns
-    (λ c. empty-not (c .before .before .before .before .before .before .pre .1) (c .before .before .before .if1 .taken) (c .before .before .queues-held .ensures) (not-true _ (c .if2 .taken)))
+    (λ c. empty-not (c .before .before .before .before .before .before .pre .1) (c .before .before .if1 .taken) (c .before .queues-held .ensures) (not-true _ (c .if2 .taken)))
     -- with-waiting-requires
     (λ c κs. (omega (arith, c .before .before .before .before .before .before .pre .1 .small .processes), omega (arith, c .before .before .before .before .before .before .pre .1 .small .variables)))
     -- add-queues-held-2
     (λ c. omega (arith, c .before .before .before .before .before .before .before .pre .1 .small .variables))
     -- queues-held-requires-2
-    (λ c κs. (omega (arith, c .before .before .before .before .before .before .before .pre .0), next-waiting (c .before .before .before .before .before .before .before .pre .1) (c .before .before .before .before .if1 .taken) (c .with-waiting .ensures)))
+    (λ c κs. (omega (arith, c .before .before .before .before .before .before .before .pre .0), next-waiting (c .before .before .before .before .before .before .before .pre .1) (c .before .before .before .if1 .taken) (c .with-waiting .ensures)))
     -- returns-2
-    (λ c. waiting-too (c .before .before .before .before .before .before .before .before .pre .1) (c .before .before .before .before .before .if1 .taken) (c .before .before .before .before .queues-held .ensures) (not-false _ (c .before .before .if2 .left)) (c .before .with-waiting .ensures) (c .queues-held2 .ensures))
+    (λ c. waiting-too (c .before .before .before .before .before .before .before .before .pre .1) (c .before .before .before .before .if1 .taken) (c .before .before .before .queues-held .ensures) (not-false _ (c .before .before .if2 .left)) (c .before .with-waiting .ensures) (c .queues-held2 .ensures))
     -- add-if3
-    (λ c. omega (arith, c .before .before .before .pre .1 .small .processes))
-    -- add-queues-held-3
     (λ c. omega (arith, c .before .before .before .before .pre .1 .small .processes))
+    -- add-queues-held-3
+    (λ c. omega (arith, c .before .before .before .before .before .pre .1 .small .processes))
     -- queues-held-requires-3
-    (λ c κs. (omega (arith, c .before .before .before .before .pre .0, c .before .before .before .before .pre .1 .small .variables), next-row (c .before .before .before .before .pre .1) (c .if3 .taken)))
+    (λ c κs. (omega (arith, c .before .before .before .before .before .pre .0, c .before .before .before .before .before .pre .1 .small .variables), next-row (c .before .before .before .before .before .pre .1) (c .if3 .taken)))
     -- returns-3
-    (λ c. row-done (c .before .before .before .before .before .pre .1) (c .before .before .if1 .left) (c .before .if3 .taken) (c .queues-held3 .ensures))
+    (λ c. row-done (c .before .before .before .before .before .before .pre .1) (c .before .before .if1 .left) (c .before .if3 .taken) (c .queues-held3 .ensures))
     -- search-requires
     (λ c κs. search needs)
     -- returns-4
-    (λ c. queues-done (c .before .before .before .before .before .pre .1) (c .before .before .if1 .left) (c .before .if3 .left) (c .search .ensures))
+    (λ c. queues-done (c .before .before .before .before .before .before .pre .1) (c .before .before .if1 .left) (c .before .if3 .left) (c .search .ensures .1))

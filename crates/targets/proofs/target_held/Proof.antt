@@ -24,4 +24,4 @@ target-held-spec = tie.close (tie.spec
       depth = omega arith;
     })
     -- returns-4
-    (λ c. target-is (c .before .before .before .before .before .before .args .shape) (c .before .before .before .before .before .before .args .states) _ _ _ (c .before .before .before .before .before .before .args .n) (c .outlines-held .result .held) (c .outlines-held .ensures)))
+    (λ c. target-is (c .before .before .before .before .before .before .args .shape) (c .before .before .before .before .before .before .args .states) _ _ _ _ (c .before .before .before .before .before .before .before .args .n) (c .outlines-held .result) (c .outlines-held .ensures)))
