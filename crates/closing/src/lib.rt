@@ -15,10 +15,12 @@ use crate::update::updated_held;
 use before::messages::last_writes;
 use before::newest::newest;
 use contents::entry_at;
+use contents::transition_of;
 use matching::least;
 use reading::entry::Cube;
 use records::bytes::wide;
 use records::program::Program;
+use records::program::of_four;
 
 mod serialise;
 mod take;
@@ -38,8 +40,14 @@ fn open_take(
 {
     let row = program.transitions;
     let m = least(row.count, 256);
+    let states = cube.states;
     for j in 0..m {
-        if !taken_held(file, list, sum, n, program, cube, writes, j) {
+        let transition = transition_of(file, program, j);
+        // most transitions lead elsewhere: nothing is made for them
+        if of_four(states, transition.process) != transition.to {
+            continue;
+        }
+        if !taken_held(file, list, sum, n, program, cube, writes, transition) {
             return j;
         }
     }
