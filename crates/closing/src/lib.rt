@@ -1,7 +1,7 @@
 // Is every configuration one step before those above an entry above the list (number 11)? The predecessor cubes of the entry are made one
 // after another, and each is searched for (theory, section 5, T7 and T8). Steps that have none are passed over before a cube is made.
 ghost use mathlib.Core.Path.{_≡_};
-ghost use Prim.Native.Nat.{ℕ, _+_, _*_, _-_, _/_, _%_, _≤_, _<_, min};
+ghost use Prim.Native.Nat.{ℕ, _+_, _/_, _%_, _≤_, _<_, min};
 ghost use Rattle.pws.specs.declared.Step.the-variants.{Take, Serialise, Update};
 ghost use Rattle.lists.specs.Decision.{closed};
 ghost use Rattle.records.specs.ProgramPart.{programOf};

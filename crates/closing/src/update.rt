@@ -3,7 +3,7 @@ ghost use mathlib.Core.Path.{_≡_};
 ghost use mathlib.Core.Bool.{true, cond, _&&_};
 ghost use lib.ListN.{getD};
 ghost use lib.Dec.{leb, ltb};
-ghost use Prim.Native.Nat.{ℕ, _+_, _*_, _/_, _%_, _≤_, _<_};
+ghost use Prim.Native.Nat.{ℕ, _/_, _%_, _≤_, _<_};
 ghost use Rattle.pws.specs.declared.Step.the-variants.{Update};
 ghost use Rattle.lists.specs.Predecessors as lists;
 ghost use Rattle.lists.specs.Decision.{held};
