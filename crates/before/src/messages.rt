@@ -96,7 +96,7 @@ fn last_labelled(messages: [Message; 20], count: usize, p: usize, v: usize) -> u
     last
 }
 
-pub(crate) fn one_fewer(n: usize) -> usize
+fn one_fewer(n: usize) -> usize
     ensures { λ r. ⌜ r ≡ n - 1 ⌝ }
 {
     if n == 0 {

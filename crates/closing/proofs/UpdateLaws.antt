@@ -71,14 +71,10 @@ module _ (f list sum : List ℕ) (n : ℕ) (s : Program) (c : Cube) (W : Walkabl
   label-number : (i : ℕ) → i < 16 → (i / 4 < 4) × (i % 4 < 4) × (4 * (i / 4) + i % 4 ≡ i)
   label-number i l = (omega arith, omega arith, omega arith)
 
-  pub written-at : (ws : List ℕ) → LastWrites ws (configurationOf c .memory) → (i : ℕ) → i < 16 → getD ws i 0 ≡ lastWrite (configurationOf c .memory) (i / 4) (i % 4)
+  written-at : (ws : List ℕ) → LastWrites ws (configurationOf c .memory) → (i : ℕ) → i < 16 → getD ws i 0 ≡ lastWrite (configurationOf c .memory) (i / 4) (i % 4)
   written-at ws g i l = let x = label-number i l in ap (λ (k : ℕ). getD ws k 0) (sym (x .2)) ∙ g (i / 4) (i % 4) (x .0) (x .1)
 
-  pub pointed-there : (r u : ℕ) → r < s .shape .processes → u < s .shape .variables → getD (c .pointers) p 0 ≤ lastWrite (configurationOf c .memory) r u → kindOf (pointed r u) ≡ true
-  pointed-there r u a b d =
-      ap₂ _&&_ (ap₂ _&&_ (lt-ltb r (s .shape .processes) a) (lt-ltb u (s .shape .variables) b)) (le-leb (getD (c .pointers) p 0) (lastWrite (configurationOf c .memory) r u) d)
-
-  pub pointed-parts : (r u : ℕ) → kindOf (pointed r u) ≡ true
+  pointed-parts : (r u : ℕ) → kindOf (pointed r u) ≡ true
       → (r < s .shape .processes) × (u < s .shape .variables) × (getD (c .pointers) p 0 ≤ lastWrite (configurationOf c .memory) r u)
   pointed-parts r u e =
       let l = leb (getD (c .pointers) p 0) (lastWrite (configurationOf c .memory) r u) in
@@ -89,28 +85,16 @@ module _ (f list sum : List ℕ) (n : ℕ) (s : Program) (c : Cube) (W : Walkabl
   abbrev pub pointedHeld : ℕ → Bool
   pointedHeld i = cond (kindOf (pointed (i / 4) (i % 4))) (heldUpdate (pointed (i / 4) (i % 4))) true
 
-  no-label : (i : ℕ) → (kindOf (pointed (i / 4) (i % 4)) ≡ true → ⊥) → true ≡ pointedHeld i
-  no-label i z = at (kindOf (pointed (i / 4) (i % 4))) z
-    where
-      at : (b : Bool) → (b ≡ true → ⊥) → true ≡ cond b (heldUpdate (pointed (i / 4) (i % 4))) true
-      at true z = absurd (z refl)
-      at false z = refl
+  -- the code's test
+  pub label-kind : (ws : List ℕ) → LastWrites ws (configurationOf c .memory) → (i : ℕ) → i < 16
+      → (ltb (i / 4) (s .shape .processes) && ltb (i % 4) (s .shape .variables)) && leb (getD (c .pointers) p 0) (getD ws i 0) ≡ kindOf (pointed (i / 4) (i % 4))
+  label-kind ws g i l = ap (λ (w : ℕ). (ltb (i / 4) (s .shape .processes) && ltb (i % 4) (s .shape .variables)) && leb (getD (c .pointers) p 0) w) (written-at ws g i l)
 
-  pub no-process : (i : ℕ) → s .shape .processes ≤ i / 4 → true ≡ pointedHeld i
-  no-process i l = no-label i (λ e. omega (arith, pointed-parts (i / 4) (i % 4) e .0))
+  pub pointed-absent : (i : ℕ) → kindOf (pointed (i / 4) (i % 4)) ≡ false → pointedHeld i ≡ true
+  pointed-absent i e = ap (λ (t : Bool). cond t (heldUpdate (pointed (i / 4) (i % 4))) true) e
 
-  pub no-variable : (i : ℕ) → s .shape .variables ≤ i % 4 → true ≡ pointedHeld i
-  no-variable i l = no-label i (λ e. omega (arith, pointed-parts (i / 4) (i % 4) e .1))
-
-  pub no-message : (ws : List ℕ) → LastWrites ws (configurationOf c .memory) → (i : ℕ) → i < 16 → getD ws i 0 < getD (c .pointers) p 0 → true ≡ pointedHeld i
-  no-message ws g i l a = no-label i (λ e. omega (arith, pointed-parts (i / 4) (i % 4) e .2, written-at ws g i l))
-
-  pub pointed-searched : (ws : List ℕ) → LastWrites ws (configurationOf c .memory) → (i : ℕ) → i < 16 → i / 4 < s .shape .processes → i % 4 < s .shape .variables → getD (c .pointers) p 0 ≤ getD ws i 0
-      → {r : Cube} {h : Bool} → CubeFor r (updateBefore (shapeOf (s .shape)) (configurationOf c) p (pointed (i / 4) (i % 4)))
-      → (Searchable f list sum n (s .shape) r → h ≡ held (shapeOf (s .shape)) (entriesOf f list n) (configurationOf r)) → h ≡ pointedHeld i
-  pointed-searched ws g i l a b d x y =
-      let k = pointed-there (i / 4) (i % 4) a b (omega (arith, written-at ws g i l)) in
-      update-searched (pointed (i / 4) (i % 4)) k x y ∙ sym (ap (λ (t : Bool). cond t (heldUpdate (pointed (i / 4) (i % 4))) true) k)
+  pub pointed-there : (i : ℕ) → kindOf (pointed (i / 4) (i % 4)) ≡ true → {h : Bool} → h ≡ heldUpdate (pointed (i / 4) (i % 4)) → pointedHeld i ≡ h
+  pointed-there i e g = ap (λ (t : Bool). cond t (heldUpdate (pointed (i / 4) (i % 4))) true) e ∙ sym g
 
   pub pointed-fails : (i : ℕ) → pointedHeld i ≡ false → false ≡ stepHeld (programOf f s) (entriesOf f list n) (configurationOf c) (Update p)
   pointed-fails i z = at (kindOf (pointed (i / 4) (i % 4))) refl z

@@ -1,7 +1,7 @@
 // Is every configuration one step before those above an entry above the list (number 11)? The predecessor cubes of the entry are made one
 // after another, and each is searched for (theory, section 5, T7 and T8). Steps that have none are passed over before a cube is made.
 ghost use mathlib.Core.Path.{_≡_};
-ghost use Prim.Native.Nat.{ℕ, _+_, _*_, _-_, _/_, _%_, _≤_, _<_, min};
+ghost use Prim.Native.Nat.{ℕ, _+_, _/_, _%_, _≤_, _<_, min};
 ghost use Rattle.pws.specs.declared.Step.the-variants.{Take, Serialise, Update};
 ghost use Rattle.lists.specs.Decision.{closed};
 ghost use Rattle.records.specs.ProgramPart.{programOf};
@@ -15,10 +15,12 @@ use crate::update::updated_held;
 use before::messages::last_writes;
 use before::newest::newest;
 use contents::entry_at;
+use contents::transition_of;
 use matching::least;
 use reading::entry::Cube;
 use records::bytes::wide;
 use records::program::Program;
+use records::program::of_four;
 
 mod serialise;
 mod take;
@@ -38,8 +40,14 @@ fn open_take(
 {
     let row = program.transitions;
     let m = least(row.count, 256);
+    let states = cube.states;
     for j in 0..m {
-        if !taken_held(file, list, sum, n, program, cube, writes, j) {
+        let transition = transition_of(file, program, j);
+        // most transitions lead elsewhere: nothing is made for them
+        if of_four(states, transition.process) != transition.to {
+            continue;
+        }
+        if !taken_held(file, list, sum, n, program, cube, writes, transition) {
             return j;
         }
     }

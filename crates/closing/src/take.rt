@@ -2,7 +2,7 @@
 ghost use mathlib.Core.Path.{_≡_};
 ghost use mathlib.Core.Bool.{true, cond, _&&_};
 ghost use Prim.Native.Nat.{ℕ, _≤_, _<_};
-ghost use lib.ListN.{length};
+ghost use lib.ListN.{length, getD};
 ghost use Rattle.pws.specs.declared.Operation.the-variants.{Nop, Read, Write, Mfence, Sfence, Arw};
 ghost use Rattle.pws.specs.declared.Step.the-variants.{Take};
 ghost use Rattle.pws.specs.Machine.{isEmpty};
@@ -10,7 +10,7 @@ ghost use Rattle.lists.specs.Predecessors as lists;
 ghost use Rattle.lists.specs.Decision.{held};
 ghost use Rattle.records.specs.ProgramPart.{shapeOf, programOf};
 ghost use Rattle.reading.specs.Cube.{configurationOf};
-ghost use Rattle.contents.specs.Again.{entriesOf};
+ghost use Rattle.contents.specs.Again.{transitionOf, entriesOf};
 ghost use Rattle.before.specs.Before.{LastWrites, takeBefore};
 ghost use Rattle.closing.specs.Walk.{stepHeld, Walkable, Acting, TakenHeld};
 use before::newest::alike_before;
@@ -25,14 +25,13 @@ use before::operations::may_read;
 use before::operations::may_swap;
 use before::operations::may_write;
 use before::queues::none_waiting;
-use contents::transition_of;
 use cover::search::search;
 use matching::least;
 use pws::Operation;
+use pws::Transition;
 use reading::entry::Cube;
 use records::bytes::both;
 use records::program::Program;
-use records::program::of_four;
 
 fn nop_held(
     file: &[u8],
@@ -242,7 +241,7 @@ fn arw_held(
     true
 }
 
-// Are all predecessor cubes for transition j held?
+// Are all predecessor cubes for this transition held? It leads to the entry's local state.
 pub(crate) fn taken_held(
     file: &[u8],
     list: &[u8],
@@ -251,18 +250,13 @@ pub(crate) fn taken_held(
     program: Program,
     cube: Cube,
     writes: [u8; 16],
-    j: usize,
+    transition: Transition,
 ) -> bool
-    ensures { λ r. ⌜ (Walkable (now (file .entry)) (now (list .entry)) (now (sum .entry)) n program cube → LastWrites writes (configurationOf cube .memory) → j < program .transitions .count → r ≡ stepHeld (programOf (now (file .entry)) program) (entriesOf (now (file .entry)) (now (list .entry)) n) (configurationOf cube) (Take j)) ⌝ }
+    ensures { λ r. ⌜ (Walkable (now (file .entry)) (now (list .entry)) (now (sum .entry)) n program cube → LastWrites writes (configurationOf cube .memory) → (j : ℕ) → j < program .transitions .count → transition ≡ transitionOf (now (file .entry)) program j → getD (cube .states) (transition .process) 0 ≡ transition .to → r ≡ stepHeld (programOf (now (file .entry)) program) (entriesOf (now (file .entry)) (now (list .entry)) n) (configurationOf cube) (Take j)) ⌝ }
 {
-    let transition = transition_of(file, program, j);
     let p = transition.process;
     let from = transition.from;
     let operation = transition.operation;
-    let states = cube.states;
-    if of_four(states, p) != transition.to {
-        return true;
-    }
     match operation {
         Operation::Nop => nop_held(file, list, sum, n, program, cube, p, from),
         Operation::Read { variable, value } => read_held(

@@ -1,7 +1,9 @@
 // The predecessor cubes of an entry for an update.
 ghost use mathlib.Core.Path.{_≡_};
-ghost use mathlib.Core.Bool.{true, cond};
-ghost use Prim.Native.Nat.{ℕ, _+_, _*_, _/_, _%_, _≤_, _<_};
+ghost use mathlib.Core.Bool.{true, cond, _&&_};
+ghost use lib.ListN.{getD};
+ghost use lib.Dec.{leb, ltb};
+ghost use Prim.Native.Nat.{ℕ, _/_, _%_, _≤_, _<_};
 ghost use Rattle.pws.specs.declared.Step.the-variants.{Update};
 ghost use Rattle.lists.specs.Predecessors as lists;
 ghost use Rattle.lists.specs.Decision.{held};
@@ -14,7 +16,9 @@ use before::update::before_update;
 use before::update::before_update_pointed;
 use cover::search::search;
 use reading::entry::Cube;
+use records::bytes::both;
 use records::program::Program;
+use records::program::Shape;
 use records::program::of_four;
 
 // With nothing beside: if there is such a cube, it is held.
@@ -37,7 +41,18 @@ fn unpointed_held(
     search(file, list, sum, n, shape, before_update(cube, p))
 }
 
-// With the message that p pointed at, of the label i / 4 and i % 4, whose LastWrite is at its pointer or past it.
+// The LastWrite of the label i / 4 and i % 4 is at this pointer or past it: a message of that label may have been pointed at.
+fn may_point(shape: Shape, writes: [u8; 16], pointer: u8, i: usize) -> bool
+    ensures { λ r. ⌜ (i < 16 → r ≡ ((ltb (i / 4) (shape .processes) && ltb (i % 4) (shape .variables)) && leb pointer (getD writes i 0))) ⌝ }
+{
+    if 16 <= i {
+        return false;
+    }
+    let exists = both(i / 4 < shape.processes, i % 4 < shape.variables);
+    both(exists, pointer <= writes[i])
+}
+
+// With that message.
 fn pointed_held(
     file: &[u8],
     list: &[u8],
@@ -45,28 +60,17 @@ fn pointed_held(
     n: usize,
     program: Program,
     cube: Cube,
-    writes: [u8; 16],
     p: usize,
     i: usize,
 ) -> bool
-    ensures { λ r. ⌜ (Walkable (now (file .entry)) (now (list .entry)) (now (sum .entry)) n program cube → LastWrites writes (configurationOf cube .memory) → p < program .shape .processes → i < 16 → r ≡ cond (lists.updateKind (shapeOf (program .shape)) (configurationOf cube .memory) p (lists.pointed (i / 4) (i % 4))) (held (shapeOf (program .shape)) (entriesOf (now (file .entry)) (now (list .entry)) n) (updateBefore (shapeOf (program .shape)) (configurationOf cube) p (lists.pointed (i / 4) (i % 4)))) true) ⌝ }
+    ensures { λ r. ⌜ (Walkable (now (file .entry)) (now (list .entry)) (now (sum .entry)) n program cube → p < program .shape .processes → i < 16 → lists.updateKind (shapeOf (program .shape)) (configurationOf cube .memory) p (lists.pointed (i / 4) (i % 4)) ≡ true → r ≡ held (shapeOf (program .shape)) (entriesOf (now (file .entry)) (now (list .entry)) n) (updateBefore (shapeOf (program .shape)) (configurationOf cube) p (lists.pointed (i / 4) (i % 4)))) ⌝ }
 {
-    let shape = program.shape;
     if 16 <= i {
         return true;
     }
     let r = i / 4;
     let u = i % 4;
-    if shape.processes <= r {
-        return true;
-    }
-    if shape.variables <= u {
-        return true;
-    }
-    let pointers = cube.pointers;
-    if writes[i] < of_four(pointers, p) {
-        return true;
-    }
+    let shape = program.shape;
     search(
         file,
         list,
@@ -93,8 +97,14 @@ pub(crate) fn updated_held(
     if !unpointed_held(file, list, sum, n, program, cube, p) {
         return false;
     }
+    let shape = program.shape;
+    let pointers = cube.pointers;
+    let pointer = of_four(pointers, p);
     for i in 0..16 {
-        if !pointed_held(file, list, sum, n, program, cube, writes, p, i) {
+        if !may_point(shape, writes, pointer, i) {
+            continue;
+        }
+        if !pointed_held(file, list, sum, n, program, cube, p, i) {
             return false;
         }
     }
