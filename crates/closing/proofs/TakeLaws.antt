@@ -31,6 +31,10 @@ use Rattle.closing.specs.Walk.{stepHeld, Walkable, Acting}
 use Rattle.closing.proofs.WalkLaws.{count-is}
 use Rattle.closing.proofs.StepLaws.{not-both, decided, step-true, step-false, searched}
 
+pub and-right : (a : Bool) → a && true ≡ a
+and-right true = refl
+and-right false = refl
+
 undone-only : (k : lists.Kind) → isUndone k ≡ true → k ≡ undone
 undone-only undone e = refl
 undone-only waited e = absurd (not-both e refl)

@@ -23,7 +23,7 @@ use before::serialise::may_serialise;
 use cover::search::search;
 use matching::least;
 use reading::entry::Cube;
-use reading::evidence::pair_exists;
+use reading::steps::pair_exists;
 use records::program::Program;
 
 // With message k inside, which is past LastWrite: if there is such a cube, it is held.

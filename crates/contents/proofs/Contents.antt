@@ -46,7 +46,7 @@ module _ (f : List ℕ) (area : ℕ) where
   listed = entriesFrom (entriesAllowed area) (p .shape) (p .states) f (p .claim + 2) [] []
 
   pub record ListParts : Type 0 where
-    pub enough : 32768 ≤ area
+    pub enough : 65536 ≤ area
     pub fine : programFrom f 0 .answer ≡ Fine
     pub answer : listed .answer ≡ Fine
     pub parts : partsOf f area ≡ twoParts p (entries listed)
@@ -66,7 +66,7 @@ module _ (f : List ℕ) (area : ℕ) where
   unfolding readFile
   no-parts r e = outcome-refused r (ap readingOf e) (ap (partsRead f) e)
 
-  by-list : 32768 ≤ area → programFrom f 0 .answer ≡ Fine → partsOf f area ≡ twoParts p (entries listed) → (x : Checked) → listed .answer ≡ x → Outcome
+  by-list : 65536 ≤ area → programFrom f 0 .answer ≡ Fine → partsOf f area ≡ twoParts p (entries listed) → (x : Checked) → listed .answer ≡ x → Outcome
   unfolding readFile
   by-list l q e Fine d = outcome-list (record { enough = l; fine = q; answer = d; parts = e })
   by-list l q e (Refused r) d = outcome-refused r (rw (e, d)) (rw (e, d))
@@ -76,7 +76,7 @@ module _ (f : List ℕ) (area : ℕ) where
   by-run q (Records n) d e = outcome-run (record { count = n; fine = q; reads = d; parts = e })
   by-run q (Stopped r) d e = outcome-refused r (ap readingOf e) (ap (partsRead f) e)
 
-  by-claim : 32768 ≤ area → programFrom f 0 .answer ≡ Fine → (x : Checked) → unlessEnd f (p .claim) (checked (claimNumber f (p .claim)) (p .claim)) ≡ x → Outcome
+  by-claim : 65536 ≤ area → programFrom f 0 .answer ≡ Fine → (x : Checked) → unlessEnd f (p .claim) (checked (claimNumber f (p .claim)) (p .claim)) ≡ x → Outcome
   unfolding readFile
   by-claim l q (Refused r) d =
       let e = parts-both f area l q ∙ ap (twoParts p) (evidence-refused f (p .claim) p area r d) in
@@ -86,12 +86,12 @@ module _ (f : List ℕ) (area : ℕ) where
     | no z ↦ by-run q _ refl (parts-both f area l q ∙ ap (twoParts p) (evidence-steps f (p .claim) p area d z))
   ]
 
-  by-program : 32768 ≤ area → (x : Checked) → programFrom f 0 .answer ≡ x → Outcome
+  by-program : 65536 ≤ area → (x : Checked) → programFrom f 0 .answer ≡ x → Outcome
   by-program l Fine d = by-claim l d _ refl
   by-program l (Refused r) d = no-parts r (parts-refused f area r l d)
 
   pub outcome : Outcome
-  outcome = elim (decLt area 32768) [
+  outcome = elim (decLt area 65536) [
     | yes l ↦ no-parts (record { number = 8; place = 0 }) (parts-short f area l)
     | no l ↦ by-program (omega arith) _ refl
   ]

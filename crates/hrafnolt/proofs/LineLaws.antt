@@ -139,6 +139,6 @@ pub over-said : (input line : List ℕ) → 65536 < length input → LineOf (ref
 unfolding said
 over-said input line l h = rw (lt-ltb 65536 (length input) l) h
 
-pub judged-said : (input line : List ℕ) (area : ℕ) → area ≡ 32768 → length input ≤ 65536 → LineOf (judged input area) line → LineOf (said input) line
+pub judged-said : (input line : List ℕ) (area : ℕ) → area ≡ 65536 → length input ≤ 65536 → LineOf (judged input area) line → LineOf (said input) line
 unfolding said
 judged-said input line area e l h = rw (le-ltb 65536 (length input) l) (subst (λ (n : ℕ). LineOf (judged input n) line) e h)

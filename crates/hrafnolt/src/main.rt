@@ -20,10 +20,10 @@ fn input_buffer() -> [u8; 65537]
 }
 
 // It holds the offsets of 4,096 entries, and 65,536 bytes hold no more.
-fn work_area() -> [u8; 32768]
-    ensures { λ r. ⌜ 32768 ≡ length r ⌝ }
+fn work_area() -> [u8; 65536]
+    ensures { λ r. ⌜ 65536 ≡ length r ⌝ }
 {
-    [0; 32768]
+    [0; 65536]
 }
 
 // ---- the line

@@ -122,7 +122,7 @@ evidence-kept n (entries r) w l h =
     rest-kept 16384 (4 * n) w (wroteFrom 0 (r .offsets) (drop 16384 w)) l (drop-wrote (r .offsets) (drop 16384 w) 0 (4 * n) (omega arith))
 evidence-kept n (steps m) w l h = refl
 
-pub reading-kept : (f w : List ℕ) → 32768 ≤ length w → drop (usedOf (length w)) (reading.areaRead (partsOf f (length w)) w) ≡ drop (usedOf (length w)) w
+pub reading-kept : (f w : List ℕ) → 65536 ≤ length w → drop (usedOf (length w)) (reading.areaRead (partsOf f (length w)) w) ≡ drop (usedOf (length w)) w
 unfolding usedOf
 reading-kept f w l = go (programFrom f 0 .answer) refl
   where
@@ -145,10 +145,10 @@ replay-kept n w v a e l q =
 
 -- ---- the whole
 
-pub cleared-all : (w v : List ℕ) → 32768 ≤ length w → drop (usedOf (length w)) v ≡ drop (usedOf (length w)) w → replicate (usedOf (length w)) 0 ++ drop (usedOf (length w)) v ≡ areaAfter w
+pub cleared-all : (w v : List ℕ) → 65536 ≤ length w → drop (usedOf (length w)) v ≡ drop (usedOf (length w)) w → replicate (usedOf (length w)) 0 ++ drop (usedOf (length w)) v ≡ areaAfter w
 unfolding areaAfter
-cleared-all w v l e = rw (le-ltb (length w) 32768 l) (ap (λ (x : List ℕ). replicate (usedOf (length w)) 0 ++ x) e)
+cleared-all w v l e = rw (le-ltb (length w) 65536 l) (ap (λ (x : List ℕ). replicate (usedOf (length w)) 0 ++ x) e)
 
-pub untouched : (w : List ℕ) → length w < 32768 → w ≡ areaAfter w
+pub untouched : (w : List ℕ) → length w < 65536 → w ≡ areaAfter w
 unfolding areaAfter
-untouched w l = rw (lt-ltb (length w) 32768 l)
+untouched w l = rw (lt-ltb (length w) 65536 l)

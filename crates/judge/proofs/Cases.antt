@@ -80,12 +80,12 @@ evidenceWith f at p n =
 abbrev judgedWith : List ℕ → ℕ → Verdict
 judgedWith f n = ofFile (partsRead f (programThen (programFrom f 0) (λ p. evidenceWith f (p .claim) p n)))
 
-judged-with : (f : List ℕ) (area : ℕ) → 32768 ≤ area → judged f area ≡ judgedWith f (entriesAllowed area)
+judged-with : (f : List ℕ) (area : ℕ) → 65536 ≤ area → judged f area ≡ judgedWith f (entriesAllowed area)
 unfolding judged readFile partsOf evidenceFrom
-judged-with f area l = rw (le-ltb area 32768 l)
+judged-with f area l = rw (le-ltb area 65536 l)
 
 -- six are allowed at least, and no row has more
-many : (area : ℕ) → 32768 ≤ area → (k : ℕ) × (entriesAllowed area ≡ suc (suc (suc (suc (suc (suc k))))))
+many : (area : ℕ) → 65536 ≤ area → (k : ℕ) × (entriesAllowed area ≡ suc (suc (suc (suc (suc (suc k))))))
 unfolding entriesAllowed
 many area l = (entriesAllowed area - 6, omega arith)
 

@@ -197,8 +197,8 @@ refused8 f area k = (
     placed (reading.list P ts es) = 0
     placed (reading.run P ts ss) = 0
 
-    go : reading.readFile f area ≡ reading.refused (record { number = 8; place = k }) → (area < 32768) × (k ≡ 0)
-    go q = elim (decLt area 32768) [
+    go : reading.readFile f area ≡ reading.refused (record { number = 8; place = k }) → (area < 65536) × (k ≡ 0)
+    go q = elim (decLt area 65536) [
       | yes l ↦ (l, sym (ap placed q) ∙ ap placed (short-file f area l))
       | no l ↦ absurd (omega (arith, refused-large f area _ q (omega arith)))
     ]

@@ -41,7 +41,7 @@ twelve Pointer = refl
 twelve Value = refl
 twelve Nothing = refl
 
-pub short-said : (f : List ℕ) (area : ℕ) → area < 32768 → refused 8 0 ≡ judged f area
+pub short-said : (f : List ℕ) (area : ℕ) → area < 65536 → refused 8 0 ≡ judged f area
 unfolding judged
 short-said f area l = sym (ap ofFile (short-file f area l))
 

@@ -242,7 +242,7 @@ evidence-low f at p area =
 -- ---- the whole reading
 
 -- 8 in an area that is too short, whatever the file
-pub short-file : (f : List ℕ) (area : ℕ) → area < 32768 → readFile f area ≡ refused (record { number = 8; place = 0 })
+pub short-file : (f : List ℕ) (area : ℕ) → area < 65536 → readFile f area ≡ refused (record { number = 8; place = 0 })
 unfolding readFile
 short-file f area l = ap (partsRead f) (parts-short f area l)
 
@@ -256,7 +256,7 @@ evidence-file f p (entries r) h = go (r .answer) h
 evidence-file f p (steps (Records n)) h = tt
 evidence-file f p (steps (Stopped r)) h = h
 
-pub file-low : (f : List ℕ) (area : ℕ) → 32768 ≤ area → LowFile (readFile f area)
+pub file-low : (f : List ℕ) (area : ℕ) → 65536 ≤ area → LowFile (readFile f area)
 unfolding readFile
 file-low f area l = go (programFrom f 0 .answer) refl
   where
@@ -269,7 +269,7 @@ file-low f area l = go (programFrom f 0 .answer) refl
 
 -- the numbers of a refused reading
 pub refused-low : (f : List ℕ) (area : ℕ) (r : Refusal) → readFile f area ≡ refused r → (1 ≤ r .number) × (r .number ≤ 8)
-refused-low f area r e = elim (decLt area 32768) [
+refused-low f area r e = elim (decLt area 65536) [
   | yes l ↦ let z : r .number ≡ 8 = ap numberOf (sym e ∙ short-file f area l) in (omega arith, omega arith)
   | no l ↦ let z : Low r = subst LowFile e (file-low f area (omega arith)) in (omega arith, omega arith)
 ]
@@ -279,5 +279,5 @@ refused-low f area r e = elim (decLt area 32768) [
     numberOf (list P ts es) = 0
     numberOf (run P ts ss) = 0
 
-pub refused-large : (f : List ℕ) (area : ℕ) (r : Refusal) → readFile f area ≡ refused r → 32768 ≤ area → r .number ≤ 7
+pub refused-large : (f : List ℕ) (area : ℕ) (r : Refusal) → readFile f area ≡ refused r → 65536 ≤ area → r .number ≤ 7
 refused-large f area r e l = let z : Low r = subst LowFile e (file-low f area l) in z .1

@@ -17,7 +17,7 @@ pub data Row : Type 0 where
 
 -- with every work area that is not refused
 unfoldable pub Holds : Row → Type 0
-Holds (file f v) = (area : ℕ) → 32768 ≤ area → judged f area ≡ v
+Holds (file f v) = (area : ℕ) → 65536 ≤ area → judged f area ≡ v
 Holds (below xs ys) = QueueBelow xs ys
 Holds (notBelow xs ys) = QueueBelow xs ys → ⊥
 

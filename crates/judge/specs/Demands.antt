@@ -75,7 +75,7 @@ OneAnswer = (f : List ℕ) (area : ℕ) → Judged f area (judged f area) × ((v
 
 -- 8
 abbrev pub Refused8 : Type 0
-Refused8 = (f : List ℕ) (area k : ℕ) → (judged f area ≡ refused 8 k) ↔ ((area < 32768) × (k ≡ 0))
+Refused8 = (f : List ℕ) (area k : ℕ) → (judged f area ≡ refused 8 k) ↔ ((area < 65536) × (k ≡ 0))
 
 -- 1 to 7: the reading of the records says so, in an area that is large enough
 abbrev pub RefusedReading : Type 0

@@ -62,4 +62,4 @@ usedOf area = 16384 + 4 * entriesAllowed area
 
 -- these are 0 and the rest is untouched; after 8 all of it is
 unfoldable pub areaAfter : List ℕ → List ℕ
-areaAfter w = choose (ltb (length w) 32768) (λ _. w) (λ _. replicate (usedOf (length w)) 0 ++ drop (usedOf (length w)) w)
+areaAfter w = choose (ltb (length w) 65536) (λ _. w) (λ _. replicate (usedOf (length w)) 0 ++ drop (usedOf (length w)) w)

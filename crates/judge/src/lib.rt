@@ -38,7 +38,7 @@ fn clear_used(work: &mut [u8], n: usize)
 
 // The judgement in an area that is large enough. The part of it that the judgement does not use is untouched.
 fn judge_file(file: &[u8], work: &mut [u8]) -> Answer
-    requires { ⌜ 32768 ≤ length (now work) ⌝ }
+    requires { ⌜ 65536 ≤ length (now work) ⌝ }
     ensures { λ r. ⌜ verdictIn r ≡ judged (now (file .entry)) (length (now (work .entry))) ⌝ }
     ensures { λ r. ⌜ drop (usedOf (length (now (work .entry)))) (now (work .exit)) ≡ drop (usedOf (length (now (work .entry)))) (now (work .entry)) ⌝ }
 {
@@ -63,7 +63,7 @@ fn judge_and_clear(file: &[u8], work: &mut [u8]) -> Answer
     ensures { λ r. ⌜ now (work .exit) ≡ areaAfter (now (work .entry)) ⌝ }
 {
     let n = work.len();
-    if n < 32768 {
+    if n < 65536 {
         return Answer::Unread(Refusal {
             number: 8,
             place: 0,

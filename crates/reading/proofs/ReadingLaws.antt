@@ -109,14 +109,14 @@ shape-range f at q =
 -- ---- the whole
 
 module _ (f : List ℕ) (area : ℕ) where
-  pub parts-short : area < 32768 → partsOf f area ≡ noParts (record { number = 8; place = 0 })
+  pub parts-short : area < 65536 → partsOf f area ≡ noParts (record { number = 8; place = 0 })
   unfolding partsOf
-  parts-short l = rw (lt-ltb area 32768 l)
+  parts-short l = rw (lt-ltb area 65536 l)
 
-  pub parts-refused : (r : Refusal) → 32768 ≤ area → programFrom f 0 .answer ≡ Refused r → partsOf f area ≡ noParts r
+  pub parts-refused : (r : Refusal) → 65536 ≤ area → programFrom f 0 .answer ≡ Refused r → partsOf f area ≡ noParts r
   unfolding partsOf
-  parts-refused r l e = rw (le-ltb area 32768 l, e)
+  parts-refused r l e = rw (le-ltb area 65536 l, e)
 
-  pub parts-both : 32768 ≤ area → programFrom f 0 .answer ≡ Fine → partsOf f area ≡ twoParts (programFrom f 0 .program) (evidenceFrom f (programFrom f 0 .program .claim) (programFrom f 0 .program) area)
+  pub parts-both : 65536 ≤ area → programFrom f 0 .answer ≡ Fine → partsOf f area ≡ twoParts (programFrom f 0 .program) (evidenceFrom f (programFrom f 0 .program .claim) (programFrom f 0 .program) area)
   unfolding partsOf
-  parts-both l e = rw (le-ltb area 32768 l, e)
+  parts-both l e = rw (le-ltb area 65536 l, e)

@@ -147,7 +147,7 @@ entriesFrom (suc left) s states f at offsets es =
 
 -- entries allowed: a quarter of the work area's bytes past the first 16,384, rounded down, and never over 524,288
 unfoldable pub entriesAllowed : ℕ → ℕ
-entriesAllowed area = min 524288 ((area - 16384) / 4)
+entriesAllowed area = min 524288 ((area - 16384) / 12)
 
 -- ---- offsets, four bytes each, least significant first
 

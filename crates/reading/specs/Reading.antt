@@ -55,7 +55,7 @@ programThen r x = answered (r .answer)
 
 unfoldable pub partsOf : List ℕ → ℕ → Parts
 partsOf f area =
-    choose (ltb area 32768) (λ _. noParts (record { number = 8; place = 0 })) (λ _. programThen (programFrom f 0) (λ p. evidenceFrom f (p .claim) p area))
+    choose (ltb area 65536) (λ _. noParts (record { number = 8; place = 0 })) (λ _. programThen (programFrom f 0) (λ p. evidenceFrom f (p .claim) p area))
 
 -- ---- what a file says
 

@@ -93,13 +93,13 @@ pub fn entries_allowed(area: usize) -> usize
     if area < 16384 {
         return 0;
     }
-    let most = (area - 16384) / 4;
+    let most = (area - 16384) / 12;
     if most < 524288 { most } else { 524288 }
 }
 
 // From the claim on.
 fn read_evidence(file: &[u8], program: Program, work: &mut [u8]) -> Reading
-    requires { ⌜ (32768 ≤ length (now work)) × (program .shape .processes ≤ 4) × (program .shape .variables ≤ 4) ⌝ }
+    requires { ⌜ (65536 ≤ length (now work)) × (program .shape .processes ≤ 4) × (program .shape .variables ≤ 4) ⌝ }
     ensures { λ r. ⌜ r ≡ evidenceReading program (evidenceFrom (now (file .entry)) (program .claim) program (length (now (work .entry)))) ⌝ }
     ensures { λ r. ⌜ now (work .exit) ≡ evidenceArea (evidenceFrom (now (file .entry)) (program .claim) program (length (now (work .entry)))) (now (work .entry)) ⌝ }
 {
@@ -125,7 +125,7 @@ pub fn read(file: &[u8], work: &mut [u8]) -> Reading
     ensures { λ r. ⌜ r ≡ readingOf (partsOf (now (file .entry)) (length (now (work .entry)))) ⌝ }
     ensures { λ r. ⌜ now (work .exit) ≡ areaRead (partsOf (now (file .entry)) (length (now (work .entry)))) (now (work .entry)) ⌝ }
 {
-    if work.len() < 32768 {
+    if work.len() < 65536 {
         return reading_refused(Refusal {
             number: 8,
             place: 0,

@@ -46,7 +46,7 @@ pub fn step_body(file: &[u8], at: usize) -> usize
     if is_kind(file, at, 33) { 2 } else { 1 }
 }
 
-pub(crate) fn pair_exists(shape: Shape, process: u8, variable: u8) -> bool
+pub fn pair_exists(shape: Shape, process: u8, variable: u8) -> bool
     ensures { λ r. ⌜ r ≡ exists shape process variable ⌝ }
 {
     both(

@@ -21,7 +21,7 @@ ofRun (run P ts ss) = some (runVerdict P ts ss)
 
 -- with the smallest work area
 unfoldable pub Holds : Row → Type 0
-Holds r = ofRun (readFile (r .file) 32768) ≡ some (r .verdict)
+Holds r = ofRun (readFile (r .file) 65536) ≡ some (r .verdict)
 
 pub data Each (F : Row → Type 0) : List Row → Type 0 where
   no-row : Each F []

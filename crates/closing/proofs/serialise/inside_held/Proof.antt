@@ -13,4 +13,4 @@ inside-held-spec = tie.close (tie.spec
     -- search-requires
     (λ c κs. search needs)
     -- returns-2
-    (λ c. λ Z u e l. inside-searched (c .before .before .before .before .before .before .before .args .file .now) (c .before .before .before .before .before .before .before .args .list .now) (c .before .before .before .before .before .before .before .args .sum .now) (c .before .before .before .before .before .before .before .args .n) (c .before .before .before .before .before .before .before .args .program) (c .before .before .before .before .before .before .before .args .cube) (c .before .before .before .before .before .before .before .args .p) (c .before .before .before .before .before .before .before .args .v) Z u (c .before .before .before .before .before .before .before .args .last) (c .before .before .before .before .before .before .before .args .k) e (omega (arith, c .before .before .if1 .left)) l (λ i. c .before .before-serialise-inside .ensures (Z .walkable .stepping .sound) (Z .process) (Z .variable) i) (c .search .ensures)))
+    (λ c. λ Z u e l. inside-searched (c .before .before .before .before .before .before .before .args .file .now) (c .before .before .before .before .before .before .before .args .list .now) (c .before .before .before .before .before .before .before .args .sum .now) (c .before .before .before .before .before .before .before .args .n) (c .before .before .before .before .before .before .before .args .program) (c .before .before .before .before .before .before .before .args .cube) (c .before .before .before .before .before .before .before .args .p) (c .before .before .before .before .before .before .before .args .v) Z u (c .before .before .before .before .before .before .before .args .last) (c .before .before .before .before .before .before .before .args .k) e (omega (arith, c .before .before .if1 .left)) l (λ i. c .before .before-serialise-inside .ensures (Z .walkable .stepping .sound) (Z .process) (Z .variable) i) (c .search .ensures .1)))

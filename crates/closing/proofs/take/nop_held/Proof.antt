@@ -2,8 +2,7 @@ use mathlib.Core.Path.{refl, sym}
 use mathlib.Core.Bool.{true}
 use Rattle.pws.specs.declared.Operation.the-variants.{Nop}
 use Rattle.lists.specs.Predecessors.{isUndone}
-use Rattle.matching.proofs.Below.{and-right}
-use Rattle.closing.proofs.TakeLaws.{process-exists, plain-held}
+use Rattle.closing.proofs.TakeLaws.{and-right, process-exists, plain-held}
 use borrow.Author.Needs.{needs}
 use Rattle.closing.proofs.take.nop_held.Statement.{statement}
 use Rattle.closing.proofs.take.nop_held.Tie as tie
@@ -15,4 +14,4 @@ nop-held-spec = tie.close (tie.spec
     -- search-requires
     (λ c κs. search needs)
     -- returns
-    (λ c. λ W j A. plain-held (c .before .before .before .before .before .before .args .file .now) (c .before .before .before .before .before .before .args .list .now) (c .before .before .before .before .before .before .args .sum .now) (c .before .before .before .before .before .before .args .n) (c .before .before .before .before .before .before .args .program) (c .before .before .before .before .before .before .args .cube) W j (c .before .before .before .before .before .before .args .p) (c .before .before .before .before .before .before .args .from) Nop A true (λ k. sym (and-right (isUndone k))) refl (c .before .before-nop .ensures ((c .before .before .before .before .before .before .args .program) .shape) (W .stepping .sound) (process-exists (c .before .before .before .before .before .before .args .file .now) (c .before .before .before .before .before .before .args .list .now) (c .before .before .before .before .before .before .args .sum .now) (c .before .before .before .before .before .before .args .n) (c .before .before .before .before .before .before .args .program) (c .before .before .before .before .before .before .args .cube) W j (c .before .before .before .before .before .before .args .p) (c .before .before .before .before .before .before .args .from) Nop A)) (c .search .ensures)))
+    (λ c. λ W j A. plain-held (c .before .before .before .before .before .before .args .file .now) (c .before .before .before .before .before .before .args .list .now) (c .before .before .before .before .before .before .args .sum .now) (c .before .before .before .before .before .before .args .n) (c .before .before .before .before .before .before .args .program) (c .before .before .before .before .before .before .args .cube) W j (c .before .before .before .before .before .before .args .p) (c .before .before .before .before .before .before .args .from) Nop A true (λ k. sym (and-right (isUndone k))) refl (c .before .before-nop .ensures ((c .before .before .before .before .before .before .args .program) .shape) (W .stepping .sound) (process-exists (c .before .before .before .before .before .before .args .file .now) (c .before .before .before .before .before .before .args .list .now) (c .before .before .before .before .before .before .args .sum .now) (c .before .before .before .before .before .before .args .n) (c .before .before .before .before .before .before .args .program) (c .before .before .before .before .before .before .args .cube) W j (c .before .before .before .before .before .before .args .p) (c .before .before .before .before .before .before .args .from) Nop A)) (c .search .ensures .1)))

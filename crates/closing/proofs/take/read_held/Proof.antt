@@ -20,4 +20,4 @@ read-held-spec = tie.close (tie.spec
     -- search-requires
     (λ c κs. search needs)
     -- returns-2
-    (λ c. λ g W j A. let a = process-exists (c .before .before .before .before .before .before .before .before .args .file .now) (c .before .before .before .before .before .before .before .before .args .list .now) (c .before .before .before .before .before .before .before .before .args .sum .now) (c .before .before .before .before .before .before .before .before .args .n) (c .before .before .before .before .before .before .before .before .args .program) (c .before .before .before .before .before .before .before .before .args .cube) W j (c .before .before .before .before .before .before .before .before .args .p) (c .before .before .before .before .before .before .before .before .args .from) (Read (c .before .before .before .before .before .before .before .before .args .v) (c .before .before .before .before .before .before .before .before .args .x)) A in let b = operation-exists (c .before .before .before .before .before .before .before .before .args .file .now) (c .before .before .before .before .before .before .before .before .args .list .now) (c .before .before .before .before .before .before .before .before .args .sum .now) (c .before .before .before .before .before .before .before .before .args .n) (c .before .before .before .before .before .before .before .before .args .program) (c .before .before .before .before .before .before .before .before .args .cube) W j (c .before .before .before .before .before .before .before .before .args .p) (c .before .before .before .before .before .before .before .before .args .from) (Read (c .before .before .before .before .before .before .before .before .args .v) (c .before .before .before .before .before .before .before .before .args .x)) A .0 in plain-held (c .before .before .before .before .before .before .before .before .args .file .now) (c .before .before .before .before .before .before .before .before .args .list .now) (c .before .before .before .before .before .before .before .before .args .sum .now) (c .before .before .before .before .before .before .before .before .args .n) (c .before .before .before .before .before .before .before .before .args .program) (c .before .before .before .before .before .before .before .before .args .cube) W j (c .before .before .before .before .before .before .before .before .args .p) (c .before .before .before .before .before .before .before .before .args .from) (Read (c .before .before .before .before .before .before .before .before .args .v) (c .before .before .before .before .before .before .before .before .args .x)) A (alike (sees (configurationOf (c .before .before .before .before .before .before .before .before .args .cube)) (c .before .before .before .before .before .before .before .before .args .p) (c .before .before .before .before .before .before .before .before .args .v)) (c .before .before .before .before .before .before .before .before .args .x)) (λ k. refl) (sym (c .before .before .before .may-read .ensures ((c .before .before .before .before .before .before .before .before .args .program) .shape) (W .stepping .sound) g a b) ∙ not-false (c .before .before .before .may-read .result) (c .before .before .if1 .left)) (c .before .before-read .ensures ((c .before .before .before .before .before .before .before .before .args .program) .shape) (W .stepping .sound) g a b) (c .search .ensures)))
+    (λ c. λ g W j A. let a = process-exists (c .before .before .before .before .before .before .before .before .args .file .now) (c .before .before .before .before .before .before .before .before .args .list .now) (c .before .before .before .before .before .before .before .before .args .sum .now) (c .before .before .before .before .before .before .before .before .args .n) (c .before .before .before .before .before .before .before .before .args .program) (c .before .before .before .before .before .before .before .before .args .cube) W j (c .before .before .before .before .before .before .before .before .args .p) (c .before .before .before .before .before .before .before .before .args .from) (Read (c .before .before .before .before .before .before .before .before .args .v) (c .before .before .before .before .before .before .before .before .args .x)) A in let b = operation-exists (c .before .before .before .before .before .before .before .before .args .file .now) (c .before .before .before .before .before .before .before .before .args .list .now) (c .before .before .before .before .before .before .before .before .args .sum .now) (c .before .before .before .before .before .before .before .before .args .n) (c .before .before .before .before .before .before .before .before .args .program) (c .before .before .before .before .before .before .before .before .args .cube) W j (c .before .before .before .before .before .before .before .before .args .p) (c .before .before .before .before .before .before .before .before .args .from) (Read (c .before .before .before .before .before .before .before .before .args .v) (c .before .before .before .before .before .before .before .before .args .x)) A .0 in plain-held (c .before .before .before .before .before .before .before .before .args .file .now) (c .before .before .before .before .before .before .before .before .args .list .now) (c .before .before .before .before .before .before .before .before .args .sum .now) (c .before .before .before .before .before .before .before .before .args .n) (c .before .before .before .before .before .before .before .before .args .program) (c .before .before .before .before .before .before .before .before .args .cube) W j (c .before .before .before .before .before .before .before .before .args .p) (c .before .before .before .before .before .before .before .before .args .from) (Read (c .before .before .before .before .before .before .before .before .args .v) (c .before .before .before .before .before .before .before .before .args .x)) A (alike (sees (configurationOf (c .before .before .before .before .before .before .before .before .args .cube)) (c .before .before .before .before .before .before .before .before .args .p) (c .before .before .before .before .before .before .before .before .args .v)) (c .before .before .before .before .before .before .before .before .args .x)) (λ k. refl) (sym (c .before .before .before .may-read .ensures ((c .before .before .before .before .before .before .before .before .args .program) .shape) (W .stepping .sound) g a b) ∙ not-false (c .before .before .before .may-read .result) (c .before .before .if1 .left)) (c .before .before-read .ensures ((c .before .before .before .before .before .before .before .before .args .program) .shape) (W .stepping .sound) g a b) (c .search .ensures .1)))

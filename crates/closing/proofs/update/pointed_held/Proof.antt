@@ -19,4 +19,4 @@ pointed-held-spec = tie.close (tie.spec
     -- search-requires
     (λ c κs. search needs)
     -- returns-2
-    (λ c. λ W l m k. update-searched (c .before .before .before .before .before .before .before .args .file .now) (c .before .before .before .before .before .before .before .args .list .now) (c .before .before .before .before .before .before .before .args .sum .now) (c .before .before .before .before .before .before .before .args .n) (c .before .before .before .before .before .before .before .args .program) (c .before .before .before .before .before .before .before .args .cube) W (c .before .before .before .before .before .before .before .args .p) l (pointed ((c .before .before .before .before .before .before .before .args .i) / 4) ((c .before .before .before .before .before .before .before .args .i) % 4)) k (c .before .before-update-pointed .ensures (W .stepping .sound) l) (c .search .ensures)))
+    (λ c. λ W l m k. update-searched (c .before .before .before .before .before .before .before .args .file .now) (c .before .before .before .before .before .before .before .args .list .now) (c .before .before .before .before .before .before .before .args .sum .now) (c .before .before .before .before .before .before .before .args .n) (c .before .before .before .before .before .before .before .args .program) (c .before .before .before .before .before .before .before .args .cube) W (c .before .before .before .before .before .before .before .args .p) l (pointed ((c .before .before .before .before .before .before .before .args .i) / 4) ((c .before .before .before .before .before .before .before .args .i) % 4)) k (c .before .before-update-pointed .ensures (W .stepping .sound) l) (c .search .ensures .1)))

@@ -15,4 +15,4 @@ unpointed-held-spec = tie.close (tie.spec
     -- search-requires
     (λ c κs. search needs)
     -- returns-2
-    (λ c. λ W l. undone-there (c .before .before .before .before .before .before .before .before .before .args .file .now) (c .before .before .before .before .before .before .before .before .before .args .list .now) (c .before .before .before .before .before .before .before .before .before .args .sum .now) (c .before .before .before .before .before .before .before .before .before .args .n) (c .before .before .before .before .before .before .before .before .before .args .program) (c .before .before .before .before .before .before .before .before .before .args .cube) W (c .before .before .before .before .before .before .before .before .before .args .p) l (omega (arith, c .before .before .before .of-four .ensures, c .before .before .if1 .left)) (c .before .before-update .ensures ((c .before .before .before .before .before .before .before .before .before .args .program) .shape) (W .stepping .sound) l) (c .search .ensures)))
+    (λ c. λ W l. undone-there (c .before .before .before .before .before .before .before .before .before .args .file .now) (c .before .before .before .before .before .before .before .before .before .args .list .now) (c .before .before .before .before .before .before .before .before .before .args .sum .now) (c .before .before .before .before .before .before .before .before .before .args .n) (c .before .before .before .before .before .before .before .before .before .args .program) (c .before .before .before .before .before .before .before .before .before .args .cube) W (c .before .before .before .before .before .before .before .before .before .args .p) l (omega (arith, c .before .before .before .of-four .ensures, c .before .before .if1 .left)) (c .before .before-update .ensures ((c .before .before .before .before .before .before .before .before .before .args .program) .shape) (W .stepping .sound) l) (c .search .ensures .1)))
