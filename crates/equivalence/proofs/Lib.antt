@@ -1,0 +1,4 @@
+pub mod BackwardPending
+pub mod BackwardBuffers
+pub mod BackwardDelayed
+pub mod BackwardDoing
