@@ -1,20 +1,18 @@
 -- PSO's buffers as PWS's queues and what is put off: the values that wait, then a value for each write and a mark for each store-store fence.
 use Prim.Native.Nat.{ℕ, _<_}
-use mathlib.Core.Path.{_≡_, refl, sym, ap, subst, _∙_}
+use mathlib.Core.Path.{_≡_, refl, sym, ap, _∙_}
 use mathlib.Core.Logic.{_⊎_, inl, inr, _≢_}
-use mathlib.Core.Bool.{Bool, true, false, cond, not}
-use mathlib.Core.Option.{Option, none, some}
+use mathlib.Core.Bool.{cond, not}
 use mathlib.Core.List.{List, [], _∷_, _++_, append-assoc, append-nil}
-use native.Mathlib.Omega.{arith}
 use native.Mathlib.Decide.{ℕ-discrete}
-use lib.Dec.{T, eqb, ltb}
+use lib.Dec.{T, eqb}
 use borrow.Author.Tests.{ne-eqb, eq-eqb, lt-ltb}
 use Rattle.pws.specs.declared.Operation.{Operation}
 use Rattle.pws.specs.declared.Operation.the-variants.{Nop, Read, Write, Mfence, Sfence, Arw}
 use Rattle.pws.specs.Program.{Shape, Program}
-use Rattle.pws.specs.Machine.{put, isEmpty, newestWaiting, newestOr}
-use Rattle.pws.proofs.Facts.{put-same, put-other}
-use Rattle.pso.specs.Machine.{Item, value, mark, PsoConfiguration, noItem, valueFirst, markFirst, newestValue, putBuffer, eachBuffer, bufferAfter}
+use Rattle.pws.specs.Machine.{put, isEmpty, newestWaiting}
+use Rattle.pws.proofs.Facts.{put-other}
+use Rattle.pso.specs.Machine.{Item, value, mark, PsoConfiguration, noItem, valueFirst, markFirst, newestValue, bufferAfter}
 use Rattle.equivalence.proofs.BackwardPending.{Deferred, operationOf, waitingAfter, waitingAll, newest-cons}
 
 abbrev pub values : List ℕ → List Item

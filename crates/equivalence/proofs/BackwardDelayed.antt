@@ -1,8 +1,8 @@
 -- PWS configurations in which each process has operations put off: the steps that keep them so, and the steps that do them.
-use Prim.Native.Nat.{ℕ, zero, suc, _+_, _-_, _<_, _≤_}
-use mathlib.Core.Path.{_≡_, refl, sym, ap, subst, _∙_}
+use Prim.Native.Nat.{ℕ, suc, _<_}
+use mathlib.Core.Path.{_≡_, refl, sym, ap, subst}
 use mathlib.Core.Logic.{_≢_}
-use mathlib.Core.Bool.{Bool, true, false, _&&_, not}
+use mathlib.Core.Bool.{not}
 use mathlib.Core.List.{List, [], _∷_, _++_}
 use native.Mathlib.Omega.{arith}
 use native.Mathlib.Decide.{ℕ-discrete}
@@ -17,45 +17,12 @@ use Rattle.pws.specs.declared.Transition.{Transition}
 use Rattle.pws.specs.declared.Step.{Step}
 use Rattle.pws.specs.declared.Step.the-variants.{Take, Serialise, Update}
 use Rattle.pws.specs.Program.{Shape, Program, transition, ProgramInRange}
-use Rattle.pws.specs.Machine.{
-  Memory,
-  Configuration,
-  put,
-  putQueue,
-  newest,
-  copyWith,
-  isEmpty,
-  withoutOldest,
-  noneWaiting,
-  sees,
-  mayOperate,
-  queueAfter,
-  memoryAfter,
-  mayTake,
-  afterTake,
-  afterSerialise,
-  afterUpdate,
-  may,
-  after,
-}
+use Rattle.pws.specs.Machine.{Memory, Configuration, put, newest, copyWith, isEmpty, withoutOldest, noneWaiting, sees, mayOperate, queueAfter, memoryAfter, afterTake, afterSerialise, afterUpdate, may, after}
 use Rattle.pws.specs.Configurations.{ConfigurationOf}
 use Rattle.pws.specs.Sequences.{Takes, done, step}
 use Rattle.pws.proofs.Facts.{T-eq, put-same, put-other, put-each, putQueue-same, putQueue-other}
 use Rattle.pws.proofs.Steps.{yes-take, yes-serialise, yes-update, step-configuration}
-use Rattle.equivalence.proofs.BackwardPending.{
-  Deferred,
-  operationOf,
-  waitingAfter,
-  Permitted,
-  Next,
-  Pending,
-  pending-other,
-  Before,
-  Carries,
-  pending-own,
-  UpTo,
-  pending-point,
-}
+use Rattle.equivalence.proofs.BackwardPending.{Deferred, waitingAfter, Permitted, Pending, pending-other, Before, Carries, pending-own, UpTo, pending-point}
 
 -- ---- steps that lead to where F holds
 

@@ -1,37 +1,20 @@
 -- Doing what is put off: the first operation of a process, and at the end all of them.
 use Prim.Native.Nat.{ℕ, zero, suc, _+_, _-_, _<_, _≤_}
-use mathlib.Core.Path.{_≡_, refl, sym, ap, subst, _∙_}
+use mathlib.Core.Path.{_≡_, refl, ap, subst, _∙_}
 use mathlib.Core.Logic.{_≢_}
-use mathlib.Core.Bool.{Bool, true, false, _&&_}
+use mathlib.Core.Bool.{Bool}
 use mathlib.Core.List.{List, [], _∷_}
 use native.Mathlib.Omega.{arith}
 use native.Mathlib.Decide.{ℕ-discrete}
-use lib.ListN.{length}
 use lib.Dec.{T}
 use mir.Facts.{yes-and}
-use Rattle.pws.specs.declared.Message.{Message}
-use Rattle.pws.specs.declared.Operation.{Operation}
 use Rattle.pws.specs.declared.Operation.the-variants.{Sfence}
-use Rattle.pws.specs.declared.Transition.{Transition}
-use Rattle.pws.specs.declared.Step.{Step}
 use Rattle.pws.specs.declared.Step.the-variants.{Take, Serialise, Update}
 use Rattle.pws.specs.Program.{Shape, Program, transition, ProgramInRange}
-use Rattle.pws.specs.Machine.{Configuration, put, isEmpty, withoutOldest, allBelow, noneWaiting, afterTake, afterSerialise, afterUpdate, may, after}
-use Rattle.pws.proofs.Facts.{put-same, put-other, put-each, putQueue-same, putQueue-other}
-use Rattle.equivalence.proofs.BackwardPending.{Deferred, operationOf, waitingAfter, Next, UpTo}
-use Rattle.equivalence.proofs.BackwardDelayed.{
-  Leads,
-  stay,
-  go,
-  onward,
-  weaken,
-  Late,
-  Delayed,
-  Did,
-  delayed-update,
-  delayed-serialise,
-  delayed-take,
-}
+use Rattle.pws.specs.Machine.{Configuration, put, isEmpty, withoutOldest, allBelow, noneWaiting, afterSerialise, afterUpdate}
+use Rattle.pws.proofs.Facts.{put-same, put-other, putQueue-same, putQueue-other}
+use Rattle.equivalence.proofs.BackwardPending.{Deferred, operationOf, UpTo}
+use Rattle.equivalence.proofs.BackwardDelayed.{Leads, stay, go, onward, weaken, Late, Delayed, Did, delayed-update, delayed-serialise, delayed-take}
 
 pub all-below : (n : ℕ) (f : ℕ → Bool) → ((i : ℕ) → i < n → T (f i)) → T (allBelow n f)
 all-below zero f h = tt
