@@ -1,27 +1,25 @@
 -- What PSO reaches, PWS reaches (report, Conjecture 1, one of its two halves): PWS follows each step of PSO, and does at the end what is put off.
-use Prim.Native.Nat.{ℕ, _<_, _≤_}
-use mathlib.Core.Path.{_≡_, refl, sym, _∙_}
+use Prim.Native.Nat.{ℕ, _<_}
+use mathlib.Core.Path.{refl, sym, _∙_}
 use mathlib.Core.Logic.{⊎-elim}
-use mathlib.Core.Bool.{Bool, _&&_}
-use mathlib.Core.List.{List, [], _∷_}
+use mathlib.Core.Bool.{_&&_}
+use mathlib.Core.List.{List, []}
 use native.Mathlib.Omega.{arith}
 use lib.ListN.{length}
 use lib.Dec.{T, eqb, ltb, ltb→lt}
 use mir.Facts.{and-yes}
-use Rattle.pws.specs.declared.Operation.{Operation}
-use Rattle.pws.specs.declared.Transition.{Transition}
 use Rattle.pws.specs.Program.{Program, transition, ProgramInRange}
-use Rattle.pws.specs.Machine.{Configuration, put, allBelow}
+use Rattle.pws.specs.Machine.{Configuration, allBelow}
 use Rattle.pws.proofs.Cases.{all-yes}
 use Rattle.pso.specs.declared.PsoStep.{PsoStep}
 use Rattle.pso.specs.declared.PsoStep.the-variants.{Operate, UpdateVariable, RemoveMark}
 use Rattle.pso.specs.Machine.{PsoConfiguration, valueFirst, markFirst, psoMayOperate, mayOperateBy, afterOperate, afterUpdateVariable, afterRemoveMark, psoMay, psoAfter}
 use Rattle.pso.specs.Runs.{PsoStart, PsoTakes, done, step}
-use Rattle.equivalence.specs.Equivalence.{PwsStart, SameStates, PwsReaches, PsoToPws}
+use Rattle.equivalence.specs.Equivalence.{PwsStart, SameStates, PsoToPws}
 use Rattle.equivalence.proofs.BackwardDelayed.{Leads, stay, onward, weaken}
 use Rattle.equivalence.proofs.BackwardDoing.{Finished, finish}
-use Rattle.equivalence.proofs.BackwardFollowing.{Related, Deferrable, Waiting, follow-defer, up-to-fence, follow-update, follow-removal}
-use Rattle.equivalence.proofs.BackwardStrong.{Strong, deferrable-or-strong, Ready, make-ready, follow-strong}
+use Rattle.equivalence.proofs.BackwardFollowing.{Related, Waiting, follow-defer, up-to-fence, follow-update, follow-removal}
+use Rattle.equivalence.proofs.BackwardStrong.{deferrable-or-strong, Ready, make-ready, follow-strong}
 
 module _ (P : Program) (R : ProgramInRange P) where
   module _ (d : PsoConfiguration) (c : Configuration) (K : Related P d c) where

@@ -10,7 +10,7 @@ use borrow.Author.Tests.{ne-eqb, eq-eqb, lt-ltb}
 use Rattle.pws.specs.declared.Operation.{Operation}
 use Rattle.pws.specs.declared.Operation.the-variants.{Nop, Read, Write, Mfence, Sfence, Arw}
 use Rattle.pws.specs.Program.{Shape, Program}
-use Rattle.pws.specs.Machine.{put, isEmpty, newestWaiting}
+use Rattle.pws.specs.Machine.{isEmpty, newestWaiting}
 use Rattle.pws.proofs.Facts.{put-other}
 use Rattle.pso.specs.Machine.{Item, value, mark, PsoConfiguration, noItem, valueFirst, markFirst, newestValue, bufferAfter}
 use Rattle.equivalence.proofs.BackwardPending.{Deferred, operationOf, waitingAfter, waitingAll, newest-cons}

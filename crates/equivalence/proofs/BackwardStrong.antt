@@ -12,7 +12,7 @@ use Rattle.pws.specs.declared.Operation.{Operation}
 use Rattle.pws.specs.declared.Operation.the-variants.{Nop, Read, Write, Mfence, Sfence, Arw}
 use Rattle.pws.specs.declared.Step.the-variants.{Take, Update}
 use Rattle.pws.specs.Program.{Program, transition, OperationOf, ProgramInRange}
-use Rattle.pws.specs.Machine.{Configuration, put, newest, copyWith, isEmpty, noneWaiting, atNewest, mayOperate, queueAfter, memoryAfter, afterTake, afterUpdate, may}
+use Rattle.pws.specs.Machine.{Configuration, newest, copyWith, isEmpty, noneWaiting, atNewest, mayOperate, queueAfter, memoryAfter, afterTake, afterUpdate, may}
 use Rattle.pws.proofs.Facts.{T-eq, put-same, put-each, message-new}
 use Rattle.pws.proofs.Cases.{all-yes}
 use Rattle.pws.proofs.Steps.{yes-take, step-configuration}
