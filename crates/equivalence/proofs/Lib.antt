@@ -1,0 +1,3 @@
+pub mod Pso
+pub mod ForwardThreads
+pub mod ForwardMerge
