@@ -46,3 +46,8 @@ module _ (P : Program) (p : ℕ) where
 
   pub thread-grow : {d₀ : PsoConfiguration} {ms : List Message} {j : ℕ} {d : PsoConfiguration} (m : Message) → suc j ≤ length ms → Thread d₀ ms j d → Thread d₀ (m ∷ ms) j d
   thread-grow {d₀} {ms} {j} m l r = record { arrived = r .arrived; arrives = arrives-grow d₀ m ms j (r .arrived) l (r .arrives); stays = r .stays }
+
+  -- p goes on to the next message
+  pub thread-next : {d₀ : PsoConfiguration} {ms : List Message} {j : ℕ} {b d a : PsoConfiguration} → Arrives d₀ ms j b → Locals b d → Next (message ms (suc (suc j))) d a
+      → Thread d₀ ms (suc j) a
+  thread-next {b = b} {d = d} {a = a} r l n = record { arrived = a; arrives = (b, d, r, l, n); stays = none }

@@ -1,3 +1,5 @@
 pub mod Pso
 pub mod ForwardThreads
 pub mod ForwardMerge
+pub mod ForwardAhead
+pub mod ForwardOwn
