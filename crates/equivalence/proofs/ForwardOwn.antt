@@ -12,12 +12,12 @@ use borrow.Author.Tests.{ne-eqb, eq-eqb}
 use Rattle.pws.specs.declared.Message.{Message}
 use Rattle.pws.specs.Program.{Shape, Program}
 use Rattle.pws.specs.Machine.{put, message, labelled}
-use Rattle.pws.proofs.Facts.{put-each}
+use Rattle.pws.proofs.Facts.{put-each, message-old}
 use Rattle.pso.specs.declared.PsoStep.the-variants.{Operate, UpdateVariable, RemoveMark}
 use Rattle.pso.specs.Machine.{Item, value, mark, PsoConfiguration, markFirst, valueFirst, oldestValue, withoutFirst, putBuffer, psoMay, psoAfter}
 use Rattle.equivalence.proofs.Pso.{yes-remove, yes-update-variable, putBuffer-same, eachBuffer-at}
 use Rattle.equivalence.proofs.ForwardThreads.{Locals, none, more, Next, makes, other, Thread, thread-grow, thread-next}
-use Rattle.equivalence.proofs.ForwardAhead.{values, marks, ownItem, Ahead, fence, next, ahead-high, First, ahead-first, split-more}
+use Rattle.equivalence.proofs.ForwardAhead.{values, marks, ownItem, Ahead, fence, next, ahead-high, ahead-none, First, ahead-first, split-more}
 
 -- each message's snapshot is the one before it with its own variable changed
 abbrev pub Coherent : List Message → Type 0
@@ -27,10 +27,10 @@ Coherent ms =
 
 -- ---- messages and buffers
 
-own-same : (m : Message) (p : ℕ) → m .process ≡ p → ownItem p m (m .variable) ≡ value (getD (m .snapshot) (m .variable) 0) ∷ []
+pub own-same : (m : Message) (p : ℕ) → m .process ≡ p → ownItem p m (m .variable) ≡ value (getD (m .snapshot) (m .variable) 0) ∷ []
 own-same m p e = rw (eq-eqb (m .process) p e, eq-eqb (m .variable) (m .variable) refl)
 
-own-variable : (m : Message) (p v : ℕ) → v ≢ m .variable → ownItem p m v ≡ []
+pub own-variable : (m : Message) (p v : ℕ) → v ≢ m .variable → ownItem p m v ≡ []
 own-variable m p v n = rw (ne-eqb (m .variable) v (λ e. n (sym e))) (go (eqb (m .process) p))
   where
     go : (a : Bool) → cond (a && false) (value (getD (m .snapshot) v 0) ∷ []) [] ≡ []
@@ -43,12 +43,12 @@ own-other m p v n = rw (ne-eqb (m .process) p n)
 module _ (P : Program) (d₀ : PsoConfiguration) (p : ℕ) where
   -- ---- removal of marks that head all buffers
 
-  record Removed (a d : PsoConfiguration) (rest : ℕ → List Item) : Type 0 where
-    end : PsoConfiguration
-    stays : Locals P p a end
-    state : end .state p ≡ d .state p
-    memory : end .memory ≡ d .memory
-    buffers : (v : ℕ) → v < P .shape .variables → end .buffer p v ≡ rest v
+  pub record Removed (a d : PsoConfiguration) (rest : ℕ → List Item) : Type 0 where
+    pub end : PsoConfiguration
+    pub stays : Locals P p a end
+    pub state : end .state p ≡ d .state p
+    pub memory : end .memory ≡ d .memory
+    pub buffers : (v : ℕ) → v < P .shape .variables → end .buffer p v ≡ rest v
 
   remove : p < P .shape .processes → (n : ℕ) (a d : PsoConfiguration) (rest : ℕ → List Item) → Locals P p a d
       → ((v : ℕ) → v < P .shape .variables → d .buffer p v ≡ marks n ++ rest v) → Removed a d rest
@@ -74,6 +74,33 @@ module _ (P : Program) (d₀ : PsoConfiguration) (p : ℕ) where
     pub held : ℕ → List Item
     pub ahead : Ahead p k ms held
     pub buffers : (v : ℕ) → v < P .shape .variables → view .buffer p v ≡ held v ++ values (waiting v)
+
+  -- ---- a message appended
+
+  pub grow : {ms : List Message} {k s : ℕ} {waiting left : ℕ → List ℕ} (m : Message) → Own ms k s waiting → ((v : ℕ) → values (waiting v) ≡ ownItem p m v ++ values (left v))
+      → Own (m ∷ ms) k s left
+  grow {ms} {k} {s} {waiting} {left} m o h =
+      let l = ahead-high (o .ahead) in
+      record {
+        level = o .level;
+        points = o .points;
+        view = o .view;
+        thread = thread-grow P p m (omega (arith, o .points)) (o .thread);
+        memory = o .memory ∙ ap (λ (x : Message). x .snapshot) (sym (message-old m ms k l));
+        state = o .state;
+        held = λ v. o .held v ++ ownItem p m v;
+        ahead = next m (o .ahead);
+        buffers = λ v ve. o .buffers v ve ∙ ap (λ (is : List Item). o .held v ++ is) (h v) ∙ sym (append-assoc (o .held v) (ownItem p m v) (values (left v)));
+      }
+
+  -- ---- the pointer at the newest message: no value is ahead, and all marks can go
+
+  pub at-newest : p < P .shape .processes → {ms : List Message} {k s : ℕ} {waiting : ℕ → List ℕ} (o : Own ms k s waiting) → length ms ≡ k
+      → Removed (o .thread .arrived) (o .view) (λ v. values (waiting v))
+  at-newest pe {waiting = waiting} o e =
+      let r = ahead-none (o .ahead) e in
+      remove pe (r .0) (o .thread .arrived) (o .view) (λ v. values (waiting v)) (o .thread .stays)
+      (λ v ve. o .buffers v ve ∙ ap (λ (is : List Item). is ++ values (waiting v)) (r .1 v))
 
   -- ---- the pointer's next step
 

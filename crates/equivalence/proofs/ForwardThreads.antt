@@ -39,7 +39,7 @@ module _ (P : Program) (p : ℕ) where
     pub stays : Locals arrived d
 
   -- a message appended to the channel changes nothing
-  arrives-grow : (d₀ : PsoConfiguration) (m : Message) (ms : List Message) (j : ℕ) (a : PsoConfiguration) → suc j ≤ length ms → Arrives d₀ ms j a → Arrives d₀ (m ∷ ms) j a
+  pub arrives-grow : (d₀ : PsoConfiguration) (m : Message) (ms : List Message) (j : ℕ) (a : PsoConfiguration) → suc j ≤ length ms → Arrives d₀ ms j a → Arrives d₀ (m ∷ ms) j a
   arrives-grow d₀ m ms zero a l r = r
   arrives-grow d₀ m ms (suc j) a l r =
       (r .0, r .1, arrives-grow d₀ m ms j (r .0) (omega arith) (r .2), r .3, subst (λ (x : Message). Next x (r .1) a) (sym (message-old m ms (suc (suc j)) l)) (r .4))

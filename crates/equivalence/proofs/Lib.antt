@@ -3,3 +3,5 @@ pub mod ForwardThreads
 pub mod ForwardMerge
 pub mod ForwardAhead
 pub mod ForwardOwn
+pub mod ForwardOperations
+pub mod Forward
