@@ -3,11 +3,11 @@
 use Prim.Native.Nat.{ℕ, zero, suc, _<_, _≤_, _+_, _-_}
 use mathlib.Core.Path.{_≡_, refl, sym, ap, subst, _∙_}
 use mathlib.Core.Logic.{_≢_}
-use mathlib.Core.Bool.{Bool, true, false, _&&_, not}
+use mathlib.Core.Bool.{not}
 use mathlib.Core.List.{List, [], _∷_, _++_}
 use native.Mathlib.Omega.{arith}
-use native.Mathlib.Decide.{decLe, ℕ-discrete}
-use lib.ListN.{length, getD, set}
+use native.Mathlib.Decide.{decLe}
+use lib.ListN.{length, getD}
 use lib.Seq.{getD-set-same}
 use lib.Dec.{T, eqb, eqb→eq}
 use mir.Facts.{and-yes}
@@ -20,14 +20,14 @@ use Rattle.pws.specs.Program.{Program, ProgramInRange, transition, OperationOf}
 use Rattle.pws.specs.Machine.{Configuration, put, putQueue, message, newest, copyWith, isEmpty, withoutOldest, mayOperate, queueAfter, memoryAfter, may, after}
 use Rattle.pws.specs.Configurations.{ConfigurationOf}
 use Rattle.pws.specs.Sequences.{Takes, done, step}
-use Rattle.pws.proofs.Facts.{put-same, put-other, put-each, message-old, message-new}
+use Rattle.pws.proofs.Facts.{put-other, put-each, message-old, message-new}
 use Rattle.pws.proofs.Steps.{take-yes, serialise-yes, update-yes, step-configuration}
 use Rattle.pso.specs.Machine.{Item, value, PsoConfiguration}
 use Rattle.pso.specs.Runs.{PsoStart}
 use Rattle.equivalence.specs.Equivalence.{PwsStart, PsoReaches, PwsToPso}
 use Rattle.equivalence.proofs.ForwardThreads.{none, Thread}
 use Rattle.equivalence.proofs.ForwardMerge.{merge}
-use Rattle.equivalence.proofs.ForwardAhead.{values, ownItem, here, ahead-high}
+use Rattle.equivalence.proofs.ForwardAhead.{values, ownItem, here}
 use Rattle.equivalence.proofs.ForwardOwn.{Coherent, own-same, own-variable, own-other, Own, grow, advance}
 use Rattle.equivalence.proofs.ForwardOperations.{operate}
 

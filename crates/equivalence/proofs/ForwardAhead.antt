@@ -1,15 +1,14 @@
 -- What a process of the PSO machine still has in its buffers of what its PWS counterpart has serialised past its pointer.
 use Prim.Native.Nat.{ℕ, zero, suc, _<_, _≤_, max}
-use mathlib.Core.Path.{_≡_, refl, sym, ap, subst, _∙_}
+use mathlib.Core.Path.{_≡_, refl, sym, ap, _∙_}
 use mathlib.Core.Bool.{Bool, true, false, cond}
-use mathlib.Core.Option.{Option, none, some}
 use mathlib.Core.List.{List, [], _∷_, _++_, map, append-assoc, append-nil}
 use native.Mathlib.Omega.{arith}
-use native.Mathlib.Decide.{decLe, ℕ-discrete}
+use native.Mathlib.Decide.{decLe}
 use lib.ListN.{length, getD, replicate}
 use Rattle.pws.specs.declared.Message.{Message}
 use Rattle.pws.specs.Machine.{message, labelled, lastLabelled, newestWaiting, newestOr}
-use Rattle.pws.proofs.Facts.{message-old, message-new, IsLast, last-is, last-eq}
+use Rattle.pws.proofs.Facts.{message-old, message-new, last-is}
 use Rattle.pso.specs.Machine.{Item, value, mark, newestValue}
 
 -- ---- buffers

@@ -1,12 +1,11 @@
 -- An operation of p in the PWS machine is done in p's run of the PSO machine at the message that p points at.
-use Prim.Native.Nat.{ℕ, zero, suc, _<_, _≤_}
+use Prim.Native.Nat.{ℕ, suc, _<_}
 use mathlib.Core.Path.{_≡_, refl, sym, ap, subst, _∙_}
-use mathlib.Core.Logic.{_≢_}
-use mathlib.Core.Bool.{Bool, true, false, _&&_}
+use mathlib.Core.Bool.{_&&_}
 use mathlib.Core.List.{List, [], _∷_, _++_, append-assoc, append-nil}
 use native.Mathlib.Omega.{arith}
 use native.Mathlib.Decide.{ℕ-discrete}
-use lib.ListN.{length, getD, set}
+use lib.ListN.{length, getD}
 use lib.Dec.{T, eqb, eqb→eq}
 use mir.Facts.{and-yes, yes-and}
 use Rattle.pws.specs.declared.Message.{Message}
@@ -14,15 +13,15 @@ use Rattle.pws.specs.declared.Operation.{Operation}
 use Rattle.pws.specs.declared.Operation.the-variants.{Nop, Read, Write, Mfence, Sfence, Arw}
 use Rattle.pws.specs.declared.Transition.{Transition}
 use Rattle.pws.specs.Program.{Shape, Program, transition, OperationOf}
-use Rattle.pws.specs.Machine.{Memory, Configuration, put, putQueue, message, newest, copyWith, isEmpty, noneWaiting, atNewest, sees, mayOperate, queueAfter, memoryAfter}
-use Rattle.pws.proofs.Facts.{T-eq, put-same, put-other, put-each, message-old, message-new}
+use Rattle.pws.specs.Machine.{Configuration, put, message, newest, copyWith, isEmpty, noneWaiting, atNewest, sees, mayOperate, queueAfter, memoryAfter}
+use Rattle.pws.proofs.Facts.{T-eq, put-same, put-other, message-new}
 use Rattle.pws.proofs.Cases.{all-yes}
 use Rattle.pso.specs.declared.PsoStep.the-variants.{Operate}
 use Rattle.pso.specs.Machine.{Item, value, mark, PsoConfiguration, noItem, putBuffer, psoSees, psoMayOperate, bufferAfter, psoMemoryAfter, psoMay, psoAfter}
 use Rattle.equivalence.proofs.Pso.{yes-all, yes-operate, putBuffer-same, eachBuffer-at}
-use Rattle.equivalence.proofs.ForwardThreads.{Locals, more, Next, makes, Thread, arrives-grow, thread-next}
+use Rattle.equivalence.proofs.ForwardThreads.{Locals, more, Next, makes, arrives-grow, thread-next}
 use Rattle.equivalence.proofs.ForwardAhead.{values, values-snoc, Ahead, here, fence, ahead-sees}
-use Rattle.equivalence.proofs.ForwardOwn.{Own, Removed, at-newest}
+use Rattle.equivalence.proofs.ForwardOwn.{Own, at-newest}
 
 is-nil : (xs : List ℕ) → T (isEmpty xs) → xs ≡ []
 is-nil [] t = refl

@@ -7,17 +7,17 @@ use mathlib.Core.List.{List, [], _∷_, _++_, append-assoc}
 use native.Mathlib.Omega.{arith}
 use native.Mathlib.Decide.{ℕ-discrete}
 use lib.ListN.{length, getD, set}
-use lib.Dec.{T, eqb}
+use lib.Dec.{eqb}
 use borrow.Author.Tests.{ne-eqb, eq-eqb}
 use Rattle.pws.specs.declared.Message.{Message}
-use Rattle.pws.specs.Program.{Shape, Program}
-use Rattle.pws.specs.Machine.{put, message, labelled}
+use Rattle.pws.specs.Program.{Program}
+use Rattle.pws.specs.Machine.{message}
 use Rattle.pws.proofs.Facts.{put-each, message-old}
-use Rattle.pso.specs.declared.PsoStep.the-variants.{Operate, UpdateVariable, RemoveMark}
-use Rattle.pso.specs.Machine.{Item, value, mark, PsoConfiguration, markFirst, valueFirst, oldestValue, withoutFirst, putBuffer, psoMay, psoAfter}
+use Rattle.pso.specs.declared.PsoStep.the-variants.{UpdateVariable, RemoveMark}
+use Rattle.pso.specs.Machine.{Item, value, PsoConfiguration, oldestValue, withoutFirst, putBuffer, psoAfter}
 use Rattle.equivalence.proofs.Pso.{yes-remove, yes-update-variable, putBuffer-same, eachBuffer-at}
-use Rattle.equivalence.proofs.ForwardThreads.{Locals, none, more, Next, makes, other, Thread, thread-grow, thread-next}
-use Rattle.equivalence.proofs.ForwardAhead.{values, marks, ownItem, Ahead, fence, next, ahead-high, ahead-none, First, ahead-first, split-more}
+use Rattle.equivalence.proofs.ForwardThreads.{Locals, more, Next, makes, other, Thread, thread-grow, thread-next}
+use Rattle.equivalence.proofs.ForwardAhead.{values, marks, ownItem, Ahead, next, ahead-high, ahead-none, First, ahead-first, split-more}
 
 -- each message's snapshot is the one before it with its own variable changed
 abbrev pub Coherent : List Message → Type 0

@@ -1,42 +1,21 @@
 -- Laws of the PSO machine: what permits a step, and that a step of a process looks at, and changes, that process's part and memory alone.
-use Prim.Native.Nat.{ℕ, zero, suc, _<_, _≤_}
-use mathlib.Core.Path.{_≡_, refl, sym, ap, ap₂, subst, _∙_}
+use Prim.Native.Nat.{ℕ, zero, suc, _<_}
+use mathlib.Core.Path.{_≡_, refl, sym, ap, ap₂, _∙_}
 use mathlib.Core.Logic.{_≢_}
 use mathlib.Core.Bool.{Bool, true, false, cond, _&&_}
 use mathlib.Core.List.{List, [], _∷_, _++_}
 use native.Mathlib.Omega.{arith}
-use lib.ListN.{length, getD, set}
-use lib.Dec.{T, eqb, ltb, ltb→lt, lt→ltb}
-use mir.Facts.{and-yes, yes-and}
+use lib.ListN.{length, set}
+use lib.Dec.{T, eqb, ltb, lt→ltb}
+use mir.Facts.{yes-and}
 use Rattle.pws.specs.declared.Operation.{Operation}
 use Rattle.pws.specs.declared.Operation.the-variants.{Nop, Read, Write, Mfence, Sfence, Arw}
-use Rattle.pws.specs.declared.Transition.{Transition}
 use Rattle.pws.specs.Program.{Shape, Program, transition}
-use Rattle.pws.specs.Machine.{put, newestOr, allBelow}
+use Rattle.pws.specs.Machine.{put, allBelow}
 use Rattle.pws.proofs.Facts.{put-same, put-other}
 use Rattle.pso.specs.declared.PsoStep.{PsoStep}
 use Rattle.pso.specs.declared.PsoStep.the-variants.{Operate, UpdateVariable, RemoveMark}
-use Rattle.pso.specs.Machine.{
-  Item,
-  value,
-  mark,
-  PsoConfiguration,
-  noItem,
-  valueFirst,
-  markFirst,
-  oldestValue,
-  withoutFirst,
-  newestValue,
-  putBuffer,
-  eachBuffer,
-  psoSees,
-  psoMayOperate,
-  bufferAfter,
-  psoMemoryAfter,
-  mayOperateBy,
-  psoMay,
-  psoAfter,
-}
+use Rattle.pso.specs.Machine.{Item, value, mark, PsoConfiguration, noItem, valueFirst, markFirst, oldestValue, withoutFirst, putBuffer, eachBuffer, psoMayOperate, bufferAfter, psoMemoryAfter, mayOperateBy, psoMay, psoAfter}
 use Rattle.pso.specs.Runs.{PsoTakes, done, step}
 
 -- ---- tests of all numbers below one
