@@ -5,3 +5,4 @@ pub mod ForwardAhead
 pub mod ForwardOwn
 pub mod ForwardOperations
 pub mod Forward
+pub mod ForwardTargets
