@@ -5,3 +5,11 @@ pub mod BackwardDoing
 pub mod BackwardFollowing
 pub mod BackwardStrong
 pub mod Backward
+pub mod Pso
+pub mod ForwardThreads
+pub mod ForwardMerge
+pub mod ForwardAhead
+pub mod ForwardOwn
+pub mod ForwardOperations
+pub mod Forward
+pub mod ForwardTargets
