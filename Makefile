@@ -1,15 +1,16 @@
-# `make` builds the judge and shows what it says of the examples; `make test` is the gate; `make install PREFIX=..` installs header, library
-# and programs.
+# `make` proves and builds the judge and shows what it says of the examples; `make test` is the gate; `make install PREFIX=..` installs
+# header, library and programs.
 PREFIX ?= /usr/local
 .PHONY: all build test install
 
 all: build
 	@examples/judge-all
 
+# The crates below the program and the library; the others (pso, equivalence, ..) are theory on which no verdict rests, and are `make test`'s.
 build:
-	@mkdir -p target
-	@[ -e target/bin/hrafnolt-files ] || echo 'proving and building the judge: some minutes, the first time'
-	@{ rt staticlib judge && rt check hrafnolt && c/build; } >target/make.log 2>&1 || { cat target/make.log; exit 1; }
+	@[ -e target/bin/hrafnolt-files ] || echo 'proving the judge, then building it: some minutes, the first time'
+	@.ci/prove hrafnolt exports
+	@rt staticlib exports >target/make.log 2>&1 && c/build || { cat target/make.log; exit 1; }
 
 test:
 	@.ci/run

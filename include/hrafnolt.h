@@ -1,7 +1,9 @@
 /* The judge of Hrafnolt, for C.
  *
- * Link with libhrafnolt.a (target/staticlib/libjudge.a, before it is installed). The function keeps no state between calls: any number
- * of threads may call it at a time, each with its own work area. */
+ * Link with libhrafnolt.a (target/staticlib/libexports.a, before it is installed). From outside it needs memcpy and memset as the C
+ * library has them (a later one may need memmove and memcmp, and nothing else: a test looks), and room on the stack: its calls within
+ * calls are as deep as a cube has FFs, at most 224, which comes to less than 512 KiB (by its object code; this is not proved). No
+ * function allocates, or keeps state between calls: any number of threads may call it at a time, each with its own work area. */
 #ifndef HRAFNOLT_H
 #define HRAFNOLT_H
 

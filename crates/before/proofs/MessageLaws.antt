@@ -12,7 +12,7 @@ use lib.Dec.{eqb}
 use borrow.Author.Tests.{le-leb, lt-leb, eq-eqb, ne-eqb}
 use Rattle.pws.specs.declared.Message.{Message}
 use Rattle.pws.specs.Machine.{noMessage, labelled, lastLabelled}
-use Rattle.pws.specs.Insertion.{insert}
+use Rattle.pws.specs.Insertion.{putMessage}
 use Rattle.lists.specs.Cubes.{withValues, setValue}
 use Rattle.records.specs.declared.program.Shape.{Shape}
 use Rattle.reading.specs.declared.entry.Cube.{Cube}
@@ -50,16 +50,16 @@ shift-next {ms} {ns} {at} {i} w l =
     })
 
 insert-at : (ms rs : List Message) (at n : ℕ) (μ : Message) → at ≤ n → ((j : ℕ) → j < at → getD rs j noMessage ≡ getD ms j noMessage) → getD rs at noMessage ≡ μ
-    → ((j : ℕ) → at ≤ j → j < n → getD rs (suc j) noMessage ≡ getD ms j noMessage) → channelOf rs (suc n) ≡ insert (channelOf ms n) (suc at) μ
+    → ((j : ℕ) → at ≤ j → j < n → getD rs (suc j) noMessage ≡ getD ms j noMessage) → channelOf rs (suc n) ≡ putMessage (channelOf ms n) (suc at) μ
 insert-at ms rs at zero μ l below here above = ap (λ (m : Message). m ∷ []) (ap (λ (k : ℕ). getD rs k noMessage) (let z : 0 ≡ at = omega arith in z) ∙ here)
 insert-at ms rs at (suc n) μ l below here above = elim (ℕ-discrete at (suc n)) [
   | yes e ↦ ap₂ {A = Message} {B = List Message} (λ m ns. m ∷ ns) (ap (λ (k : ℕ). getD rs k noMessage) (sym e) ∙ here) (channel-equal rs ms (suc n) (λ i k. below i (omega arith)))
-      ∙ sym (ap (λ (b : Bool). cond b (getD ms n noMessage ∷ insert (channelOf ms n) (suc at) μ) (μ ∷ channelOf ms (suc n))) (lt-leb (suc at) (suc (length (channelOf ms n))) (omega (arith, channel-length ms n))))
+      ∙ sym (ap (λ (b : Bool). cond b (getD ms n noMessage ∷ putMessage (channelOf ms n) (suc at) μ) (μ ∷ channelOf ms (suc n))) (lt-leb (suc at) (suc (length (channelOf ms n))) (omega (arith, channel-length ms n))))
   | no d ↦ ap₂ {A = Message} {B = List Message} (λ m ns. m ∷ ns) (above n (omega arith) (omega arith)) (insert-at ms rs at n μ (omega arith) below here (λ j a b. above j a (omega arith)))
-      ∙ sym (ap (λ (b : Bool). cond b (getD ms n noMessage ∷ insert (channelOf ms n) (suc at) μ) (μ ∷ channelOf ms (suc n))) (le-leb (suc at) (suc (length (channelOf ms n))) (omega (arith, channel-length ms n))))
+      ∙ sym (ap (λ (b : Bool). cond b (getD ms n noMessage ∷ putMessage (channelOf ms n) (suc at) μ) (μ ∷ channelOf ms (suc n))) (le-leb (suc at) (suc (length (channelOf ms n))) (omega (arith, channel-length ms n))))
 ]
 
-pub shift-end : {ms ns : List Message} {at i : ℕ} (μ : Message) (n : ℕ) → Shifted ms ns at i → n ≤ i → at ≤ n → n < 20 → channelOf (set ns at μ) (n + 1) ≡ insert (channelOf ms n) (at + 1) μ
+pub shift-end : {ms ns : List Message} {at i : ℕ} (μ : Message) (n : ℕ) → Shifted ms ns at i → n ≤ i → at ≤ n → n < 20 → channelOf (set ns at μ) (n + 1) ≡ putMessage (channelOf ms n) (at + 1) μ
 shift-end {ms} {ns} {at} {i} μ n w a b c =
     simp unary-clauses (insert-at ms (set ns at μ) at n μ b
     (λ j l. getD-set-other ns at j μ noMessage (λ e. omega arith) ∙ w .kept j (omega arith))

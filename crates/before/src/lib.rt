@@ -9,7 +9,7 @@ ghost use lib.Dec.{eqb};
 ghost use Rattle.pws.specs.Machine.{put, putQueue, message, labelled, lastLabelled, lastWrite, point, isEmpty, newestWaiting, newestOr, noneWaiting, allBelow, atNewest, sees};
 ghost use Rattle.pws.specs.Program as pws;
 ghost use Rattle.pws.specs.Program.{OperationOf};
-ghost use Rattle.pws.specs.Insertion.{insert, up, insertInto};
+ghost use Rattle.pws.specs.Insertion.{putMessage, up, insertInto};
 ghost use Rattle.pws.specs.Entries.{FF};
 ghost use Rattle.lists.specs.Values.{alike, meet, meetAll};
 ghost use Rattle.lists.specs.Cubes.{memoryOf, withValues, anyValue, anyMessage, setValue, withoutLast, withLast, topmost, older, alikeNewest};
@@ -128,7 +128,7 @@ pub fn insert_message(
     at: usize,
     message: Message,
 ) -> [Message; 20]
-    ensures { λ r. ⌜ (count < 20 → at ≤ count → channelOf r (count + 1) ≡ insert (channelOf messages count) (at + 1) message) ⌝ }
+    ensures { λ r. ⌜ (count < 20 → at ≤ count → channelOf r (count + 1) ≡ putMessage (channelOf messages count) (at + 1) message) ⌝ }
 {
     if 20 <= count {
         return messages;

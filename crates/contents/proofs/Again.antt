@@ -17,8 +17,8 @@ use Rattle.reading.specs.declared.evidence.Reading.{Reading}
 use Rattle.records.specs.Bytes.{byte}
 use Rattle.records.specs.Records.{isKind, transitionAt, stateAt, stepBody}
 use Rattle.records.specs.ProgramPart.{programFrom, programOf, targetsOf}
-use Rattle.reading.specs.EvidencePart.{stepsOf, allowed, wroteFrom}
-use Rattle.reading.specs.Reading.{partsOf, refused, list, run, readFile, readingRefused, readingWith, readingOf, areaAfter}
+use Rattle.reading.specs.EvidencePart.{stepsOf, entriesAllowed, wroteFrom}
+use Rattle.reading.specs.Reading.{partsOf, refused, list, run, readFile, readingRefused, readingWith, readingOf, areaRead}
 use Rattle.records.proofs.RecordLaws.{fine-refused, refused-same}
 use Rattle.contents.specs.Again.{offsetAt, cubeAt, entriesOf, transitionOf, targetOf, placeOf}
 use Rattle.contents.specs.Contents.{ProgramSizes, CubeRange}
@@ -55,9 +55,9 @@ module _ (f w : List ℕ) where
   area = length w
 
   -- the list of offsets, at exit
-  list-part : (L : ListParts f area) → drop 16384 (areaAfter (partsOf f area) w) ≡ wroteFrom 0 (listed f area .offsets) (drop 16384 w)
+  list-part : (L : ListParts f area) → drop 16384 (areaRead (partsOf f area) w) ≡ wroteFrom 0 (listed f area .offsets) (drop 16384 w)
   list-part L =
-      ap (λ x. drop 16384 (areaAfter x w)) (L .parts)
+      ap (λ x. drop 16384 (areaRead x w)) (L .parts)
       ∙ drop-at (take 16384 w) (wroteFrom 0 (listed f area .offsets) (drop 16384 w)) 16384 (length-take-le 16384 w (omega (arith, L .enough)))
 
   module _ (R : Reading) (r : R ≡ readingOf (partsOf f area)) where
@@ -108,7 +108,7 @@ module _ (f w : List ℕ) where
           go (outcome-run L) = rw (r ∙ reading-steps f area L) (step-inside f area L)
 
       -- claim 0
-      module _ (work : List ℕ) (e : work ≡ areaAfter (partsOf f area) w) (c : R .contents .claim ≡ 0) where
+      module _ (work : List ℕ) (e : work ≡ areaRead (partsOf f area) w) (c : R .contents .claim ≡ 0) where
         as-list : ListParts f area
         as-list = go (outcome f area)
           where
@@ -129,7 +129,7 @@ module _ (f w : List ℕ) where
             (file-list f area as-list
             ∙ ap (list (programOf f (programFrom f 0 .program)) (targetsOf f (programFrom f 0 .program))) (again f area as-list (drop 16384 w) (length-drop 16384 w)))
 
-        pub reading-count : R .contents .evidence .count ≤ allowed area
+        pub reading-count : R .contents .evidence .count ≤ entriesAllowed area
         reading-count = rw handed (count-allowed f area as-list (drop 16384 w) (length-drop 16384 w))
 
         -- the offset of entry k is the place of its 10

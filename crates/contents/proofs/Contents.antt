@@ -22,9 +22,9 @@ use Rattle.records.specs.declared.program.Program.{Program}
 use Rattle.records.specs.Bytes.{byte, le32}
 use Rattle.records.specs.Records.{checked, isKind, claimNumber, exists, stepBody, stepNames, stepNumber, stepAt, transitionAt}
 use Rattle.records.specs.ProgramPart.{unlessEnd, programFrom, programOf, targetsOf}
-use Rattle.reading.specs.EvidencePart.{stepsFrom, stepsOf, EntriesRead, entriesFrom, allowed, wroteFrom}
+use Rattle.reading.specs.EvidencePart.{stepsFrom, stepsOf, EntriesRead, entriesFrom, entriesAllowed, wroteFrom}
 use Rattle.reading.specs.Cube.{configurationOf, loadEntry}
-use Rattle.reading.specs.Reading.{entries, steps, none, both, partsOf, refused, list, run, partsRead, readFile, readingRefused, readingWith, readingOf}
+use Rattle.reading.specs.Reading.{entries, steps, noParts, twoParts, partsOf, refused, list, run, partsRead, readFile, readingRefused, readingWith, readingOf}
 use Rattle.records.proofs.RecordLaws.{cut-fits, row-most, step-fine, entry-fine}
 use Rattle.reading.proofs.ReadingLaws.{evidence-refused, evidence-entries, evidence-steps, parts-short, parts-refused, parts-both}
 use Rattle.contents.specs.Again.{placeOf, entriesOf}
@@ -43,35 +43,35 @@ module _ (f : List ℕ) (area : ℕ) where
   p = programFrom f 0 .program
 
   abbrev pub listed : EntriesRead
-  listed = entriesFrom (allowed area) (p .shape) (p .states) f (p .claim + 2) [] []
+  listed = entriesFrom (entriesAllowed area) (p .shape) (p .states) f (p .claim + 2) [] []
 
   pub record ListParts : Type 0 where
     pub enough : 32768 ≤ area
     pub fine : programFrom f 0 .answer ≡ Fine
     pub answer : listed .answer ≡ Fine
-    pub parts : partsOf f area ≡ both p (entries listed)
+    pub parts : partsOf f area ≡ twoParts p (entries listed)
 
   pub record RunParts : Type 0 where
     pub count : ℕ
     pub fine : programFrom f 0 .answer ≡ Fine
     pub reads : stepsFrom (p .shape) (p .transitions .count) f (p .claim + 2) ≡ Records count
-    pub parts : partsOf f area ≡ both p (steps (Records count))
+    pub parts : partsOf f area ≡ twoParts p (steps (Records count))
 
   pub data Outcome : Type 0 where
     outcome-refused : (r : Refusal) → readingOf (partsOf f area) ≡ readingRefused r → readFile f area ≡ refused r → Outcome
     outcome-list : ListParts → Outcome
     outcome-run : RunParts → Outcome
 
-  no-parts : (r : Refusal) → partsOf f area ≡ none r → Outcome
+  no-parts : (r : Refusal) → partsOf f area ≡ noParts r → Outcome
   unfolding readFile
   no-parts r e = outcome-refused r (ap readingOf e) (ap (partsRead f) e)
 
-  by-list : 32768 ≤ area → programFrom f 0 .answer ≡ Fine → partsOf f area ≡ both p (entries listed) → (x : Checked) → listed .answer ≡ x → Outcome
+  by-list : 32768 ≤ area → programFrom f 0 .answer ≡ Fine → partsOf f area ≡ twoParts p (entries listed) → (x : Checked) → listed .answer ≡ x → Outcome
   unfolding readFile
   by-list l q e Fine d = outcome-list (record { enough = l; fine = q; answer = d; parts = e })
   by-list l q e (Refused r) d = outcome-refused r (rw (e, d)) (rw (e, d))
 
-  by-run : programFrom f 0 .answer ≡ Fine → (x : Counted) → stepsFrom (p .shape) (p .transitions .count) f (p .claim + 2) ≡ x → partsOf f area ≡ both p (steps x) → Outcome
+  by-run : programFrom f 0 .answer ≡ Fine → (x : Counted) → stepsFrom (p .shape) (p .transitions .count) f (p .claim + 2) ≡ x → partsOf f area ≡ twoParts p (steps x) → Outcome
   unfolding readFile
   by-run q (Records n) d e = outcome-run (record { count = n; fine = q; reads = d; parts = e })
   by-run q (Stopped r) d e = outcome-refused r (ap readingOf e) (ap (partsRead f) e)
@@ -79,11 +79,11 @@ module _ (f : List ℕ) (area : ℕ) where
   by-claim : 32768 ≤ area → programFrom f 0 .answer ≡ Fine → (x : Checked) → unlessEnd f (p .claim) (checked (claimNumber f (p .claim)) (p .claim)) ≡ x → Outcome
   unfolding readFile
   by-claim l q (Refused r) d =
-      let e = parts-both f area l q ∙ ap (both p) (evidence-refused f (p .claim) p area r d) in
+      let e = parts-both f area l q ∙ ap (twoParts p) (evidence-refused f (p .claim) p area r d) in
       outcome-refused r (ap readingOf e) (ap (partsRead f) e)
   by-claim l q Fine d = elim (ℕ-discrete (byte f (p .claim + 1)) 0) [
-    | yes z ↦ by-list l q (parts-both f area l q ∙ ap (both p) (evidence-entries f (p .claim) p area d z)) _ refl
-    | no z ↦ by-run q _ refl (parts-both f area l q ∙ ap (both p) (evidence-steps f (p .claim) p area d z))
+    | yes z ↦ by-list l q (parts-both f area l q ∙ ap (twoParts p) (evidence-entries f (p .claim) p area d z)) _ refl
+    | no z ↦ by-run q _ refl (parts-both f area l q ∙ ap (twoParts p) (evidence-steps f (p .claim) p area d z))
   ]
 
   by-program : 32768 ≤ area → (x : Checked) → programFrom f 0 .answer ≡ x → Outcome
@@ -106,8 +106,8 @@ module _ (f : List ℕ) (area : ℕ) where
     pub reading-with : readingOf (partsOf f area) ≡ readingWith p 0 (length (listed .offsets))
     reading-with = rw (L .parts, L .answer)
 
-    more : More (p .shape) (p .states) f (allowed area) (p .claim + 2) [] [] listed
-    more = entries-more (p .shape) (p .states) f (allowed area) (p .claim + 2) [] [] (L .answer)
+    more : More (p .shape) (p .states) f (entriesAllowed area) (p .claim + 2) [] [] listed
+    more = entries-more (p .shape) (p .states) f (entriesAllowed area) (p .claim + 2) [] [] (L .answer)
 
     shape : ShapeRange (p .shape)
     shape = part-shape f 0 (L .fine)
@@ -128,11 +128,11 @@ module _ (f : List ℕ) (area : ℕ) where
         })
 
     most : length (more .entries) ≤ 524288
-    unfolding allowed
+    unfolding entriesAllowed
     most = omega (arith, listed-count (more .listed) .1)
 
     fits : 4 * length (more .entries) ≤ area - 16384
-    unfolding allowed
+    unfolding entriesAllowed
     fits = omega (arith, listed-count (more .listed) .1)
 
     -- offsets go into four bytes
@@ -159,7 +159,7 @@ module _ (f : List ℕ) (area : ℕ) where
       count-same : length (more .entries) ≡ length (listed .offsets)
       count-same = sym (listed-count (more .listed) .0) ∙ ap length (sym (more .same))
 
-      pub count-allowed : length (listed .offsets) ≤ allowed area
+      pub count-allowed : length (listed .offsets) ≤ entriesAllowed area
       count-allowed = omega (arith, count-same, listed-count (more .listed) .1)
 
       -- the numbers in the list are the places of the 10s

@@ -24,7 +24,7 @@ use Rattle.reading.specs.declared.entry.Loaded.{Loaded}
 use Rattle.records.specs.Bytes.{choose, byte, cut}
 use Rattle.records.specs.Records.{checked, isKind, exists, stateNames, stateAt, pointerNames, pointerAt, entryNumber, messageAt, messageNumber, messageNames, waitingNumber, waitingNames}
 use Rattle.records.specs.ProgramPart.{shapeOf}
-use Rattle.reading.specs.EvidencePart.{beginning, withMessage, withWaiting, extended, bodySize, bodyNumber, pointerFits, pointsFirst, pointersFit, someFirst, complete, whole, bad, atBoundary, finished, bodyThen, entryFrom, entryRead}
+use Rattle.reading.specs.EvidencePart.{beginning, withMessage, withWaiting, extended, bodySize, bodyNumber, pointerInside, pointsFirst, pointersFit, someFirst, complete, whole, bad, atBoundary, finished, bodyThen, entryFrom, entryRead}
 use Rattle.reading.specs.Cube.{configurationOf, loadsMessage, loadsWaiting, nothingLoaded, moreMessage, moreWaiting, loadFrom, loaded, loadEntry}
 use Rattle.records.proofs.ByteLaws.{byte-past}
 use Rattle.records.proofs.RecordLaws.{Good, good, entry-fine, cut-fits}
@@ -260,18 +260,18 @@ module _ (s : Shape) (few : s .processes ≤ 4) (small : s .variables ≤ 4) (f 
         let b = and-true (pointersFit s n (d .memory .pointer)) (someFirst s (d .memory .pointer)) (a .1) in
         (leb-true 1 n (a .0), b .0, b .1)
 
-    fit : (p : ℕ) → p < 4 → pointerFits s (length (d .memory .channel)) p (d .memory .pointer p) ≡ true
+    fit : (p : ℕ) → p < 4 → pointerInside s (length (d .memory .channel)) p (d .memory .pointer p) ≡ true
     unfolding pointersFit
     fit =
         let n = length (d .memory .channel) in
         let z = d .memory .pointer in
-        let a = and-true (pointerFits s n 0 (z 0)) _ (parts .1) in
-        let b = and-true (pointerFits s n 1 (z 1)) _ (a .1) in
-        let c = and-true (pointerFits s n 2 (z 2)) _ (b .1) in
-        of-four (λ (p : ℕ). pointerFits s n p (z p) ≡ true) (a .0) (b .0) (c .0) (c .1)
+        let a = and-true (pointerInside s n 0 (z 0)) _ (parts .1) in
+        let b = and-true (pointerInside s n 1 (z 1)) _ (a .1) in
+        let c = and-true (pointerInside s n 2 (z 2)) _ (b .1) in
+        of-four (λ (p : ℕ). pointerInside s n p (z p) ≡ true) (a .0) (b .0) (c .0) (c .1)
 
     pointed : (p : ℕ) → p < s .processes → (1 ≤ d .memory .pointer p) × (d .memory .pointer p ≤ length (d .memory .channel))
-    unfolding pointerFits
+    unfolding pointerInside
     pointed p l =
         let a = and-true (leb 1 (d .memory .pointer p)) (leb (d .memory .pointer p) (length (d .memory .channel))) (rw (lt-ltb p (s .processes) l) at (fit p (omega arith))) in
         (leb-true 1 (d .memory .pointer p) (a .0), leb-true (d .memory .pointer p) (length (d .memory .channel)) (a .1))

@@ -11,7 +11,7 @@ use Rattle.pws.specs.Configurations.{StatesOf}
 use Rattle.pws.specs.Entries.{EntryOf, entry}
 use Rattle.records.specs.declared.program.Program as declared
 use Rattle.reading.specs.declared.entry.Cube.{Cube}
-use Rattle.reading.specs.EvidencePart.{allowed}
+use Rattle.reading.specs.EvidencePart.{entriesAllowed}
 use Rattle.reading.specs.Cube.{noQueue}
 
 -- the program and its targets
@@ -34,7 +34,7 @@ pub record EntryRange (P : Program) (e : Configuration) : Type 0 where
 pub record ListRead (P : Program) (ts : List (ℕ → ℕ)) (es : List Configuration) (area : ℕ) : Type 0 where
   pub part : ProgramPartRead P ts
   pub entries : (k : ℕ) → k < length es → EntryRange P (entry es k)
-  pub count : length es ≤ allowed area
+  pub count : length es ≤ entriesAllowed area
 
 -- a step names what exists
 abbrev pub StepOf : Program → Step → Type 0

@@ -10,7 +10,7 @@ use reading::entry::load_entry;
 use records::bytes::field;
 use records::bytes::number_at;
 use records::program::Program;
-use records::program::transition_at;
+use records::record::transition_at;
 
 // The place of the 10 of entry i.
 pub fn offset_at(list: &[u8], i: usize) -> usize

@@ -14,7 +14,7 @@ use Rattle.pws.specs.declared.Message.{Message}
 use Rattle.pws.specs.Configurations.{Fits}
 use Rattle.pws.specs.Entries.{FF, ValueOrFF, entry, noEntry}
 use Rattle.pws.proofs.Facts.{putQueue-each}
-use Rattle.lists.specs.Lists.{any}
+use Rattle.lists.specs.Lists.{anyOf}
 use Rattle.lists.specs.Values.{fills, alike}
 use Rattle.lists.specs.Matching.{matches}
 use Rattle.lists.specs.Covering as lists
@@ -76,18 +76,18 @@ module _ (S : pws.Shape) (R : pws.ShapeInRange S) (es : List Configuration) (oes
   three false true false x y e f g = g
   three false false d x y e f g = refl
 
-  full-at : any (λ d. matches S fills d c) es ≡ false → (list : List lists.Place) → ((a : lists.Place) → List·Memᴰ a list → at c a ≢ FF) → heldAt S es list c ≡ false
+  full-at : anyOf (λ d. matches S fills d c) es ≡ false → (list : List lists.Place) → ((a : lists.Place) → List·Memᴰ a list → at c a ≢ FF) → heldAt S es list c ≡ false
   full-at e [] h = e
   full-at e (a ∷ rest) h =
-      three (any (λ d. matches S fills d c) es) (any (λ d. matches S alike d c) es) (eqb (at c a) FF) (allBelow (S .values (variableOf a)) (λ x. heldAt S es rest (split c a x))) (heldAt S es rest c)
+      three (anyOf (λ d. matches S fills d c) es) (anyOf (λ d. matches S alike d c) es) (eqb (at c a) FF) (allBelow (S .values (variableOf a)) (λ x. heldAt S es rest (split c a x))) (heldAt S es rest c)
       e (ne-eqb (at c a) FF (h a (List·Memᴰ·head refl))) (full-at e rest (λ b m. h b (List·Memᴰ·tail m)))
 
-  uncovered : ((k : ℕ) → k < length es → matches S fills (entry es k) c ≡ false) → (b : Bool) → any (λ d. matches S fills d c) es ≡ b → b ≡ false
+  uncovered : ((k : ℕ) → k < length es → matches S fills (entry es k) c ≡ false) → (b : Bool) → anyOf (λ d. matches S fills d c) es ≡ b → b ≡ false
   uncovered f true e = let r = any-number (λ d. matches S fills d c) noEntry es (subst T (sym e) tt) in absurd (subst T (f (r .0) (r .1)) (r .2))
   uncovered f false e = refl
 
   full : ((k : ℕ) → k < length es → matches S fills (entry es k) c ≡ false) → ((a : lists.Place) → Valid S c a → at c a ≢ FF) → held S es c ≡ false
-  full f h = full-at (uncovered f (any (λ d. matches S fills d c) es) refl) (places S c) (λ a m. h a (valid-place S c a .0 m))
+  full f h = full-at (uncovered f (anyOf (λ d. matches S fills d c) es) refl) (places S c) (λ a m. h a (valid-place S c a .0 m))
 
   module _ (a : lists.Place) (w : Valid S c a) (e : at c a ≡ FF) where
     part-fits : (x : ℕ) → x < S .values (variableOf a) → Fits (ValueOrFF S) S (split c a x)

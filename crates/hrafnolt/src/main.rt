@@ -8,7 +8,7 @@ ghost use Rattle.judge.specs.Judge.{Verdict as Judge·Verdict};
 ghost use Rattle.judge.specs.Answers.{inC};
 ghost use Rattle.hrafnolt.specs.Line.{Numbered, LineOf, wordOf, said};
 use judge::answer::Verdict;
-use judge::hrafnolt_judge;
+use judge::judge;
 use libc::STDIN_FILENO;
 use libc::STDOUT_FILENO;
 
@@ -103,7 +103,7 @@ fn line_for(input: &[u8], line: &mut [u8]) -> usize
         );
     }
     let mut work = work_area();
-    let verdict = hrafnolt_judge(input, &mut work);
+    let verdict = judge(input, &mut work);
     put_line(line, verdict)
 }
 

@@ -16,19 +16,19 @@ use Rattle.records.specs.declared.program.Program.{Program}
 use Rattle.records.specs.Bytes.{choose, byte, put32}
 use Rattle.records.specs.Records.{checked, claimNumber, entryNumber}
 use Rattle.records.specs.ProgramPart.{unlessEnd, programFrom}
-use Rattle.reading.specs.EvidencePart.{EntryRead, whole, bad, entryRead, EntriesRead, headThen, entryThen, entriesFrom, allowed, wroteFrom}
+use Rattle.reading.specs.EvidencePart.{EntryRead, whole, bad, entryRead, EntriesRead, headThen, entryThen, entriesFrom, entriesAllowed, wroteFrom}
 use Rattle.reading.specs.Reading as reading
 use Rattle.reading.specs.Reading.{Evidence, refusal, entries, steps, claimThen, evidenceFrom, Parts, partsOf, evidenceArea}
 use Rattle.reading.proofs.ReadingLaws.{parts-refused, parts-both}
 use Rattle.judge.specs.Judge.{usedOf, areaAfter}
 use Rattle.judge.proofs.Numbers.{each-choice}
 
-pub few : (n area : ℕ) → n ≡ allowed area → n ≤ 524288
-unfolding allowed
+pub few : (n area : ℕ) → n ≡ entriesAllowed area → n ≤ 524288
+unfolding entriesAllowed
 few n area e = omega arith
 
 pub used-fits : (area : ℕ) → 16384 ≤ area → usedOf area ≤ area
-unfolding usedOf allowed
+unfolding usedOf entriesAllowed
 used-fits area l = omega arith
 
 -- the part from h on, to the end
@@ -109,11 +109,11 @@ claim-few : (n : ℕ) (x : Checked) (y : Unit {0} → Evidence) → Few n (y tt)
 claim-few n Fine y h = h
 claim-few n (Refused r) y h = tt
 
-evidence-few : (f : List ℕ) (at : ℕ) (p : Program) (area : ℕ) → Few (allowed area) (evidenceFrom f at p area)
+evidence-few : (f : List ℕ) (at : ℕ) (p : Program) (area : ℕ) → Few (entriesAllowed area) (evidenceFrom f at p area)
 unfolding evidenceFrom
 evidence-few f at p area =
-    claim-few (allowed area) (unlessEnd f at (checked (claimNumber f at) at)) _
-    (each-choice (Few (allowed area)) (eqb (byte f (at + 1)) 0) _ _ (entries-few (allowed area) (allowed area) (p .shape) (p .states) f (at + 2) [] [] (omega arith)) tt)
+    claim-few (entriesAllowed area) (unlessEnd f at (checked (claimNumber f at) at)) _
+    (each-choice (Few (entriesAllowed area)) (eqb (byte f (at + 1)) 0) _ _ (entries-few (entriesAllowed area) (entriesAllowed area) (p .shape) (p .states) f (at + 2) [] [] (omega arith)) tt)
 
 -- past the bytes that belong to the judgement the reading leaves all as it was
 evidence-kept : (n : ℕ) (e : Evidence) (w : List ℕ) → 16384 ≤ length w → Few n e → drop (16384 + 4 * n) (evidenceArea e w) ≡ drop (16384 + 4 * n) w
@@ -122,7 +122,7 @@ evidence-kept n (entries r) w l h =
     rest-kept 16384 (4 * n) w (wroteFrom 0 (r .offsets) (drop 16384 w)) l (drop-wrote (r .offsets) (drop 16384 w) 0 (4 * n) (omega arith))
 evidence-kept n (steps m) w l h = refl
 
-pub reading-kept : (f w : List ℕ) → 32768 ≤ length w → drop (usedOf (length w)) (reading.areaAfter (partsOf f (length w)) w) ≡ drop (usedOf (length w)) w
+pub reading-kept : (f w : List ℕ) → 32768 ≤ length w → drop (usedOf (length w)) (reading.areaRead (partsOf f (length w)) w) ≡ drop (usedOf (length w)) w
 unfolding usedOf
 reading-kept f w l = go (programFrom f 0 .answer) refl
   where
@@ -130,18 +130,18 @@ reading-kept f w l = go (programFrom f 0 .answer) refl
     p = programFrom f 0 .program
 
     go : (x : Checked) → programFrom f 0 .answer ≡ x
-        → drop (16384 + 4 * allowed (length w)) (reading.areaAfter (partsOf f (length w)) w) ≡ drop (16384 + 4 * allowed (length w)) w
+        → drop (16384 + 4 * entriesAllowed (length w)) (reading.areaRead (partsOf f (length w)) w) ≡ drop (16384 + 4 * entriesAllowed (length w)) w
     go Fine e =
-        ap (λ (y : Parts). drop (16384 + 4 * allowed (length w)) (reading.areaAfter y w)) (parts-both f (length w) l e)
-        ∙ evidence-kept (allowed (length w)) (evidenceFrom f (p .claim) p (length w)) w (omega arith) (evidence-few f (p .claim) p (length w))
-    go (Refused r) e = ap (λ (y : Parts). drop (16384 + 4 * allowed (length w)) (reading.areaAfter y w)) (parts-refused f (length w) r l e)
+        ap (λ (y : Parts). drop (16384 + 4 * entriesAllowed (length w)) (reading.areaRead y w)) (parts-both f (length w) l e)
+        ∙ evidence-kept (entriesAllowed (length w)) (evidenceFrom f (p .claim) p (length w)) w (omega arith) (evidence-few f (p .claim) p (length w))
+    go (Refused r) e = ap (λ (y : Parts). drop (16384 + 4 * entriesAllowed (length w)) (reading.areaRead y w)) (parts-refused f (length w) r l e)
 
 -- the replay's part came back, and the judgement's part is more than that
 pub replay-kept : (n : ℕ) (w v a : List ℕ) → drop (usedOf n) w ≡ drop (usedOf n) v → 16384 ≤ length w → a ≡ replicate (length (take 16384 w)) 0
     → drop (usedOf n) (a ++ drop 16384 w) ≡ drop (usedOf n) v
 unfolding usedOf
 replay-kept n w v a e l q =
-    front-kept 16384 (4 * allowed n) a w (ap length q ∙ length-replicate (length (take 16384 w)) 0 ∙ length-take-le 16384 w l) ∙ e
+    front-kept 16384 (4 * entriesAllowed n) a w (ap length q ∙ length-replicate (length (take 16384 w)) 0 ∙ length-take-le 16384 w l) ∙ e
 
 -- ---- the whole
 

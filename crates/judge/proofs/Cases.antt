@@ -48,7 +48,7 @@ use Rattle.reading.specs.EvidencePart.{
   extended,
   bodySize,
   bodyNumber,
-  pointerFits,
+  pointerInside,
   pointsFirst,
   pointersFit,
   someFirst,
@@ -58,7 +58,7 @@ use Rattle.reading.specs.EvidencePart.{
   entryFrom,
   entryRead,
   entriesFrom,
-  allowed,
+  entriesAllowed,
 }
 use Rattle.reading.specs.Reading.{Evidence, entries, steps, claimThen, evidenceFrom, programThen, partsOf, partsRead, readFile}
 use Rattle.judge.specs.Judge.{Verdict, ofFile, judged}
@@ -80,14 +80,14 @@ evidenceWith f at p n =
 abbrev judgedWith : List ℕ → ℕ → Verdict
 judgedWith f n = ofFile (partsRead f (programThen (programFrom f 0) (λ p. evidenceWith f (p .claim) p n)))
 
-judged-with : (f : List ℕ) (area : ℕ) → 32768 ≤ area → judged f area ≡ judgedWith f (allowed area)
+judged-with : (f : List ℕ) (area : ℕ) → 32768 ≤ area → judged f area ≡ judgedWith f (entriesAllowed area)
 unfolding judged readFile partsOf evidenceFrom
 judged-with f area l = rw (le-ltb area 32768 l)
 
 -- six are allowed at least, and no row has more
-many : (area : ℕ) → 32768 ≤ area → (k : ℕ) × (allowed area ≡ suc (suc (suc (suc (suc (suc k))))))
-unfolding allowed
-many area l = (allowed area - 6, omega arith)
+many : (area : ℕ) → 32768 ≤ area → (k : ℕ) × (entriesAllowed area ≡ suc (suc (suc (suc (suc (suc k))))))
+unfolding entriesAllowed
+many area l = (entriesAllowed area - 6, omega arith)
 
 -- ---- what is computed
 
@@ -107,7 +107,7 @@ K-not-below : QueueBelow (1 ∷ []) (1 ∷ 0 ∷ []) → ⊥
 K-not-below q = let e = q .end in let z : _≡_ {A = ℕ} 0 1 = cc in omega arith
 
 rows-computed : (k : ℕ) → AllRight k cases
-unfolding firstNumber checked isKind inRange shapeNumber statesNumber valueExists allZero operationNames operationOf transitionNames transitionNumber stateName stateNames targetNumber claimNumber stepBody stepNames stepNumber stepAt pointerName pointerNames entryNumber valueName valueNames messageNames waitingNames messageNumber waitingNumber unlessEnd statesFrom rowFrom transitionsFrom atClaim targetsFrom rowsFrom restFrom programFrom stepsFrom stepsOf extended bodySize bodyNumber pointerFits pointsFirst pointersFit someFirst complete atBoundary finished entryFrom entryRead entriesFrom cut
+unfolding firstNumber checked isKind inRange shapeNumber statesNumber valueExists allZero operationNames operationOf transitionNames transitionNumber stateName stateNames targetNumber claimNumber stepBody stepNames stepNumber stepAt pointerName pointerNames entryNumber valueName valueNames messageNames waitingNames messageNumber waitingNumber unlessEnd statesFrom rowFrom transitionsFrom atClaim targetsFrom rowsFrom restFrom programFrom stepsFrom stepsOf extended bodySize bodyNumber pointerInside pointsFirst pointersFit someFirst complete atBoundary finished entryFrom entryRead entriesFrom cut
 rows-computed k =
     (refl, (refl, (refl, (refl, (refl, (refl, (refl, (refl, (refl, (refl, (refl, (refl, (refl, (refl, (refl, (K-below, (K-not-below, (refl, (refl, (refl, (refl, (refl, (refl, (refl, (refl, (refl, tt))))))))))))))))))))))))))
 

@@ -10,7 +10,7 @@ use Rattle.records.specs.declared.program.Checked.the-variants.{Fine, Refused}
 use Rattle.records.specs.declared.program.Program.{Program}
 use Rattle.reading.specs.declared.evidence.Reading.{Reading}
 use Rattle.records.specs.ProgramPart.{refusalOf, programOf, targetsOf}
-use Rattle.reading.specs.EvidencePart.{stepsOf, allowed}
+use Rattle.reading.specs.EvidencePart.{stepsOf, entriesAllowed}
 use Rattle.reading.specs.Cube.{configurationOf}
 use Rattle.reading.specs.Reading as reading
 use Rattle.contents.specs.Again.{cubeAt, entriesOf}
@@ -19,6 +19,9 @@ use Rattle.contents.proofs.Rows.{steps-length}
 use Rattle.contents.proofs.Contents.{list-read, run-read}
 use Rattle.contents.proofs.Again.{reading-refused, reading-sizes, reading-run, reading-list, reading-count, reading-cube}
 use Rattle.replay.specs.declared.run.RunAnswer.{RunAnswer}
+use Rattle.replay.specs.declared.step.Cause.{Cause}
+use Rattle.replay.specs.declared.step.Cause.the-variants.{State, Queue, Pointer, Value, Nothing}
+use Rattle.replay.specs.Causes.{causeNumber}
 use Rattle.replay.specs.Answers.{verdictOfRun, RunOf}
 use Rattle.judge.specs.declared.answer.Answer.{Answer}
 use Rattle.judge.specs.declared.answer.Answer.the-variants.{Unread}
@@ -29,6 +32,14 @@ use Rattle.judge.specs.Ready.{Ready, listSaid}
 use Rattle.judge.proofs.AreaLaws.{few}
 use Rattle.judge.proofs.Numbers.{short-file}
 use Rattle.judge.proofs.Demands.{one-answer}
+
+-- today each cause has the number 12
+pub twelve : (cause : Cause) → causeNumber cause ≡ 12
+twelve State = refl
+twelve Queue = refl
+twelve Pointer = refl
+twelve Value = refl
+twelve Nothing = refl
 
 pub short-said : (f : List ℕ) (area : ℕ) → area < 32768 → refused 8 0 ≡ judged f area
 unfolding judged
@@ -53,7 +64,7 @@ module _ (f w : List ℕ) (R : Reading) (r : R ≡ reading.readingOf (reading.pa
       ap (λ (z : Refusal). refused (z .number) (z .place)) (e ∙ ap refusalOf q) ∙ judged-of (reading.refused x) (reading-refused f w R r x q)
 
   module _ (q : R .answer ≡ Fine) where
-    module _ (work : List ℕ) (e : work ≡ reading.areaAfter (reading.partsOf f (length w)) w) (c : R .contents .claim ≡ 0) (list : List ℕ) (d : list ≡ drop 16384 work) where
+    module _ (work : List ℕ) (e : work ≡ reading.areaRead (reading.partsOf f (length w)) w) (c : R .contents .claim ≡ 0) (list : List ℕ) (d : list ≡ drop 16384 work) where
       entries-length : length (entriesOf f (drop 16384 work) n) ≡ n
       entries-length = table-length (λ i. configurationOf (cubeAt f (drop 16384 work) i)) 0 n
 
@@ -64,7 +75,7 @@ module _ (f w : List ℕ) (R : Reading) (r : R ≡ reading.readingOf (reading.pa
           record {
             sizes = reading-sizes f w R r q;
             part = L .part;
-            count = omega (arith, reading-count f w R r q work e c, few (allowed (length w)) (length w) refl);
+            count = omega (arith, reading-count f w R r q work e c, few (entriesAllowed (length w)) (length w) refl);
             entries = λ k l. L .entries k (omega (arith, entries-length));
             cubes = reading-cube f w R r q work e c;
           })

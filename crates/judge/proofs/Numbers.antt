@@ -63,7 +63,7 @@ use Rattle.reading.specs.EvidencePart.{
   entryThen,
   entriesFrom,
 }
-use Rattle.reading.specs.Reading.{Evidence, refusal, entries, steps, claimThen, evidenceFrom, both, partsOf, FileRead, refused, list, run, listRead, partsRead, readFile}
+use Rattle.reading.specs.Reading.{Evidence, refusal, entries, steps, claimThen, evidenceFrom, twoParts, partsOf, FileRead, refused, list, run, listRead, partsRead, readFile}
 use Rattle.reading.proofs.ReadingLaws.{parts-short, parts-refused, parts-both}
 
 -- ---- what a refusal is
@@ -111,11 +111,11 @@ each-cond F false x y p q = q
 first-low : (a b c d e : Bool) → firstNumber a b c d e ≤ 5
 unfolding firstNumber
 first-low a b c d e =
-    each-cond Small a _ _ (omega arith) (each-cond Small b _ _ (omega arith) (each-cond Small c _ _ (omega arith)
-    (each-cond Small d _ _ (omega arith) (each-cond Small e _ _ (omega arith) (omega arith)))))
+    each-cond UpToFive a _ _ (omega arith) (each-cond UpToFive b _ _ (omega arith) (each-cond UpToFive c _ _ (omega arith)
+    (each-cond UpToFive d _ _ (omega arith) (each-cond UpToFive e _ _ (omega arith) (omega arith)))))
   where
-    Small : ℕ → Type 0
-    Small n = n ≤ 5
+    UpToFive : ℕ → Type 0
+    UpToFive n = n ≤ 5
 
 checked-low : (n place : ℕ) → n ≤ 5 → LowChecked (checked n place)
 unfolding checked
@@ -191,10 +191,10 @@ finished-low s start at e = each-cond LowEntry (complete s (length (e .memory .c
 
 body-low : (s : Shape) (f : List ℕ) (at : ℕ) (e : Configuration) → bodyNumber s f at e ≤ 5
 unfolding bodyNumber messageNumber waitingNumber
-body-low s f at e = each-cond Small (isKind f at 17) _ _ (first-low _ _ _ _ _) (each-cond Small (isKind f at 18) _ _ (first-low _ _ _ _ _) (omega arith))
+body-low s f at e = each-cond UpToFive (isKind f at 17) _ _ (first-low _ _ _ _ _) (each-cond UpToFive (isKind f at 18) _ _ (first-low _ _ _ _ _) (omega arith))
   where
-    Small : ℕ → Type 0
-    Small n = n ≤ 5
+    UpToFive : ℕ → Type 0
+    UpToFive n = n ≤ 5
 
 body-then : (x : Checked) (y : Unit {0} → EntryRead) → LowChecked x → LowEntry (y tt) → LowEntry (bodyThen x y)
 body-then Fine y h k = k
@@ -246,7 +246,7 @@ pub short-file : (f : List ℕ) (area : ℕ) → area < 32768 → readFile f are
 unfolding readFile
 short-file f area l = ap (partsRead f) (parts-short f area l)
 
-evidence-file : (f : List ℕ) (p : Program) (e : Evidence) → LowEvidence e → LowFile (partsRead f (both p e))
+evidence-file : (f : List ℕ) (p : Program) (e : Evidence) → LowEvidence e → LowFile (partsRead f (twoParts p e))
 evidence-file f p (refusal r) h = h
 evidence-file f p (entries r) h = go (r .answer) h
   where

@@ -5,6 +5,7 @@ use mathlib.Core.List.{List}
 use Rattle.judge.specs.declared.answer.Answer.{Answer}
 use Rattle.judge.specs.declared.answer.Answer.the-variants.{Safe, Reachable, Unread, Unheld, Started, Entered, Stopped, Missed}
 use Rattle.judge.specs.declared.answer.Verdict as declared
+use Rattle.replay.specs.Causes.{causeNumber}
 use Rattle.judge.specs.Judge.{Verdict, safe, reachable, refused, Judged}
 
 abbrev pub verdictIn : Answer → Verdict
@@ -14,7 +15,7 @@ verdictIn (Unread r) = refused (r .number) (r .place)
 verdictIn (Unheld k) = refused 9 k
 verdictIn (Started k) = refused 10 k
 verdictIn (Entered k) = refused 11 k
-verdictIn (Stopped k) = refused 12 k
+verdictIn (Stopped k cause) = refused (causeNumber cause) k
 verdictIn (Missed n) = refused 13 n
 
 -- kind 0 safe, 1 reachable, 2 refused

@@ -55,8 +55,8 @@ message = 17 ∷ 0 ∷ 0 ∷ 255 ∷ 0 ∷ 0 ∷ 0 ∷ []
 abbrev pub waiting : ℕ → List ℕ
 waiting x = 18 ∷ 0 ∷ 0 ∷ x ∷ []
 
-abbrev pub take : ℕ → List ℕ
-take n = 32 ∷ n ∷ []
+abbrev pub takeStep : ℕ → List ℕ
+takeStep n = 32 ∷ n ∷ []
 
 abbrev pub serialise : ℕ → ℕ → List ℕ
 serialise p v = 33 ∷ p ∷ v ∷ []
@@ -122,21 +122,21 @@ cases =
     ∷ file (small ++ target 1 0 ++ claim 0 ++ first 1 ++ second 1 0 ++ second 1 1 ++ others 1) (safe 5)
     -- E: with a transition; and as a run
     ∷ file (small ++ nop ++ target 1 0 ++ claim 0 ++ four 1) (refused 11 0)
-    ∷ file (small ++ nop ++ target 1 0 ++ claim 1 ++ take 0) (reachable 1 0)
+    ∷ file (small ++ nop ++ target 1 0 ++ claim 1 ++ takeStep 0) (reachable 1 0)
     -- F: target and entries in state 0; and as a run
     ∷ file (small ++ target 0 0 ++ claim 0 ++ four 0) (refused 10 0)
     ∷ file (small ++ target 0 0 ++ claim 1) (reachable 0 0)
     -- G
-    ∷ file (programG ++ claim 1 ++ take 0 ++ take 1 ++ serialise 0 1 ++ update 1 ++ take 2 ++ take 3) (reachable 6 0)
+    ∷ file (programG ++ claim 1 ++ takeStep 0 ++ takeStep 1 ++ serialise 0 1 ++ update 1 ++ takeStep 2 ++ takeStep 3) (reachable 6 0)
     -- H: read 1 with the pointer still at 1; reading 0 there is not permitted
-    ∷ file (programH ++ claim 1 ++ take 0 ++ serialise 0 0 ++ take 1) (reachable 3 0)
-    ∷ file (programH ++ claim 1 ++ take 0 ++ serialise 0 0 ++ take 2) (refused 12 2)
+    ∷ file (programH ++ claim 1 ++ takeStep 0 ++ serialise 0 0 ++ takeStep 1) (reachable 3 0)
+    ∷ file (programH ++ claim 1 ++ takeStep 0 ++ serialise 0 0 ++ takeStep 2) (refused 12 2)
     -- I: after that serialise sfence is permitted and mfence is not; after one update mfence is
-    ∷ file (programH ++ claim 1 ++ take 0 ++ serialise 0 0 ++ take 3) (reachable 3 0)
-    ∷ file (programH ++ claim 1 ++ take 0 ++ serialise 0 0 ++ take 4) (refused 12 2)
-    ∷ file (programH ++ claim 1 ++ take 0 ++ serialise 0 0 ++ update 0 ++ take 4) (reachable 4 0)
+    ∷ file (programH ++ claim 1 ++ takeStep 0 ++ serialise 0 0 ++ takeStep 3) (reachable 3 0)
+    ∷ file (programH ++ claim 1 ++ takeStep 0 ++ serialise 0 0 ++ takeStep 4) (refused 12 2)
+    ∷ file (programH ++ claim 1 ++ takeStep 0 ++ serialise 0 0 ++ update 0 ++ takeStep 4) (reachable 4 0)
     -- J
-    ∷ file (programJ ++ claim 1 ++ take 0 ++ take 1) (refused 12 1)
+    ∷ file (programJ ++ claim 1 ++ takeStep 0 ++ takeStep 1) (refused 12 1)
     -- K
     ∷ below (1 ∷ []) (0 ∷ 1 ∷ [])
     ∷ notBelow (1 ∷ []) (1 ∷ 0 ∷ [])

@@ -7,7 +7,7 @@ use lib.Dec.{ltb}
 use Rattle.lists.specs.Verdict as lists
 use Rattle.lists.specs.Decision as decision
 use Rattle.records.specs.Bytes.{choose}
-use Rattle.reading.specs.EvidencePart.{allowed}
+use Rattle.reading.specs.EvidencePart.{entriesAllowed}
 use Rattle.reading.specs.Reading as reading
 use Rattle.replay.specs.Replay as runs
 
@@ -45,7 +45,7 @@ FileJudged (reading.run P ts ss) v = v ≡ ofRun (runs.runVerdict P ts ss)
 unfoldable pub Judged : List ℕ → ℕ → Verdict → Type 0
 Judged f area v = FileJudged (reading.readFile f area) v
 
--- the same by computation: `judged-is` says that it is the verdict, and the only one
+-- the same by computation: `one-answer` says that it is the verdict, and the only one
 abbrev pub ofFile : reading.FileRead → Verdict
 ofFile (reading.refused r) = refused (r .number) (r .place)
 ofFile (reading.list P ts es) = ofList (decision.verdictOf P ts es)
@@ -58,7 +58,7 @@ judged f area = ofFile (reading.readFile f area)
 
 -- the first 16,384 bytes, and four for each entry allowed
 unfoldable pub usedOf : ℕ → ℕ
-usedOf area = 16384 + 4 * allowed area
+usedOf area = 16384 + 4 * entriesAllowed area
 
 -- these are 0 and the rest is untouched; after 8 all of it is
 unfoldable pub areaAfter : List ℕ → List ℕ

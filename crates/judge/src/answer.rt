@@ -5,6 +5,8 @@ ghost use Rattle.judge.specs.Judge.{ofRun};
 ghost use Rattle.judge.specs.Answers.{verdictIn, inC};
 use records::program::Refusal;
 use replay::run::RunAnswer;
+use replay::step::Cause;
+use replay::step::cause_number;
 
 // The number and the values of each are given by `verdictIn`.
 pub enum Answer {
@@ -14,7 +16,7 @@ pub enum Answer {
     Unheld { target: usize },
     Started { entry: usize },
     Entered { entry: usize },
-    Stopped { step: usize },
+    Stopped { step: usize, cause: Cause },
     Missed { steps: usize },
 }
 
@@ -36,7 +38,7 @@ fn refused(number: u64, place: usize) -> Verdict
     }
 }
 
-pub fn verdict_of(answer: Answer) -> Verdict
+pub(crate) fn verdict_of(answer: Answer) -> Verdict
     ensures { λ r. ⌜ r ≡ inC (verdictIn answer) ⌝ }
 {
     match answer {
@@ -54,13 +56,13 @@ pub fn verdict_of(answer: Answer) -> Verdict
         Answer::Unheld { target } => refused(9, target),
         Answer::Started { entry } => refused(10, entry),
         Answer::Entered { entry } => refused(11, entry),
-        Answer::Stopped { step } => refused(12, step),
+        Answer::Stopped { step, cause } => refused(cause_number(cause) as u64, step),
         Answer::Missed { steps } => refused(13, steps),
     }
 }
 
-// A run's answer: why a step is refused is not said.
-pub fn run_answer(answer: RunAnswer) -> Answer
+// A run's answer.
+pub(crate) fn run_answer(answer: RunAnswer) -> Answer
     ensures { λ r. ⌜ verdictIn r ≡ ofRun (verdictOfRun answer) ⌝ }
 {
     match answer {
@@ -68,7 +70,10 @@ pub fn run_answer(answer: RunAnswer) -> Answer
             steps: steps,
             target: target,
         },
-        RunAnswer::Stopped { step, cause: _ } => Answer::Stopped { step: step },
+        RunAnswer::Stopped { step, cause } => Answer::Stopped {
+            step: step,
+            cause: cause,
+        },
         RunAnswer::Missed { steps } => Answer::Missed { steps: steps },
     }
 }

@@ -22,7 +22,7 @@ pub mod answer;
 mod list;
 
 // The bytes of a work area that belong to the judgement: the first 16,384, and four for each entry allowed.
-pub fn used_of(area: usize) -> usize
+fn used_of(area: usize) -> usize
     ensures { λ r. ⌜ r ≡ usedOf area ⌝ }
 {
     16384 + 4 * entries_allowed(area)
@@ -56,9 +56,9 @@ fn judge_file(file: &[u8], work: &mut [u8]) -> Answer
     run_answer(replay(file, contents, &mut work[..16384]))
 }
 
-// The verdict of a file. Afterwards the first 16,384 bytes of the work area and four for each entry allowed are 0, and the rest is untouched;
+// The answer for a file. Afterwards the first 16,384 bytes of the work area and four for each entry allowed are 0, and the rest is untouched;
 // after 8 all of it is.
-pub fn judge(file: &[u8], work: &mut [u8]) -> Answer
+fn judge_and_clear(file: &[u8], work: &mut [u8]) -> Answer
     ensures { λ r. ⌜ verdictIn r ≡ judged (now (file .entry)) (length (now (work .entry))) ⌝ }
     ensures { λ r. ⌜ now (work .exit) ≡ areaAfter (now (work .entry)) ⌝ }
 {
@@ -74,12 +74,11 @@ pub fn judge(file: &[u8], work: &mut [u8]) -> Answer
     answer
 }
 
-// For C. The two slices don't overlap.
-#[no_mangle]
-pub extern "C" fn hrafnolt_judge(file: &[u8], work: &mut [u8]) -> Verdict
+// The verdict of a file, as C has it. The crate `exports` hands this function on.
+pub fn judge(file: &[u8], work: &mut [u8]) -> Verdict
     ensures judged { λ r. ⌜ Answered (now (file .entry)) (length (now (work .entry))) r ⌝ }
     ensures computed { λ r. ⌜ r ≡ inC (judged (now (file .entry)) (length (now (work .entry)))) ⌝ }
     ensures area { λ r. ⌜ now (work .exit) ≡ areaAfter (now (work .entry)) ⌝ }
 {
-    verdict_of(judge(file, work))
+    verdict_of(judge_and_clear(file, work))
 }

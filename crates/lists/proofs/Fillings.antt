@@ -16,7 +16,7 @@ use Rattle.pws.specs.Program.{Shape, ShapeInRange}
 use Rattle.pws.specs.Machine.{Memory, Configuration, message, newest, labelled, lastLabelled}
 use Rattle.pws.specs.Configurations.{All, MessageIn, MemoryIn, Fits, ValueOf}
 use Rattle.pws.specs.Entries.{FF, ValueOrFF, Fill, FillValues, values-nil, values-cons, FillMessage, FillChannel, channel-nil, channel-cons, Filling}
-use Rattle.pws.specs.Insertion.{insert}
+use Rattle.pws.specs.Insertion.{putMessage}
 use Rattle.pws.proofs.Facts.{or-left, or-right, message-old, message-new, Proper}
 use Rattle.lists.specs.Values.{fills, alike, meet, pairwise, meetAll}
 use Rattle.lists.specs.Cubes.{topmost, older, memoryOf, alikeNewest, meetNewest}
@@ -156,7 +156,7 @@ pub channel-last : {es ms : List Message} → FillChannel es ms → (p v : ℕ) 
 channel-last channel-nil p v = refl
 channel-last (channel-cons f r) p v = rw (channel-length r, fill-labelled f p v, channel-last r p v)
 
-pub channel-insert : {es ms : List Message} {e m : Message} → FillChannel es ms → (k : ℕ) → FillMessage e m → FillChannel (insert es k e) (insert ms k m)
+pub channel-insert : {es ms : List Message} {e m : Message} → FillChannel es ms → (k : ℕ) → FillMessage e m → FillChannel (putMessage es k e) (putMessage ms k m)
 channel-insert channel-nil k g = channel-cons g channel-nil
 channel-insert (channel-cons {ms = ms} f r) k g = elim (decLe k (suc (length ms))) [
   | yes l ↦ rw (channel-length r, le-leb k (suc (length ms)) l) (channel-cons f (channel-insert r k g))
@@ -167,12 +167,12 @@ channel-insert (channel-cons {ms = ms} f r) k g = elim (decLe k (suc (length ms)
 pub record Inserted (es : List Message) (k : ℕ) (e : Message) (ns : List Message) : Type 0 where
   pub channel : List Message
   pub one : Message
-  pub is : ns ≡ insert channel k one
+  pub is : ns ≡ putMessage channel k one
   pub rest : FillChannel es channel
   pub fills : FillMessage e one
 
-inserted-under : (x : Message) (es : List Message) (k : ℕ) (e : Message) {ns : List Message} → ((ns : List Message) → FillChannel (insert es k e) ns → Inserted es k e ns)
-    → k ≤ suc (length es) → FillChannel (x ∷ insert es k e) ns → Inserted (x ∷ es) k e ns
+inserted-under : (x : Message) (es : List Message) (k : ℕ) (e : Message) {ns : List Message} → ((ns : List Message) → FillChannel (putMessage es k e) ns → Inserted es k e ns)
+    → k ≤ suc (length es) → FillChannel (x ∷ putMessage es k e) ns → Inserted (x ∷ es) k e ns
 inserted-under x es k e ih l (channel-cons {m = m} {ms = ms} f s) =
     let q = ih ms s in
     record {
@@ -187,7 +187,7 @@ inserted-over : (x : Message) (es : List Message) (k : ℕ) (e : Message) {ns : 
 inserted-over x es k e l (channel-cons {m = m} f (channel-cons {m = y} {ms = ys} g s)) =
     record { channel = y ∷ ys; one = m; is = sym (rw (lt-leb k (suc (length ys)) (omega (arith, channel-length s)))); rest = channel-cons g s; fills = f }
 
-pub insert-channel : (es : List Message) (k : ℕ) (e : Message) {ns : List Message} → FillChannel (insert es k e) ns → Inserted es k e ns
+pub insert-channel : (es : List Message) (k : ℕ) (e : Message) {ns : List Message} → FillChannel (putMessage es k e) ns → Inserted es k e ns
 insert-channel [] k e (channel-cons {m = m} f channel-nil) = record { channel = []; one = m; is = refl; rest = channel-nil; fills = f }
 insert-channel (x ∷ es) k e r = elim (decLe k (suc (length es))) [
   | yes l ↦ inserted-under x es k e (λ ns s. insert-channel es k e s) l (rw (le-leb k (suc (length es)) l) at r)

@@ -13,7 +13,7 @@ use Rattle.pws.specs.declared.Message.{Message}
 use Rattle.pws.specs.Program.{Shape}
 use Rattle.pws.specs.Machine.{Memory, message, labelled, lastWrite}
 use Rattle.pws.specs.Order.{Live, Maps}
-use Rattle.pws.specs.Insertion.{insert, up, insertInto}
+use Rattle.pws.specs.Insertion.{putMessage, up, insertInto}
 use Rattle.pws.proofs.Facts.{IsLast, Proper, is-last}
 use Rattle.pws.proofs.Tagged.{dec-live}
 use Rattle.pws.proofs.Insertion.{Semi, Hit, Ins, ins, up-high, up-cases, up-mono, From, below, middle, above, from, live-up, proper-insert, maps-insert}
@@ -76,9 +76,9 @@ Moved m n h t k w q = ((w q ≡ up k (m .pointer q)) × (n .pointer q ≡ h (m .
 module _ (S : Shape) (m n : Memory) (gm : Proper S m) (h : ℕ → ℕ) (C : Carries S m n h) (t k : ℕ) (G : Gap S m h t k) (lt : Live S n t)
     (w : ℕ → ℕ) (moved : (q : ℕ) → q < S .processes → Moved m n h t k w q) where
   abbrev pub gapped : Memory
-  gapped = memoryOf (insert (m .channel) k (message (n .channel) t)) w
+  gapped = memoryOf (putMessage (m .channel) k (message (n .channel) t)) w
 
-  J : Ins (m .channel) (insert (m .channel) k (message (n .channel) t)) k (message (n .channel) t)
+  J : Ins (m .channel) (putMessage (m .channel) k (message (n .channel) t)) k (message (n .channel) t)
   J = ins (m .channel) k (message (n .channel) t) (G .lo) (G .hi)
 
   abbrev From′ : ℕ → Type 0
@@ -90,7 +90,7 @@ module _ (S : Shape) (m n : Memory) (gm : Proper S m) (h : ℕ → ℕ) (C : Car
       (λ r. at i (omega (arith, r .0, l .from)) (r .1) (l .upto))
       (moved (l .who) (l .exists))
     where
-      at : (i : ℕ) → k ≤ i → m .pointer (l .who) ≡ k → i ≤ length (insert (m .channel) k (message (n .channel) t)) → From′ i
+      at : (i : ℕ) → k ≤ i → m .pointer (l .who) ≡ k → i ≤ length (putMessage (m .channel) k (message (n .channel) t)) → From′ i
       at zero a e b = absurd (omega (arith, G .lo))
       at (suc i) a e b = elim (ℕ-discrete k (suc i)) [
         | yes d ↦ subst From′ d middle
@@ -125,7 +125,7 @@ module _ (S : Shape) (m n : Memory) (gm : Proper S m) (h : ℕ → ℕ) (C : Car
   rise (above i b l) middle c = absurd (omega arith)
   rise (above i b l) (above j b′ l′) c = rw (h-above i b, h-above j b′) (C .rises i j l l′ (omega arith))
 
-  same : {i : ℕ} → From′ i → message (insert (m .channel) k (message (n .channel) t)) i ≡ message (n .channel) (via h k t i)
+  same : {i : ℕ} → From′ i → message (putMessage (m .channel) k (message (n .channel) t)) i ≡ message (n .channel) (via h k t i)
   same (below i b l) = J .lo i b ∙ C .equal i l ∙ ap (message (n .channel)) (sym (h-below i b))
   same middle = J .mid ∙ ap (message (n .channel)) (sym h-middle)
   same (above i b l) = J .hi i b (l .upto) ∙ C .equal i l ∙ ap (message (n .channel)) (sym (h-above i b))
@@ -167,7 +167,7 @@ module _ (S : Shape) (m n : Memory) (gm : Proper S m) (h : ℕ → ℕ) (C : Car
 pub maps-unseen : (S : Shape) (m : Memory) → Proper S m → (k : ℕ) → 1 ≤ k → (μ : Message) → μ .process < S .processes → μ .variable < S .variables
     → k ≤ lastWrite m (μ .process) (μ .variable) → Maps S m (insertInto m k μ) (up k)
 maps-unseen S m gm k lo μ pe ve seen = maps-insert S m gm k lo hi μ gd (λ q u qe ue e.
-    let s : IsLast (insert (m .channel) k μ) (up k (m .pointer q)) q u k = subst (IsLast (insert (m .channel) k μ) (up k (m .pointer q)) q u) e
+    let s : IsLast (putMessage (m .channel) k μ) (up k (m .pointer q)) q u k = subst (IsLast (putMessage (m .channel) k μ) (up k (m .pointer q)) q u) e
     (is-last S (insertInto m k μ) gd q u qe) in
     ⊎-elim
     (λ a. ⊎-elim (λ r. omega arith) (λ r. omega arith) (up-cases k (m .pointer q)))
@@ -185,7 +185,7 @@ maps-unseen S m gm k lo μ pe ve seen = maps-insert S m gm k lo hi μ gd (λ q u
     hi : k ≤ suc (length (m .channel))
     hi = omega (arith, seen, is-last S m gm (μ .process) (μ .variable) pe .high)
 
-    J : Ins (m .channel) (insert (m .channel) k μ) k μ
+    J : Ins (m .channel) (putMessage (m .channel) k μ) k μ
     J = ins (m .channel) k μ lo (omega (arith, seen, is-last S m gm (μ .process) (μ .variable) pe .high))
 
     gd : Proper S (insertInto m k μ)

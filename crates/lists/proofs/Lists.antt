@@ -13,7 +13,7 @@ use mir.Facts.{and-yes, yes-and, and-no, or-yes}
 use Rattle.pws.specs.Machine.{allBelow}
 use Rattle.pws.proofs.Facts.{or-left, or-right}
 use Rattle.pws.proofs.Cases.{all-yes}
-use Rattle.lists.specs.Lists.{forBelow, forEach, every, any, next, lowest}
+use Rattle.lists.specs.Lists.{forBelow, forEach, every, anyOf, next, lowest}
 
 -- ---- membership
 
@@ -76,17 +76,17 @@ module _ {ℓ} {A : Type ℓ} (f : A → Bool) where
       (and-no (f y) (every f ys) (subst (λ b. T (not b)) (early-and (f y) (every f ys)) t))
 
   -- by number, as the entries of a list are counted
-  pub any-number : (d : A) (xs : List A) → T (any f xs) → (k : ℕ) × (k < length xs) × T (f (getD xs k d))
+  pub any-number : (d : A) (xs : List A) → T (anyOf f xs) → (k : ℕ) × (k < length xs) × T (f (getD xs k d))
   any-number d [] t = absurd t
   any-number d (y ∷ ys) t = ⊎-elim
       (λ u. (0, omega arith, u))
       (λ u. let r = any-number d ys u in (suc (r .0), omega (arith, r .1), r .2))
-      (or-yes (f y) (any f ys) (subst T (early-or (f y) (any f ys)) t))
+      (or-yes (f y) (anyOf f ys) (subst T (early-or (f y) (anyOf f ys)) t))
 
-  pub number-any : (d : A) (xs : List A) (k : ℕ) → k < length xs → T (f (getD xs k d)) → T (any f xs)
+  pub number-any : (d : A) (xs : List A) (k : ℕ) → k < length xs → T (f (getD xs k d)) → T (anyOf f xs)
   number-any d [] k l t = absurd (omega arith)
-  number-any d (y ∷ ys) zero l t = subst T (sym (early-or (f y) (any f ys))) (or-left (f y) (any f ys) t)
-  number-any d (y ∷ ys) (suc k) l t = subst T (sym (early-or (f y) (any f ys))) (or-right (f y) (any f ys) (number-any d ys k (omega arith) t))
+  number-any d (y ∷ ys) zero l t = subst T (sym (early-or (f y) (anyOf f ys))) (or-left (f y) (anyOf f ys) t)
+  number-any d (y ∷ ys) (suc k) l t = subst T (sym (early-or (f y) (anyOf f ys))) (or-right (f y) (anyOf f ys) (number-any d ys k (omega arith) t))
 
   -- ---- the lowest number that fails
 

@@ -16,7 +16,7 @@ use Rattle.pws.specs.Program.{Shape, ShapeInRange}
 use Rattle.pws.specs.Machine.{Memory, put, message, labelled, lastWrite, newest, copyWith, append, point, allBelow, atNewest}
 use Rattle.pws.specs.Configurations.{MessageIn, MemoryIn, ValueOf}
 use Rattle.pws.specs.Order.{Live, Maps}
-use Rattle.pws.specs.Insertion.{insert, up, insertInto}
+use Rattle.pws.specs.Insertion.{putMessage, up, insertInto}
 use Rattle.pws.specs.Entries.{FF, Fill, FillValues, FillMessage, FillChannel, channel-nil, channel-cons}
 use Rattle.pws.proofs.Facts.{or-left, or-right, put-same, put-other, message-old, message-new, labelled-self, IsLast, last-eq, Proper, proper, is-last, live-last, live-pointer}
 use Rattle.pws.proofs.Moves.{maps-top, maps-newest}
@@ -43,8 +43,8 @@ fill-any {S = S} {m = m} four o p v a b =
       ]);
     }
 
-pub newest-insert : (ms : List Message) (k : ℕ) (μ : Message) → 1 ≤ k → k ≤ length ms → newest (insert ms k μ) ≡ newest ms
-newest-insert ms k μ a b = let J = ins ms k μ a (omega arith) in ap (message (insert ms k μ)) (J .len) ∙ J .hi (length ms) b (omega arith)
+pub newest-insert : (ms : List Message) (k : ℕ) (μ : Message) → 1 ≤ k → k ≤ length ms → newest (putMessage ms k μ) ≡ newest ms
+newest-insert ms k μ a b = let J = ins ms k μ a (omega arith) in ap (message (putMessage ms k μ)) (J .len) ∙ J .hi (length ms) b (omega arith)
 
 module _ (S : Shape) (R : ShapeInRange S) (n : Memory) (on : MemoryIn (ValueOf S) S n) (p : ℕ) (pe : p < S .processes) where
   gn : Proper S n
@@ -81,7 +81,7 @@ module _ (S : Shape) (R : ShapeInRange S) (n : Memory) (on : MemoryIn (ValueOf S
             has = yes-and (ltb r (S .processes) && ltb u (S .variables)) (leb k (lastWrite e r u))
                 (yes-and (ltb r (S .processes)) (ltb u (S .variables)) (lt→ltb r (S .processes) (oμ .process)) (lt→ltb u (S .variables) (oμ .variable)))
                 (le→leb k (lastWrite e r u) (rw (channel-last ce r u) a));
-            memory = record { channel = insert fs k (message (n .channel) (n .pointer p)); fill = channel-insert ce k (fill-any (R .variables) oμ r u refl refl); h = h′; maps = N };
+            memory = record { channel = putMessage fs k (message (n .channel) (n .pointer p)); fill = channel-insert ce k (fill-any (R .variables) oμ r u refl refl); h = h′; maps = N };
           }
 
   -- ---- what the newest message of an entry says, if its filling is a copy with y in v
@@ -153,7 +153,7 @@ module _ (S : Shape) (R : ShapeInRange S) (n : Memory) (on : MemoryIn (ValueOf S
         let lab = labelled-is μ p v (gap-labelled S fn fs z n p v x pe ve gf gn h M k G) in
         let good = gap-proper S fn fs z n p v x pe ve gf gn h M k G in
         let N = append-gap S fn fs z n p v x pe ve gf gn h M k G in
-        let new : newest (insert fs k μ) ≡ ν = maps-newest S (insertInto f₀ k μ) n good gn (via h k i) N p pe in
+        let new : newest (putMessage fs k μ) ≡ ν = maps-newest S (insertInto f₀ k μ) n good gn (via h k i) N p pe in
         let l = live-last S n gn p v pe in
         elim (decLe k (length fs)) [
           | yes b ↦
@@ -164,7 +164,7 @@ module _ (S : Shape) (R : ShapeInRange S) (n : Memory) (on : MemoryIn (ValueOf S
               (lt→ltb (lastWrite (withoutNewest e) p v) k (rw (channel-last ce p v) (gap-past S fn fs z n p v x pe ve gf gn h M k G)))
               (le→leb k (length es) (omega (arith, channel-length ce)))))
               (record {
-                channel = insert fs k μ;
+                channel = putMessage fs k μ;
                 fill = channel-insert (a .1) k (fill-any (R .variables) (on .messages i (omega (arith, l .from, on .low (l .who) (l .exists))) (l .upto)) p v (lab .0) (lab .1));
                 h = via h k i;
                 maps = N;
@@ -175,7 +175,7 @@ module _ (S : Shape) (R : ShapeInRange S) (n : Memory) (on : MemoryIn (ValueOf S
               let top : FillMessage (messageOf p v (set (en .snapshot) v FF)) μ = record { process = sym (lab .0); variable = sym (lab .1); snapshot = rw w was-free } in
               serialised-is (onTop v) (yes-eqb {a = v} refl)
               (record {
-                channel = insert fs k μ;
+                channel = putMessage fs k μ;
                 fill = rw (insert-top fs k μ d) (channel-cons top ce);
                 h = via h k i;
                 maps = maps-left S (insertInto f₀ k μ) z (λ q a. up-low k (z q) (omega (arith, low q a))) N;
@@ -275,7 +275,7 @@ module _ (S : Shape) (R : ShapeInRange S) (n : Memory) (on : MemoryIn (ValueOf S
     arw-fresh g μ d covered K =
         let oν = on .messages (length (n .channel)) (on .some) (omega arith) in
         let w = put (λ q. up (z p) (z q)) p (z p) in
-        let at : insert (fn ∷ fs) (z p) μ ≡ fn ∷ μ ∷ fs = rw (le-leb (z p) (suc (length fs)) (omega (arith, at-top)))
+        let at : putMessage (fn ∷ fs) (z p) μ ≡ fn ∷ μ ∷ fs = rw (le-leb (z p) (suc (length fs)) (omega (arith, at-top)))
         (ap (λ (ms : List Message). fn ∷ ms) (insert-top fs (z p) μ at-top)) in
         let re : μ .process < S .processes = rw d (oν .process) in
         let ue : μ .variable < S .variables = rw d (oν .variable) in

@@ -19,7 +19,7 @@ use Rattle.pws.specs.Program.{Shape, ShapeInRange, Program, ProgramInRange, tra
 use Rattle.pws.specs.Machine.{Memory, Configuration, put, putQueue, message, labelled, lastWrite, newest, newestWaiting, newestOr, copyWith, append, point, isEmpty, withoutOldest, noneWaiting, atNewest, sees, mayOperate, queueAfter, memoryAfter, may, after}
 use Rattle.pws.specs.Configurations.{Fits, ValueOf, MemoryIn, ConfigurationOf}
 use Rattle.pws.specs.Order.{Maps, QueueBelow}
-use Rattle.pws.specs.Insertion.{insert, up}
+use Rattle.pws.specs.Insertion.{putMessage, up}
 use Rattle.pws.specs.Entries.{FF, ValueOrFF, EntryOf, Fill, FillValues, FillChannel, channel-cons, filled, Filling, Above}
 use Rattle.pws.proofs.Facts.{is-last, put-same, put-other, put-each, putQueue-same, message-new, labelled-self, Proper, proper}
 use Rattle.pws.proofs.Queues.{queue-of}
@@ -47,7 +47,7 @@ same-filled S e w {ms} r same = record { channel = ms; fill = r; h = λ i. i; ma
 -- one message more, at or before a LastWrite of its label
 more-filled : (S : Shape) (e : Memory) → Proper S e → (k : ℕ) → 1 ≤ k → (μ : Message) → μ .process < S .processes → μ .variable < S .variables → {ms ns : List Message}
     → FillChannel (e .channel) ms
-    → k ≤ lastWrite (memoryOf ms (e .pointer)) (μ .process) (μ .variable) → insert ms k μ ≡ ns → (w : ℕ → ℕ) → ((q : ℕ) → q < S .processes → up k (e .pointer q) ≡ w q)
+    → k ≤ lastWrite (memoryOf ms (e .pointer)) (μ .process) (μ .variable) → putMessage ms k μ ≡ ns → (w : ℕ → ℕ) → ((q : ℕ) → q < S .processes → up k (e .pointer q) ≡ w q)
     → FilledMemory S e (memoryOf ns w)
 more-filled S e g k lo μ pe ve {ms} {ns} r seen is w same =
     record {
@@ -59,7 +59,7 @@ more-filled S e g k lo μ pe ve {ms} {ns} r seen is w same =
           (maps-unseen S (memoryOf ms (e .pointer)) (proper-fill r g) k lo μ pe ve seen));
     }
 
-insert-under : (x : Message) (ms : List Message) (k : ℕ) (m : Message) {ns : List Message} → k ≤ suc (length ms) → insert ms k m ≡ ns → insert (x ∷ ms) k m ≡ x ∷ ns
+insert-under : (x : Message) (ms : List Message) (k : ℕ) (m : Message) {ns : List Message} → k ≤ suc (length ms) → putMessage ms k m ≡ ns → putMessage (x ∷ ms) k m ≡ x ∷ ns
 insert-under x ms k m l e = rw (le-leb k (suc (length ms)) l) (ap (λ (w : List Message). x ∷ w) e)
 
 module _ (S : Shape) (e : Memory) (ge : Proper S e) (p : ℕ) (pe : p < S .processes) where
@@ -81,7 +81,7 @@ module _ (S : Shape) (e : Memory) (ge : Proper S e) (p : ℕ) (pe : p < S .proce
       (value : Fill (getD (topmost (e .channel) .snapshot) v 0) y) where
     -- a message of the label put in under the newest
     under : (ms ns : List Message) (k : ℕ) (μ : Message) (w : ℕ → ℕ) → FillChannel (e .channel) (copyWith ms p v y ∷ ns) → 1 ≤ k → k ≤ suc (length ns) → μ .process ≡ p → μ .variable ≡ v
-        → insert ns k μ ≡ ms → ((q : ℕ) → q < S .processes → up k (z q) ≡ w q) → FilledMemory S e (memoryOf (copyWith ms p v y ∷ ms) w)
+        → putMessage ns k μ ≡ ms → ((q : ℕ) → q < S .processes → up k (z q) ≡ w q) → FilledMemory S e (memoryOf (copyWith ms p v y ∷ ms) w)
     under ms ns k μ w r lo hi a b is same =
         let c = copyWith ms p v y in
         let last : suc (length ns) ≤ lastWrite (memoryOf (c ∷ ns) z) p v = rw (T-true (labelled c p v) (labelled-self c)) (omega arith) in

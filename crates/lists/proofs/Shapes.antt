@@ -20,7 +20,7 @@ use Rattle.pws.proofs.Steps.{queues-put}
 use Rattle.pws.proofs.Tagged.{role-is}
 use Rattle.pws.proofs.Cases.{all-yes}
 use Rattle.pws.proofs.Dropping.{Irreducible}
-use Rattle.lists.specs.Lists.{forBelow, forEach, any}
+use Rattle.lists.specs.Lists.{forBelow, forEach, anyOf}
 use Rattle.lists.specs.Cubes.{anyMessage}
 use Rattle.lists.specs.Shapes.{Outline, choices, allowed, outlines, longest, outlineMemory, memoryShapes, rowShapes, queueShapes}
 use Rattle.lists.proofs.Lists.{early-or, in-below, below-in, in-each, each-in, T-true, T-false, yes-all}
@@ -142,11 +142,11 @@ module _ (S : Shape) (m : Memory) (g : Proper S m) (ir : Irreducible S m) where
 
   -- a label that is seen stands past k
   abbrev Seen : List Message → ℕ → Type 0
-  Seen seen k = (p v : ℕ) → T (any (λ x. labelled x p v) seen) → (j : ℕ) × (k < j) × (j ≤ n) × T (labelled (message (m .channel) j) p v)
+  Seen seen k = (p v : ℕ) → T (anyOf (λ x. labelled x p v) seen) → (j : ℕ) × (k < j) × (j ≤ n) × T (labelled (message (m .channel) j) p v)
 
   seen-more : (x : Message) (seen : List Message) (k : ℕ) → suc k ≤ n → x ≡ message (m .channel) (suc k) → Seen seen (suc k) → Seen (anyMessage S (x .process) (x .variable) ∷ seen) k
   seen-more x seen k l e sn p v t =
-      let N = any (λ y. labelled y p v) seen in
+      let N = anyOf (λ y. labelled y p v) seen in
       ⊎-elim (λ u. (suc k, omega arith, l, subst (λ (y : Message). T (labelled y p v)) e u)) (λ u. let w = sn p v u in (w .0, omega (arith, w .1), w .2, w .3))
       (or-yes (labelled x p v) N (subst T (early-or (labelled x p v) N) t))
 
@@ -158,7 +158,7 @@ module _ (S : Shape) (m : Memory) (g : Proper S m) (ir : Irreducible S m) where
     unmoved = allBelow (S .processes) (λ q. eqb (new q) (place q))
 
     abbrev isSeen : Bool
-    isSeen = any (λ y. labelled y (x .process) (x .variable)) seen
+    isSeen = anyOf (λ y. labelled y (x .process) (x .variable)) seen
 
     abbrev Allowed : Type 0
     Allowed = T (not unmoved || (not isSeen && eqb (place (x .process)) 0))

@@ -20,7 +20,7 @@ use Rattle.pws.specs.Tagged.{roles, isLive, taggedFrom}
 use Rattle.pws.proofs.Facts.{T-or-not, putQueue-same, putQueue-each, message-old, message-new}
 use Rattle.pws.proofs.Steps.{queues-put}
 use Rattle.pws.proofs.Cases.{all-yes}
-use Rattle.lists.specs.Lists.{forBelow, any}
+use Rattle.lists.specs.Lists.{forBelow, anyOf}
 use Rattle.lists.specs.Values.{fills, alike}
 use Rattle.lists.specs.Cubes.{setValue}
 use Rattle.lists.specs.Matching.{Match, matches}
@@ -229,13 +229,13 @@ decided-no (is-outside o) t = o
 
 module _ (S : Shape) (R : ShapeInRange S) (es : List Configuration) (oes : (k : ℕ) → k < length es → Fits (ValueOrFF S) S (entry es k)) where
   -- one that covers holds the cube
-  pub covered-held : (c : Configuration) → T (any (λ e. matches S fills e c) es) → Held S es c
+  pub covered-held : (c : Configuration) → T (anyOf (λ e. matches S fills e c) es) → Held S es c
   covered-held c t qs ms F =
       let r = any-number (λ e. matches S fills e c) noEntry es t in
       record { number = r .0; exists = r .1; above = covers S R (entry es (r .0)) c (oes (r .0) (r .1)) qs ms F (matches-exact S fills (entry es (r .0)) c .0 (r .2)) }
 
   -- if none may meet it, every filling is outside
-  pub unmet-outside : (c : Configuration) → Fits (ValueOrFF S) S c → (T (any (λ e. matches S alike e c) es) → ⊥) → Outside S es c
+  pub unmet-outside : (c : Configuration) → Fits (ValueOrFF S) S c → (T (anyOf (λ e. matches S alike e c) es) → ⊥) → Outside S es c
   unmet-outside c o n =
       let F = some-filling S R c o in
       record {
@@ -290,20 +290,20 @@ module _ (S : Shape) (R : ShapeInRange S) (es : List Configuration) (oes : (k : 
           free = λ b w d. ⊎-elim (λ e. absurd (eqb-false (at c a) FF q (ap (at c) (sym e) ∙ d))) (λ i. i) (List·Memᴰ·cases-cons (L .free b w d));
         })
 
-    at-met : (b : Bool) → any (λ e. matches S alike e c) es ≡ b → Decided S es c (elim b [ true ↦ elim (eqb (at c a) FF) [ true ↦ parts | false ↦ heldAt S es rest c ] | false ↦ false ])
+    at-met : (b : Bool) → anyOf (λ e. matches S alike e c) es ≡ b → Decided S es c (elim b [ true ↦ elim (eqb (at c a) FF) [ true ↦ parts | false ↦ heldAt S es rest c ] | false ↦ false ])
     at-met true q = at-place (eqb (at c a) FF) refl
     at-met false q = is-outside (unmet-outside c o (λ t. subst T q t))
 
-    at-cover : (b : Bool) → any (λ e. matches S fills e c) es ≡ b
+    at-cover : (b : Bool) → anyOf (λ e. matches S fills e c) es ≡ b
         → Decided S es c (elim b [
           | true ↦ true
-          | false ↦ elim (any (λ e. matches S alike e c) es)
+          | false ↦ elim (anyOf (λ e. matches S alike e c) es)
               [ true ↦ elim (eqb (at c a) FF) [ true ↦ parts | false ↦ heldAt S es rest c ] | false ↦ false ]
         ])
     at-cover true q = is-held (covered-held c (subst T (sym q) tt))
-    at-cover false q = at-met (any (λ e. matches S alike e c) es) refl
+    at-cover false q = at-met (anyOf (λ e. matches S alike e c) es) refl
 
-  decide-none : (c : Configuration) → Fits (ValueOrFF S) S c → Listed [] c → (b : Bool) → any (λ e. matches S fills e c) es ≡ b → Decided S es c b
+  decide-none : (c : Configuration) → Fits (ValueOrFF S) S c → Listed [] c → (b : Bool) → anyOf (λ e. matches S fills e c) es ≡ b → Decided S es c b
   decide-none c o L true q = is-held (covered-held c (subst T (sym q) tt))
   decide-none c o L false q = is-outside (unmet-outside c o (λ t.
       let r = any-number (λ e. matches S alike e c) noEntry es t in
@@ -311,8 +311,8 @@ module _ (S : Shape) (R : ShapeInRange S) (es : List Configuration) (oes : (k : 
       subst T q (number-any (λ e. matches S fills e c) noEntry es (r .0) (r .1) (matches-exact S fills (entry es (r .0)) c .1 M))))
 
   decide : (list : List Place) (c : Configuration) → Fits (ValueOrFF S) S c → Listed list c → Decided S es c (heldAt S es list c)
-  decide [] c o L = decide-none c o L (any (λ e. matches S fills e c) es) refl
-  decide (a ∷ rest) c o L = at-cover a rest (decide rest) c o L (any (λ e. matches S fills e c) es) refl
+  decide [] c o L = decide-none c o L (anyOf (λ e. matches S fills e c) es) refl
+  decide (a ∷ rest) c o L = at-cover a rest (decide rest) c o L (anyOf (λ e. matches S fills e c) es) refl
 
   pub held-decided : (c : Configuration) → Fits (ValueOrFF S) S c → Decided S es c (held S es c)
   held-decided c o = decide (places S c) c o (record { valid = λ a i. valid-place S c a .0 i; free = λ a w e. valid-place S c a .1 w })

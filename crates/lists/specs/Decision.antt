@@ -10,7 +10,7 @@ use Rattle.pws.specs.Machine.{Configuration, message, allBelow, noneWaiting}
 use Rattle.pws.specs.Configurations.{inTarget}
 use Rattle.pws.specs.Entries.{FF}
 use Rattle.lists.specs.Verdict.{ListVerdict, safe, unheld, started, entered}
-use Rattle.lists.specs.Lists.{every, any, lowest}
+use Rattle.lists.specs.Lists.{every, anyOf, lowest}
 use Rattle.lists.specs.Values.{fills, alike}
 use Rattle.lists.specs.Matching.{matches}
 use Rattle.lists.specs.Covering.{Place, variableOf, at, split, places}
@@ -20,10 +20,10 @@ use Rattle.lists.specs.Shapes.{shapeCubes}
 -- Is every filling of c above the list? If an entry covers it, all are; if none may meet it, none is; else it is split at the first
 -- of the places that has FF. Several entries may together cover what none covers alone. The place changes only the speed.
 abbrev pub heldAt : Shape → List Configuration → List Place → Configuration → Bool
-heldAt S es [] c = any (λ e. matches S fills e c) es
-heldAt S es (a ∷ rest) c = elim (any (λ e. matches S fills e c) es) [
+heldAt S es [] c = anyOf (λ e. matches S fills e c) es
+heldAt S es (a ∷ rest) c = elim (anyOf (λ e. matches S fills e c) es) [
   | true ↦ true
-  | false ↦ elim (any (λ e. matches S alike e c) es) [
+  | false ↦ elim (anyOf (λ e. matches S alike e c) es) [
     | true ↦ elim (eqb (at c a) FF) [
       | true ↦ allBelow (S .values (variableOf a)) (λ x. heldAt S es rest (split c a x))
       | false ↦ heldAt S es rest c

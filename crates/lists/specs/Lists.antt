@@ -18,9 +18,9 @@ abbrev pub every {ℓ} : {A : Type ℓ} → (A → Bool) → List A → Bool
 every f [] = true
 every f (x ∷ xs) = elim (f x) [ true ↦ every f xs | false ↦ false ]
 
-abbrev pub any {ℓ} : {A : Type ℓ} → (A → Bool) → List A → Bool
-any f [] = false
-any f (x ∷ xs) = elim (f x) [ true ↦ true | false ↦ any f xs ]
+abbrev pub anyOf {ℓ} : {A : Type ℓ} → (A → Bool) → List A → Bool
+anyOf f [] = false
+anyOf f (x ∷ xs) = elim (f x) [ true ↦ true | false ↦ anyOf f xs ]
 
 abbrev pub next : Option ℕ → Option ℕ
 next none = none

@@ -8,7 +8,7 @@ use Rattle.pws.specs.declared.Message.{Message}
 use Rattle.pws.specs.Program.{Shape}
 use Rattle.pws.specs.Machine.{Memory, Configuration, put, putQueue, allBelow, labelled}
 use Rattle.pws.specs.Entries.{FF}
-use Rattle.lists.specs.Lists.{forBelow, forEach, any}
+use Rattle.lists.specs.Lists.{forBelow, forEach, anyOf}
 use Rattle.lists.specs.Cubes.{memoryOf, anyMessage}
 
 -- ---- channels, from the newest message backwards
@@ -25,7 +25,7 @@ choices (suc q) place d = forEach (choices q place d) (λ new. elim (eqb (place 
 
 -- a message (p, v) has a role if somebody points at it; or if its label is not seen so far, and p is not placed
 abbrev pub allowed : Shape → List Message → (ℕ → ℕ) → (ℕ → ℕ) → ℕ → ℕ → Bool
-allowed S seen place new p v = not (allBelow (S .processes) (λ q. eqb (new q) (place q))) || (not (any (λ m. labelled m p v) seen) && eqb (place p) 0)
+allowed S seen place new p v = not (allBelow (S .processes) (λ q. eqb (new q) (place q))) || (not (anyOf (λ m. labelled m p v) seen) && eqb (place p) 0)
 
 -- the messages before those seen, d of them; complete as soon as all processes are placed
 abbrev pub outlines : Shape → ℕ → ℕ → List Message → (ℕ → ℕ) → List Outline

@@ -16,7 +16,7 @@ use Rattle.pws.specs.Machine.{Memory, Configuration, message, lastWrite}
 use Rattle.pws.specs.Configurations.{MessageIn, MemoryIn, QueuesIn, Fits}
 use Rattle.pws.specs.Order.{Live, Maps, QueueBelow, Below}
 use Rattle.pws.specs.Tagged.{hasRole}
-use Rattle.pws.specs.Insertion.{insert, up, insertInto, leaveOut, down, without}
+use Rattle.pws.specs.Insertion.{putMessage, up, insertInto, leaveOut, down, without}
 use Rattle.pws.proofs.Facts.{T-or-not, Proper, proper}
 use Rattle.pws.proofs.Queues.{Queued, nothing, keep, skip, queue-to, queue-of, all-below}
 use Rattle.pws.proofs.Preorder.{maps-refl, maps-trans, queue-refl}
@@ -32,7 +32,7 @@ left-length (x ∷ xs) k a b = elim (ℕ-discrete k (suc (length xs))) [
   | no e ↦ rw (ne-eqb k (suc (length xs)) e) (ap suc (left-length xs k a (omega arith)))
 ]
 
-left-insert : (ms : List Message) (k : ℕ) → 1 ≤ k → k ≤ length ms → insert (leaveOut ms k) k (message ms k) ≡ ms
+left-insert : (ms : List Message) (k : ℕ) → 1 ≤ k → k ≤ length ms → putMessage (leaveOut ms k) k (message ms k) ≡ ms
 left-insert [] k a b = absurd (omega arith)
 left-insert (x ∷ xs) k a b = elim (ℕ-discrete k (suc (length xs))) [
   | yes e ↦ rw (eq-eqb k (suc (length xs)) e) (insert-top xs k x e)
@@ -64,7 +64,7 @@ module _ {Val : ℕ → ℕ → Type 0} (S : Shape) (m : Memory) (o : MemoryIn V
   len : suc (length (leaveOut (m .channel) k)) ≡ length (m .channel)
   len = left-length (m .channel) k lo hi
 
-  is : insert (leaveOut (m .channel) k) k μ ≡ m .channel
+  is : putMessage (leaveOut (m .channel) k) k μ ≡ m .channel
   is = left-insert (m .channel) k lo hi
 
   not-pointer : (q : ℕ) → q < S .processes → m .pointer q ≢ k

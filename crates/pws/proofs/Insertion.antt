@@ -12,7 +12,7 @@ use Rattle.pws.specs.Program.{Shape}
 use Rattle.pws.specs.Machine.{Memory, message, lastWrite}
 use Rattle.pws.specs.Configurations.{MessageIn, MemoryIn}
 use Rattle.pws.specs.Order.{Live, Maps}
-use Rattle.pws.specs.Insertion.{insert, up, insertInto}
+use Rattle.pws.specs.Insertion.{putMessage, up, insertInto}
 use Rattle.pws.proofs.Facts.{message-old, message-new, IsLast, last-eq, Proper, is-last, live-last, live-pointer}
 
 -- ---- maps that hit every LastWrite
@@ -126,20 +126,20 @@ ins-under x ms ns k μ l r =
       ];
     }
 
-pub ins : (ms : List Message) (k : ℕ) (μ : Message) → 1 ≤ k → k ≤ suc (length ms) → Ins ms (insert ms k μ) k μ
+pub ins : (ms : List Message) (k : ℕ) (μ : Message) → 1 ≤ k → k ≤ suc (length ms) → Ins ms (putMessage ms k μ) k μ
 ins [] k μ a b = ins-top [] k μ (omega arith)
 ins (x ∷ xs) k μ a b = elim (decLe k (suc (length xs))) [
-  | yes l ↦ rw (le-leb k (suc (length xs)) l) (ins-under x xs (insert xs k μ) k μ l (ins xs k μ a l))
+  | yes l ↦ rw (le-leb k (suc (length xs)) l) (ins-under x xs (putMessage xs k μ) k μ l (ins xs k μ a l))
   | no l ↦ rw (lt-leb k (suc (length xs)) (omega arith)) (ins-top (x ∷ xs) k μ (omega arith))
 ]
 
-pub insert-top : (ms : List Message) (k : ℕ) (m : Message) → k ≡ suc (length ms) → insert ms k m ≡ m ∷ ms
+pub insert-top : (ms : List Message) (k : ℕ) (m : Message) → k ≡ suc (length ms) → putMessage ms k m ≡ m ∷ ms
 insert-top [] k m e = refl
 insert-top (x ∷ xs) k m e = rw (lt-leb k (suc (length xs)) (omega arith))
 
 module _ (ms : List Message) (k : ℕ) (lo : 1 ≤ k) (hi : k ≤ suc (length ms)) (μ : Message) where
   -- what holds of the new message and of the old ones holds of each
-  pub insert-each {κ} : (F : Message → Type κ) (i : ℕ) → 1 ≤ i → i ≤ length (insert ms k μ) → F μ → ((j : ℕ) → 1 ≤ j → j ≤ length ms → F (message ms j)) → F (message (insert ms k μ) i)
+  pub insert-each {κ} : (F : Message → Type κ) (i : ℕ) → 1 ≤ i → i ≤ length (putMessage ms k μ) → F μ → ((j : ℕ) → 1 ≤ j → j ≤ length ms → F (message ms j)) → F (message (putMessage ms k μ) i)
   insert-each F zero a b new old = absurd (omega arith)
   insert-each F (suc i) a b new old =
       let I = ins ms k μ lo hi in
@@ -166,7 +166,7 @@ memory-insert {Val} {S} {m} o k a b μ w =
 -- ---- a message put in as number k
 
 module _ (S : Shape) (m : Memory) (gm : Proper S m) (k : ℕ) (lo : 1 ≤ k) (hi : k ≤ suc (length (m .channel))) (μ : Message) where
-  abbrev I : Ins (m .channel) (insert (m .channel) k μ) k μ
+  abbrev I : Ins (m .channel) (putMessage (m .channel) k μ) k μ
   I = ins (m .channel) k μ lo hi
 
   -- where a live message comes from
@@ -194,10 +194,10 @@ module _ (S : Shape) (m : Memory) (gm : Proper S m) (k : ℕ) (lo : 1 ≤ k) (hi
   pub live-up : (i : ℕ) → Live S m i → Live S (insertInto m k μ) (up k i)
   live-up i l = record { who = l .who; exists = l .exists; from = up-mono k (m .pointer (l .who)) i (l .from); upto = omega (arith, up-most k i, l .upto, I .len) }
 
-  pub message-up : (i : ℕ) → i ≤ length (m .channel) → message (insert (m .channel) k μ) (up k i) ≡ message (m .channel) i
+  pub message-up : (i : ℕ) → i ≤ length (m .channel) → message (putMessage (m .channel) k μ) (up k i) ≡ message (m .channel) i
   message-up i l = ⊎-elim
-      (λ r. ap (message (insert (m .channel) k μ)) (r .1) ∙ I .lo i (r .0))
-      (λ r. ap (message (insert (m .channel) k μ)) (r .1) ∙ I .hi i (r .0) l)
+      (λ r. ap (message (putMessage (m .channel) k μ)) (r .1) ∙ I .lo i (r .0))
+      (λ r. ap (message (putMessage (m .channel) k μ)) (r .1) ∙ I .hi i (r .0) l)
       (up-cases k i)
 
   pub proper-insert : μ .process < S .processes → μ .variable < S .variables → Proper S (insertInto m k μ)

@@ -8,15 +8,15 @@ use Rattle.pws.specs.declared.Message.{Message}
 use Rattle.pws.specs.Machine.{Memory, Configuration}
 
 -- μ becomes number k; the numbers from k on go up by one
-abbrev pub insert : List Message → ℕ → Message → List Message
-insert [] k μ = μ ∷ []
-insert (x ∷ xs) k μ = cond (leb k (suc (length xs))) (x ∷ insert xs k μ) (μ ∷ x ∷ xs)
+abbrev pub putMessage : List Message → ℕ → Message → List Message
+putMessage [] k μ = μ ∷ []
+putMessage (x ∷ xs) k μ = cond (leb k (suc (length xs))) (x ∷ putMessage xs k μ) (μ ∷ x ∷ xs)
 
 abbrev pub up : ℕ → ℕ → ℕ
 up k i = cond (leb k i) (suc i) i
 
 abbrev pub insertInto : Memory → ℕ → Message → Memory
-insertInto m k μ = record { channel = insert (m .channel) k μ; pointer = λ q. up k (m .pointer q) }
+insertInto m k μ = record { channel = putMessage (m .channel) k μ; pointer = λ q. up k (m .pointer q) }
 
 -- the message of number k is left out; the numbers past k go down by one
 abbrev pub leaveOut : List Message → ℕ → List Message

@@ -16,11 +16,11 @@ use Rattle.records.specs.declared.program.Shape.{Shape}
 use Rattle.records.specs.declared.program.Refusal.{Refusal}
 use Rattle.records.specs.declared.program.Checked.{Checked}
 use Rattle.records.specs.declared.program.Checked.the-variants.{Fine, Refused}
-use Rattle.reading.specs.declared.evidence.Tally.{Tally}
+use Rattle.reading.specs.declared.list.Tally.{Tally}
 use Rattle.records.specs.Bytes.{choose, byte, cut}
 use Rattle.records.specs.Records.{firstNumber, checked, isKind, exists, pointerAt, messageAt, messageNumber, messageNames, waitingNumber, waitingNames}
 use Rattle.reading.specs.EvidencePart.{EntryRead, whole, bad, beginning, withMessage, withWaiting, extended, bodySize, bodyNumber, complete, atBoundary, finished, entryFrom, entryRead}
-use Rattle.reading.specs.Tally.{queueAt, numberBy, Room, tallied, Tallies}
+use Rattle.reading.specs.Tally.{queueAt, numberBy, TallyRoom, tallied, Tallies}
 use Rattle.records.proofs.RecordLaws.{Good, good, cut-fits}
 use Rattle.records.proofs.ProgramLaws.{and-true}
 
@@ -116,7 +116,7 @@ module _ (s : Shape) (few : s .processes ≤ 4) (small : s .variables ≤ 4) (f 
     full (waiting k g) q = let z : _≡_ {A = ℕ} 0 1 = cc in absurd (omega arith)
 
     -- one record more can be counted
-    pub room : Room f at t
+    pub room : TallyRoom f at t
     room =
         let b = body-fine s f at e d in
         record {
@@ -223,7 +223,7 @@ module _ (s : Shape) (few : s .processes ≤ 4) (small : s .variables ≤ 4) (f 
     fine : checked (bodyNumber s f k (F .entry)) k ≡ Fine
     fine = ap (λ (n : ℕ). checked n k) (sym number-is) ∙ d
 
-    pub sofar-room : Room f k t
+    pub sofar-room : TallyRoom f k t
     sofar-room = room s few small f k t (F .entry) (F .tallies) fine
 
     pub sofar-fits : (k + bodySize f k ≤ length f) × (4 ≤ bodySize f k)

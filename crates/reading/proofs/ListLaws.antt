@@ -13,7 +13,7 @@ use Rattle.records.specs.declared.program.Shape.{Shape}
 use Rattle.records.specs.declared.program.Refusal.{Refusal}
 use Rattle.records.specs.declared.program.Checked.{Checked}
 use Rattle.records.specs.declared.program.Checked.the-variants.{Fine, Refused}
-use Rattle.reading.specs.declared.evidence.EntryEnd.the-variants.{Next, Bad}
+use Rattle.reading.specs.declared.list.EntryEnd.the-variants.{Next, Bad}
 use Rattle.records.specs.Bytes.{choose, put32}
 use Rattle.records.specs.Records.{checked, entryNumber}
 use Rattle.reading.specs.EvidencePart.{

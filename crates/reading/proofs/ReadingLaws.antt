@@ -20,8 +20,8 @@ use Rattle.records.specs.declared.program.ProgramRead.{ProgramRead}
 use Rattle.records.specs.Bytes.{byte, cut}
 use Rattle.records.specs.Records.{checked, claimNumber, isKind, shapeAt, shapeNumber}
 use Rattle.records.specs.ProgramPart.{unlessEnd, statesFrom, ofProcesses, transitionsFrom, targetsFrom, orRefused, withCount, rowsFrom, restFrom, programFrom}
-use Rattle.reading.specs.EvidencePart.{stepsFrom, EntriesRead, entriesFrom, allowed}
-use Rattle.reading.specs.Reading.{Evidence, refusal, entries, steps, evidenceFrom, Parts, none, both, partsOf}
+use Rattle.reading.specs.EvidencePart.{stepsFrom, EntriesRead, entriesFrom, entriesAllowed}
+use Rattle.reading.specs.Reading.{Evidence, refusal, entries, steps, evidenceFrom, Parts, noParts, twoParts, partsOf}
 use Rattle.records.proofs.RecordLaws.{fine-refused, good, cut-fits, unless-fine}
 use Rattle.records.proofs.ProgramLaws.{shape-fine}
 
@@ -41,7 +41,7 @@ module _ (f : List ℕ) (at : ℕ) (p : Program) (area : ℕ) where
   unfolding evidenceFrom
   evidence-refused r e = rw e
 
-  pub evidence-entries : Claims Fine → byte f (at + 1) ≡ 0 → evidenceFrom f at p area ≡ entries (entriesFrom (allowed area) (p .shape) (p .states) f (at + 2) [] [])
+  pub evidence-entries : Claims Fine → byte f (at + 1) ≡ 0 → evidenceFrom f at p area ≡ entries (entriesFrom (entriesAllowed area) (p .shape) (p .states) f (at + 2) [] [])
   unfolding evidenceFrom
   evidence-entries e d = rw (e, eq-eqb (byte f (at + 1)) 0 d)
 
@@ -109,14 +109,14 @@ shape-range f at q =
 -- ---- the whole
 
 module _ (f : List ℕ) (area : ℕ) where
-  pub parts-short : area < 32768 → partsOf f area ≡ none (record { number = 8; place = 0 })
+  pub parts-short : area < 32768 → partsOf f area ≡ noParts (record { number = 8; place = 0 })
   unfolding partsOf
   parts-short l = rw (lt-ltb area 32768 l)
 
-  pub parts-refused : (r : Refusal) → 32768 ≤ area → programFrom f 0 .answer ≡ Refused r → partsOf f area ≡ none r
+  pub parts-refused : (r : Refusal) → 32768 ≤ area → programFrom f 0 .answer ≡ Refused r → partsOf f area ≡ noParts r
   unfolding partsOf
   parts-refused r l e = rw (le-ltb area 32768 l, e)
 
-  pub parts-both : 32768 ≤ area → programFrom f 0 .answer ≡ Fine → partsOf f area ≡ both (programFrom f 0 .program) (evidenceFrom f (programFrom f 0 .program .claim) (programFrom f 0 .program) area)
+  pub parts-both : 32768 ≤ area → programFrom f 0 .answer ≡ Fine → partsOf f area ≡ twoParts (programFrom f 0 .program) (evidenceFrom f (programFrom f 0 .program .claim) (programFrom f 0 .program) area)
   unfolding partsOf
   parts-both l e = rw (le-ltb area 32768 l, e)

@@ -72,15 +72,15 @@ bodyNumber s f at e =
 
 -- 7: an entry has a message, each pointer names one of its messages, and some pointer is 1
 
-unfoldable pub pointerFits : Shape → ℕ → ℕ → ℕ → Bool
-pointerFits s n p z = cond (ltb p (s .processes)) (leb 1 z && leb z n) true
+unfoldable pub pointerInside : Shape → ℕ → ℕ → ℕ → Bool
+pointerInside s n p z = cond (ltb p (s .processes)) (leb 1 z && leb z n) true
 
 unfoldable pub pointsFirst : Shape → ℕ → ℕ → Bool
 pointsFirst s p z = ltb p (s .processes) && eqb z 1
 
 unfoldable pub pointersFit : Shape → ℕ → (ℕ → ℕ) → Bool
 pointersFit s n pointer =
-    pointerFits s n 0 (pointer 0) && (pointerFits s n 1 (pointer 1) && (pointerFits s n 2 (pointer 2) && pointerFits s n 3 (pointer 3)))
+    pointerInside s n 0 (pointer 0) && (pointerInside s n 1 (pointer 1) && (pointerInside s n 2 (pointer 2) && pointerInside s n 3 (pointer 3)))
 
 unfoldable pub someFirst : Shape → (ℕ → ℕ) → Bool
 someFirst s pointer = pointsFirst s 0 (pointer 0) || (pointsFirst s 1 (pointer 1) || (pointsFirst s 2 (pointer 2) || pointsFirst s 3 (pointer 3)))
@@ -146,8 +146,8 @@ entriesFrom (suc left) s states f at offsets es =
     entryThen (entryRead s f at) offsets es (λ e next. entriesFrom left s states f next (offsets ++ (at ∷ [])) (es ++ (e ∷ [])))))
 
 -- entries allowed: a quarter of the work area's bytes past the first 16,384, rounded down, and never over 524,288
-unfoldable pub allowed : ℕ → ℕ
-allowed area = min 524288 ((area - 16384) / 4)
+unfoldable pub entriesAllowed : ℕ → ℕ
+entriesAllowed area = min 524288 ((area - 16384) / 4)
 
 -- ---- offsets, four bytes each, least significant first
 

@@ -19,7 +19,7 @@ use Rattle.reading.specs.declared.evidence.Reading.{Reading}
 use Rattle.records.specs.Bytes.{choose, byte}
 use Rattle.records.specs.Records.{checked, claimNumber}
 use Rattle.records.specs.ProgramPart.{unlessEnd, noProgram, programFrom, programOf, targetsOf}
-use Rattle.reading.specs.EvidencePart.{stepsFrom, stepsOf, EntriesRead, entriesFrom, allowed, wroteFrom}
+use Rattle.reading.specs.EvidencePart.{stepsFrom, stepsOf, EntriesRead, entriesFrom, entriesAllowed, wroteFrom}
 use Rattle.reading.specs.Tally.{countOf}
 
 -- ---- the parts
@@ -39,23 +39,23 @@ unfoldable pub evidenceFrom : List ℕ → ℕ → Program → ℕ → Evidence
 evidenceFrom f at p area =
     claimThen (unlessEnd f at (checked (claimNumber f at) at)) (λ _.
     choose (eqb (byte f (at + 1)) 0)
-    (λ _. entries (entriesFrom (allowed area) (p .shape) (p .states) f (at + 2) [] []))
+    (λ _. entries (entriesFrom (entriesAllowed area) (p .shape) (p .states) f (at + 2) [] []))
     (λ _. steps (stepsFrom (p .shape) (p .transitions .count) f (at + 2))))
 
 pub data Parts : Type 0 where
-  none : Refusal → Parts
-  both : Program → Evidence → Parts
+  noParts : Refusal → Parts
+  twoParts : Program → Evidence → Parts
 
 abbrev pub programThen : ProgramRead → (Program → Evidence) → Parts
 programThen r x = answered (r .answer)
   where
     answered : Checked → Parts
-    answered Fine = both (r .program) (x (r .program))
-    answered (Refused q) = none q
+    answered Fine = twoParts (r .program) (x (r .program))
+    answered (Refused q) = noParts q
 
 unfoldable pub partsOf : List ℕ → ℕ → Parts
 partsOf f area =
-    choose (ltb area 32768) (λ _. none (record { number = 8; place = 0 })) (λ _. programThen (programFrom f 0) (λ p. evidenceFrom f (p .claim) p area))
+    choose (ltb area 32768) (λ _. noParts (record { number = 8; place = 0 })) (λ _. programThen (programFrom f 0) (λ p. evidenceFrom f (p .claim) p area))
 
 -- ---- what a file says
 
@@ -77,8 +77,8 @@ evidenceRead f p (steps (Records n)) = run (programOf f p) (targetsOf f p) (step
 evidenceRead f p (steps (Stopped r)) = refused r
 
 abbrev pub partsRead : List ℕ → Parts → FileRead
-partsRead f (none r) = refused r
-partsRead f (both p e) = evidenceRead f p e
+partsRead f (noParts r) = refused r
+partsRead f (twoParts p e) = evidenceRead f p e
 
 -- the file's contents, or the first refusal
 unfoldable pub readFile : List ℕ → ℕ → FileRead
@@ -103,8 +103,8 @@ evidenceReading p (entries r) = countReading p 0 (countOf r)
 evidenceReading p (steps n) = countReading p 1 n
 
 abbrev pub readingOf : Parts → Reading
-readingOf (none r) = readingRefused r
-readingOf (both p e) = evidenceReading p e
+readingOf (noParts r) = readingRefused r
+readingOf (twoParts p e) = evidenceReading p e
 
 -- offsets stand from byte 16,384 on; nothing else is touched
 abbrev pub listArea : List ℕ → List ℕ → List ℕ
@@ -115,6 +115,6 @@ evidenceArea (refusal r) w = w
 evidenceArea (entries r) w = listArea (r .offsets) w
 evidenceArea (steps n) w = w
 
-abbrev pub areaAfter : Parts → List ℕ → List ℕ
-areaAfter (none r) w = w
-areaAfter (both p e) w = evidenceArea e w
+abbrev pub areaRead : Parts → List ℕ → List ℕ
+areaRead (noParts r) w = w
+areaRead (twoParts p e) w = evidenceArea e w

@@ -12,9 +12,9 @@ use Rattle.records.specs.declared.program.Checked.{Checked}
 use Rattle.records.specs.declared.program.Checked.the-variants.{Fine, Refused}
 use Rattle.records.specs.declared.program.Counted.{Counted}
 use Rattle.records.specs.declared.program.Counted.the-variants.{Records, Stopped}
-use Rattle.reading.specs.declared.evidence.EntryEnd.{EntryEnd}
-use Rattle.reading.specs.declared.evidence.EntryEnd.the-variants.{Next, Bad}
-use Rattle.reading.specs.declared.evidence.Tally.{Tally}
+use Rattle.reading.specs.declared.list.EntryEnd.{EntryEnd}
+use Rattle.reading.specs.declared.list.EntryEnd.the-variants.{Next, Bad}
+use Rattle.reading.specs.declared.list.Tally.{Tally}
 use Rattle.records.specs.Bytes.{byte}
 use Rattle.records.specs.Records.{isKind, messageNumber, waitingNumber}
 use Rattle.reading.specs.EvidencePart.{EntryRead, whole, bad, EntriesRead}
@@ -35,7 +35,7 @@ tallied f at t =
     (record { messages = t .messages; waiting = set (t .waiting) (queueAt f at) (getD (t .waiting) (queueAt f at) 0 + 1) })
 
 -- one record more can be counted
-pub record Room (f : List ℕ) (at : ℕ) (t : Tally) : Type 0 where
+pub record TallyRoom (f : List ℕ) (at : ℕ) (t : Tally) : Type 0 where
   pub messages : isKind f at 17 ≡ true → t .messages ≤ 16
   pub place : isKind f at 17 ≡ false → queueAt f at < 16
   pub waiting : isKind f at 17 ≡ false → getD (t .waiting) (queueAt f at) 0 ≤ 8

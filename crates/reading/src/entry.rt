@@ -9,7 +9,7 @@ use records::bytes::both;
 use records::bytes::byte_at;
 use records::bytes::field;
 use records::bytes::wide;
-use records::program::is_kind;
+use records::record::is_kind;
 
 // Waiting values, oldest first.
 pub struct Queue {
@@ -28,7 +28,7 @@ pub struct Cube {
     pub count: usize,
 }
 
-pub fn message_at(file: &[u8], at: usize) -> Message
+fn message_at(file: &[u8], at: usize) -> Message
     ensures { λ r. ⌜ r ≡ messageAt (now (file .entry)) at ⌝ }
 {
     let snapshot = [
@@ -45,7 +45,7 @@ pub fn message_at(file: &[u8], at: usize) -> Message
 }
 
 // With one waiting value more; nothing where it is full.
-pub fn pushed(queue: Queue, value: u8) -> Queue
+fn pushed(queue: Queue, value: u8) -> Queue
     ensures { λ r. ⌜ r ≡ pushed queue value ⌝ }
 {
     let n = queue.count;
@@ -60,14 +60,14 @@ pub fn pushed(queue: Queue, value: u8) -> Queue
 }
 
 // The 11 at a place is one more message of this entry.
-pub fn loads_message(file: &[u8], at: usize, count: usize) -> bool
+fn loads_message(file: &[u8], at: usize, count: usize) -> bool
     ensures { λ r. ⌜ r ≡ loadsMessage (now (file .entry)) at count ⌝ }
 {
     both(is_kind(file, at, 17), count < 20)
 }
 
 // The 12 at a place is one more waiting value of it.
-pub fn loads_waiting(file: &[u8], at: usize) -> bool
+fn loads_waiting(file: &[u8], at: usize) -> bool
     ensures { λ r. ⌜ r ≡ loadsWaiting (now (file .entry)) at ⌝ }
 {
     both(
@@ -84,7 +84,7 @@ pub struct Loaded {
 }
 
 // The records that follow the 10 at a place.
-pub fn load_records(file: &[u8], at: usize) -> Loaded
+fn load_records(file: &[u8], at: usize) -> Loaded
     ensures { λ r. ⌜ r ≡ loaded (now (file .entry)) at ⌝ }
 {
     let none = [0u8; 9];

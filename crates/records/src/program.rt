@@ -1,17 +1,18 @@
-// The program part of a file: kinds 01 to 04 (document 01, "Records").
+// The program part of a file: kinds 01 to 04 in their order (document 01, "Records").
 ghost use mathlib.Core.Path.{_≡_};
-ghost use Prim.Native.Nat.{ℕ, _+_, _*_, _≤_, _<_};
+ghost use Prim.Native.Nat.{_+_, _≤_};
 ghost use mathlib.Core.Bool.{cond};
 ghost use lib.ListN.{length, getD};
-ghost use Rattle.records.specs.Records.{firstNumber, checked, isKind, inRange, shapeAt, shapeNumber, valueCount, statesNumber, valueExists, allZero, operationNames, operationOf, transitionAt, transitionNames, transitionNumber, stateName, stateNames, targetNumber, stateAt};
-ghost use Rattle.records.specs.ProgramPart.{refusalOf, stopOf, unlessEnd, statesFrom, ofProcess, ofProcesses, transitionsFrom, atClaim, targetsFrom, programRefused, rowsFrom, restFrom, programFrom};
+ghost use Rattle.records.specs.Records.{shapeAt, valueCount};
+ghost use Rattle.records.specs.ProgramPart.{refusalOf, stopOf, unlessEnd, statesFrom, ofProcesses, transitionsFrom, atClaim, targetsFrom, programRefused, rowsFrom, restFrom, programFrom};
 use crate::bytes::both;
-use crate::bytes::byte_at;
-use crate::bytes::cut;
 use crate::bytes::field;
 use crate::bytes::wide;
-use pws::Operation;
-use pws::Transition;
+use crate::record::check_shape;
+use crate::record::check_states;
+use crate::record::check_target;
+use crate::record::check_transition;
+use crate::record::is_kind;
 
 // Why a file is refused: document 01's number, and the place.
 pub struct Refusal {
@@ -59,172 +60,10 @@ pub struct ProgramRead {
     pub program: Program,
 }
 
-// ---- one record
-
-// The first number that applies, in the order 2, 1, 5, 3, 4; 0 for none.
-pub fn first_number(
-    not_allowed: bool,
-    cut: bool,
-    full: bool,
-    out_of_range: bool,
-    bad_name: bool,
-) -> u8
-    ensures { λ r. ⌜ r ≡ firstNumber «not_allowed» cut full «out_of_range» «bad_name» ⌝ }
-{
-    if not_allowed {
-        return 2;
-    }
-    if cut {
-        return 1;
-    }
-    if full {
-        return 5;
-    }
-    if out_of_range {
-        return 3;
-    }
-    if bad_name {
-        return 4;
-    }
-    0
-}
-
-pub fn answer(number: u8, place: usize) -> Checked
-    ensures { λ r. ⌜ r ≡ checked number place ⌝ }
-{
-    if number == 0 {
-        return Checked::Fine;
-    }
-    Checked::Refused(Refusal {
-        number: number,
-        place: place,
-    })
-}
-
-pub fn is_kind(file: &[u8], at: usize, kind: u8) -> bool
-    ensures { λ r. ⌜ r ≡ isKind (now (file .entry)) at kind ⌝ }
-{
-    byte_at(file, at) == kind
-}
-
-pub fn in_range(x: u8, most: u8) -> bool
-    ensures { λ r. ⌜ r ≡ inRange x most ⌝ }
-{
-    both(x != 0, x <= most)
-}
-
-pub fn check_shape(file: &[u8], at: usize) -> Checked
-    ensures { λ r. ⌜ r ≡ checked (shapeNumber (now (file .entry)) at) at ⌝ }
-{
-    let more = both(
-        in_range(field(file, at, 2), 4),
-        in_range(field(file, at, 3), 4),
-    );
-    let range = both(in_range(field(file, at, 1), 4), more);
-    answer(
-        first_number(
-            !is_kind(file, at, 1),
-            cut(file, at, 3),
-            false,
-            !range,
-            false,
-        ),
-        at,
-    )
-}
-
-pub fn check_states(file: &[u8], at: usize) -> Checked
-    ensures { λ r. ⌜ r ≡ checked (statesNumber (now (file .entry)) at) at ⌝ }
-{
-    let count = field(file, at, 1);
-    let initial = field(file, at, 2);
-    answer(
-        first_number(
-            !is_kind(file, at, 2),
-            cut(file, at, 2),
-            false,
-            !in_range(count, 32),
-            !(initial < count),
-        ),
-        at,
-    )
-}
-
 pub fn value_count(shape: Shape, variable: usize) -> u8
     ensures { λ r. ⌜ r ≡ valueCount shape variable ⌝ }
 {
     shape.values
-}
-
-pub fn value_exists(shape: Shape, variable: u8, value: u8) -> bool
-    ensures { λ r. ⌜ r ≡ valueExists shape variable value ⌝ }
-{
-    let v = wide(variable);
-    both(v < shape.variables, value < value_count(shape, v))
-}
-
-pub fn all_zero(a: u8, b: u8, c: u8) -> bool
-    ensures { λ r. ⌜ r ≡ allZero a b c ⌝ }
-{
-    both(a == 0, both(b == 0, c == 0))
-}
-
-pub fn operation_names(shape: Shape, operation: u8, variable: u8, value: u8, new: u8) -> bool
-    ensures { λ r. ⌜ r ≡ operationNames shape operation variable value new ⌝ }
-{
-    match operation {
-        0 => all_zero(variable, value, new),
-        1 => both(value_exists(shape, variable, value), new == 0),
-        2 => both(value_exists(shape, variable, value), new == 0),
-        3 => all_zero(variable, value, new),
-        4 => all_zero(variable, value, new),
-        5 => both(
-            value_exists(shape, variable, value),
-            value_exists(shape, variable, new),
-        ),
-        _ => false,
-    }
-}
-
-pub fn operation_of(operation: u8, variable: u8, value: u8, new: u8) -> Operation
-    ensures { λ r. ⌜ r ≡ operationOf operation variable value new ⌝ }
-{
-    match operation {
-        1 => Operation::Read {
-            variable: wide(variable),
-            value: value,
-        },
-        2 => Operation::Write {
-            variable: wide(variable),
-            value: value,
-        },
-        3 => Operation::Mfence,
-        4 => Operation::Sfence,
-        5 => Operation::Arw {
-            variable: wide(variable),
-            old: value,
-            new: new,
-        },
-        _ => Operation::Nop,
-    }
-}
-
-// The transition of the 03 at a place.
-pub fn transition_at(file: &[u8], at: usize) -> Transition
-    ensures { λ r. ⌜ r ≡ transitionAt (now (file .entry)) at ⌝ }
-{
-    let operation = operation_of(
-        field(file, at, 3),
-        field(file, at, 4),
-        field(file, at, 5),
-        field(file, at, 6),
-    );
-    Transition {
-        process: wide(field(file, at, 1)),
-        from: field(file, at, 2),
-        operation: operation,
-        to: field(file, at, 7),
-    }
 }
 
 // One of four bytes, and 0 past the fourth.
@@ -235,77 +74,6 @@ pub fn of_four(four: [u8; 4], p: usize) -> u8
         return four[p];
     }
     0
-}
-
-pub fn transition_names(file: &[u8], at: usize, shape: Shape, states: [u8; 4]) -> bool
-    ensures { λ r. ⌜ r ≡ transitionNames shape states (now (file .entry)) at ⌝ }
-{
-    let process = wide(field(file, at, 1));
-    let count = of_four(states, process);
-    let operation = operation_names(
-        shape,
-        field(file, at, 3),
-        field(file, at, 4),
-        field(file, at, 5),
-        field(file, at, 6),
-    );
-    let to = both(field(file, at, 7) < count, operation);
-    let from = both(field(file, at, 2) < count, to);
-    both(process < shape.processes, from)
-}
-
-// n of them stand before it.
-pub fn check_transition(file: &[u8], at: usize, shape: Shape, states: [u8; 4], n: usize) -> Checked
-    ensures { λ r. ⌜ r ≡ checked (transitionNumber shape states (now (file .entry)) at n) at ⌝ }
-{
-    let names = transition_names(file, at, shape, states);
-    answer(
-        first_number(
-            !is_kind(file, at, 3),
-            cut(file, at, 7),
-            256 <= n,
-            false,
-            !names,
-        ),
-        at,
-    )
-}
-
-pub fn state_name(shape: Shape, states: [u8; 4], p: usize, x: u8) -> bool
-    ensures { λ r. ⌜ r ≡ stateName shape states p x ⌝ }
-{
-    if p < shape.processes {
-        return x < of_four(states, p);
-    }
-    x == 0
-}
-
-// The first four bytes of the body of the record at a place, as states.
-pub fn state_names(file: &[u8], at: usize, shape: Shape, states: [u8; 4]) -> bool
-    ensures { λ r. ⌜ r ≡ stateNames shape states (now (file .entry)) at ⌝ }
-{
-    let a = state_name(shape, states, 0, field(file, at, 1));
-    let b = state_name(shape, states, 1, field(file, at, 2));
-    let c = state_name(shape, states, 2, field(file, at, 3));
-    let d = state_name(shape, states, 3, field(file, at, 4));
-    both(a, both(b, both(c, d)))
-}
-
-// n of them stand before it.
-pub fn check_target(file: &[u8], at: usize, shape: Shape, states: [u8; 4], n: usize) -> Checked
-    ensures { λ r. ⌜ r ≡ checked (targetNumber shape states (now (file .entry)) at n) at ⌝ }
-{
-    let names = state_names(file, at, shape, states);
-    answer(
-        first_number(
-            !is_kind(file, at, 4),
-            cut(file, at, 4),
-            16 <= n,
-            false,
-            !names,
-        ),
-        at,
-    )
 }
 
 // ---- records in a row
@@ -348,7 +116,7 @@ pub fn unless_end(file: &[u8], at: usize, answer: Checked) -> Checked
 }
 
 // The 02s of n processes.
-pub fn states_from(file: &[u8], at: usize, n: usize) -> Checked
+fn states_from(file: &[u8], at: usize, n: usize) -> Checked
     ensures { λ r. ⌜ r ≡ statesFrom (now (file .entry)) at n ⌝ }
 {
     let mut k = at;
@@ -363,7 +131,7 @@ pub fn states_from(file: &[u8], at: usize, n: usize) -> Checked
 }
 
 // The 03s that stand here in a row.
-pub fn transitions_from(file: &[u8], at: usize, shape: Shape, states: [u8; 4]) -> Counted
+fn transitions_from(file: &[u8], at: usize, shape: Shape, states: [u8; 4]) -> Counted
     ensures { λ r. ⌜ r ≡ transitionsFrom shape states (now (file .entry)) at ⌝ }
 {
     let mut k = at;
@@ -379,14 +147,14 @@ pub fn transitions_from(file: &[u8], at: usize, shape: Shape, states: [u8; 4]) -
     Counted::Records(n)
 }
 
-pub fn at_claim(file: &[u8], at: usize, n: usize) -> bool
+fn at_claim(file: &[u8], at: usize, n: usize) -> bool
     ensures { λ r. ⌜ r ≡ atClaim (now (file .entry)) at n ⌝ }
 {
     both(is_kind(file, at, 15), 1 <= n)
 }
 
 // The 04s, up to the claim.
-pub fn targets_from(file: &[u8], at: usize, shape: Shape, states: [u8; 4]) -> Counted
+fn targets_from(file: &[u8], at: usize, shape: Shape, states: [u8; 4]) -> Counted
     ensures { λ r. ⌜ r ≡ targetsFrom shape states (now (file .entry)) at ⌝ }
 {
     let mut k = at;
@@ -404,7 +172,7 @@ pub fn targets_from(file: &[u8], at: usize, shape: Shape, states: [u8; 4]) -> Co
 
 // ---- the whole part
 
-pub fn program_refused(refusal: Refusal) -> ProgramRead
+fn program_refused(refusal: Refusal) -> ProgramRead
     ensures { λ r. ⌜ r ≡ programRefused refusal ⌝ }
 {
     let none = [0u8; 4];
@@ -425,7 +193,7 @@ pub fn program_refused(refusal: Refusal) -> ProgramRead
     }
 }
 
-pub fn shape_at(file: &[u8], at: usize) -> Shape
+fn shape_at(file: &[u8], at: usize) -> Shape
     ensures { λ r. ⌜ r ≡ shapeAt (now (file .entry)) at ⌝ }
 {
     Shape {
@@ -435,7 +203,7 @@ pub fn shape_at(file: &[u8], at: usize) -> Shape
     }
 }
 
-pub fn field_if(file: &[u8], at: usize, exists: bool, k: u8) -> u8
+fn field_if(file: &[u8], at: usize, exists: bool, k: u8) -> u8
     ensures { λ r. ⌜ r ≡ cond exists (getD (now (file .entry)) (at + k) 0) 0 ⌝ }
 {
     if exists {
@@ -445,7 +213,7 @@ pub fn field_if(file: &[u8], at: usize, exists: bool, k: u8) -> u8
 }
 
 // The number of states of each of n processes, and 0 for the others.
-pub fn states_of(file: &[u8], at: usize, n: usize) -> [u8; 4]
+fn states_of(file: &[u8], at: usize, n: usize) -> [u8; 4]
     ensures { λ r. ⌜ r ≡ ofProcesses (now (file .entry)) at 1 n ⌝ }
 {
     let a = field_if(file, at, 0 < n, 1);
@@ -456,7 +224,7 @@ pub fn states_of(file: &[u8], at: usize, n: usize) -> [u8; 4]
 }
 
 // And their initial states.
-pub fn initial_of(file: &[u8], at: usize, n: usize) -> [u8; 4]
+fn initial_of(file: &[u8], at: usize, n: usize) -> [u8; 4]
     ensures { λ r. ⌜ r ≡ ofProcesses (now (file .entry)) at 2 n ⌝ }
 {
     let a = field_if(file, at, 0 < n, 2);

@@ -12,7 +12,7 @@ use Rattle.pws.specs.declared.Operation.the-variants.{Nop, Read, Write, Mfence,
 use Rattle.replay.specs.declared.step.Move.{Move}
 use Rattle.replay.specs.declared.step.Move.the-variants.{Absent, Take, Serialise, Update}
 use Rattle.replay.specs.declared.step.Run.{Run}
-use Rattle.replay.specs.Layout.{putSnapshot, appended, areaTaken, areaAfter}
+use Rattle.replay.specs.Layout.{putSnapshot, appended, lowerTaken, lowerAfter}
 use Rattle.records.specs.Bytes.{choose, byte}
 use Rattle.records.specs.Records.{transitionAt, operationOf, isKind, stepBody}
 use native.Mathlib.Decide.{ℕ-discrete}
@@ -79,7 +79,7 @@ appended-length : (a : List ℕ) (messages v x : ℕ) → length (appended a mes
 unfolding appended
 appended-length a messages v x = snapshot-length a _ _
 
-taken-length : (a : List ℕ) (run : Run) (p : ℕ) (o : Operation) → length (areaTaken a run p o) ≡ length a
+taken-length : (a : List ℕ) (run : Run) (p : ℕ) (o : Operation) → length (lowerTaken a run p o) ≡ length a
 taken-length a run p Nop = refl
 taken-length a run p (Read v x) = refl
 taken-length a run p (Write v x) = length-set a _ _
@@ -87,7 +87,7 @@ taken-length a run p Mfence = refl
 taken-length a run p Sfence = refl
 taken-length a run p (Arw v old new) = appended-length a _ _ _
 
-pub area-length : (a : List ℕ) (run : Run) (m : Move) → length (areaAfter a run m) ≡ length a
+pub area-length : (a : List ℕ) (run : Run) (m : Move) → length (lowerAfter a run m) ≡ length a
 area-length a run Absent = refl
 area-length a run (Take t) = taken-length a run (t .process) (t .operation)
 area-length a run (Serialise p v) = appended-length a _ _ _

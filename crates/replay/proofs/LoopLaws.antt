@@ -16,7 +16,7 @@ use Rattle.replay.specs.declared.step.Run.{Run}
 use Rattle.replay.specs.declared.run.RunAnswer.{RunAnswer}
 use Rattle.replay.specs.declared.run.RunAnswer.the-variants.{Reachable, Stopped, Missed}
 use Rattle.replay.specs.Answers.{answerThen}
-use Rattle.replay.specs.Layout.{moveOf, answerIn, runAfter, rowsAfter, areaAfter}
+use Rattle.replay.specs.Layout.{moveOf, answerIn, runAfter, rowsAfter, lowerAfter}
 use Rattle.replay.specs.Loop.{inTargetIn, nextTarget, nextStep, lastFrom, lastIn, stoppedBy, runFrom}
 use Rattle.replay.proofs.AreaLaws.{area-length}
 
@@ -74,7 +74,7 @@ module _ (f : List ℕ) (s : Shape) (transitions targets : Row) (steps : ℕ) wh
       → answerIn run rows a s (moveOf f transitions (stepAt f at)) ≡ Permitted
       → runFrom f s transitions targets steps k at run rows a (n - k)
       ≡ runFrom f s transitions targets steps (k + 1) (nextStep f at) (runAfter run (moveOf f transitions (stepAt f at)))
-      (rowsAfter rows (run .messages) (moveOf f transitions (stepAt f at))) (areaAfter a run (moveOf f transitions (stepAt f at))) (n - (k + 1))
+      (rowsAfter rows (run .messages) (moveOf f transitions (stepAt f at))) (lowerAfter a run (moveOf f transitions (stepAt f at))) (n - (k + 1))
   unfolding runFrom
   run-next n k at run rows a l e =
       ap (runFrom f s transitions targets steps k at run rows a) (left-suc n k l) ∙ then-goes _ k _ e
@@ -105,7 +105,7 @@ module _ {f : List ℕ} {s : Shape} {transitions targets : Row} {steps at : ℕ}
 
   pub replaying-next : {place′ : ℕ} {run′ : Run} {rows′ : List (List ℕ)} {a′ : List ℕ} (m : Move) → k < steps → m ≡ moveOf f transitions (stepAt f place)
       → answerIn run rows a s m ≡ Permitted → place′ ≡ nextStep f place → run′ ≡ runAfter run m
-      → rows′ ≡ rowsAfter rows (run .messages) m → a′ ≡ areaAfter a run m
+      → rows′ ≡ rowsAfter rows (run .messages) m → a′ ≡ lowerAfter a run m
       → Replaying f s transitions targets steps at run₀ rows₀ a₀ (k + 1) place′ run′ rows′ a′
   replaying-next {place′} {run′} {rows′} {a′} m l em e ep er ew ea =
       record {
@@ -113,6 +113,6 @@ module _ {f : List ℕ} {s : Shape} {transitions targets : Row} {steps at : ℕ}
         same = ap length ea ∙ area-length a run m ∙ r .same;
         rest =
             (λ i. runFrom f s transitions targets steps (k + 1) (ep i) (er i) (ew i) (ea i) (steps - (k + 1)))
-            ∙ ap (λ (x : Move). runFrom f s transitions targets steps (k + 1) (nextStep f place) (runAfter run x) (rowsAfter rows (run .messages) x) (areaAfter a run x) (steps - (k + 1))) em
+            ∙ ap (λ (x : Move). runFrom f s transitions targets steps (k + 1) (nextStep f place) (runAfter run x) (rowsAfter rows (run .messages) x) (lowerAfter a run x) (steps - (k + 1))) em
             ∙ sym (run-next f s transitions targets steps steps k place run rows a l (ap (answerIn run rows a s) (sym em) ∙ e)) ∙ r .rest;
       }

@@ -29,7 +29,7 @@ use Rattle.replay.specs.declared.run.RunAnswer.the-variants.{Reachable}
 use Rattle.replay.specs.Replay as run
 use Rattle.replay.specs.Causes.{stepAnswer, isPermitted}
 use Rattle.replay.specs.Answers.{verdictOfRun, lastAnswer, answerThen, answerFrom, runAnswer, RunOf}
-use Rattle.replay.specs.Layout.{putSnapshot, moveOf, answerIn, runAfter, rowsAfter, areaAfter}
+use Rattle.replay.specs.Layout.{putSnapshot, moveOf, answerIn, runAfter, rowsAfter, lowerAfter}
 use Rattle.replay.specs.Loop.{agreesIn, inTargetIn, nextTarget, nextStep, lastFrom, firstRun, firstRows, runFrom, replayIn}
 use Rattle.replay.proofs.AreaLaws.{snapshot-length}
 use Rattle.replay.proofs.ByteLaws.{snapshot-same}
@@ -240,8 +240,8 @@ module _ (f : List ℕ) (p : Program) (R : pws.ProgramInRange (programOf f p)) (
       let m = moveOf f (p .transitions) s in
       one-step k at run rows a c n s _ _ (stepAnswer P₁ c s) refl (answer-is f p R k run rows a c K s) (λ t.
       let e : suc k ≡ k + 1 = omega arith in
-      all-steps n (k + 1) (nextStep f at) (runAfter run m) (rowsAfter rows (run .messages) m) (areaAfter a run m) (after P₁ c s)
-      (subst (λ (j : ℕ). Kept (shapeOf (p .shape)) j (runAfter run m) (rowsAfter rows (run .messages) m) (areaAfter a run m) (after P₁ c s)) e
+      all-steps n (k + 1) (nextStep f at) (runAfter run m) (rowsAfter rows (run .messages) m) (lowerAfter a run m) (after P₁ c s)
+      (subst (λ (j : ℕ). Kept (shapeOf (p .shape)) j (runAfter run m) (rowsAfter rows (run .messages) m) (lowerAfter a run m) (after P₁ c s)) e
       (step-kept f p R k run rows a c K (omega arith) s t)) (omega arith)
       ∙ ap₂ (λ (j : ℕ) (ss : List Step). answerFrom P₁ (targetsOf f p) steps j (after P₁ c s) ss) (sym e) (sym (steps-next f n at)))
 

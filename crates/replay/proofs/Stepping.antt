@@ -29,7 +29,7 @@ use Rattle.replay.specs.declared.step.Move.{Move}
 use Rattle.replay.specs.declared.step.Move.the-variants.{Absent, Take, Serialise, Update}
 use Rattle.replay.specs.declared.step.Run.{Run}
 use Rattle.replay.specs.Causes.{firstCause, takeAnswer, stepAnswer, isPermitted}
-use Rattle.replay.specs.Layout.{queueNumber, snapshotAt, waitingAt, appended, moveOf, answerIn, runAfter, rowsTaken, rowsAfter, messagesTaken, tailsTaken, areaTaken, areaAfter}
+use Rattle.replay.specs.Layout.{queueNumber, snapshotAt, waitingAt, appended, moveOf, answerIn, runAfter, rowsTaken, rowsAfter, messagesTaken, tailsTaken, lowerTaken, lowerAfter}
 use Rattle.replay.specs.Represents.{Represents}
 use Rattle.replay.proofs.AreaLaws.{area-length}
 use Rattle.replay.proofs.ByteLaws.{next-is, waiting-past, snapshot-below}
@@ -102,7 +102,7 @@ module _ (s : Shape) (pl : s .processes ≤ 4) (vl : s .variables ≤ 4) (xl : s
   most-messages = omega (arith, K .channel)
 
   memory-taken : (p : ℕ) (o : Operation) → p < s .processes → pws.OperationOf (shapeOf s) o
-      → MemoryHeld (shapeOf s) (messagesTaken (run .messages) o) (rowsTaken rows (run .messages) p o) (areaTaken a run p o) (memoryAfter (c .memory) p o)
+      → MemoryHeld (shapeOf s) (messagesTaken (run .messages) o) (rowsTaken rows (run .messages) p o) (lowerTaken a run p o) (memoryAfter (c .memory) p o)
   memory-taken p Nop pe oe = memory-of K
   memory-taken p (Read v x) pe oe = memory-of K
   memory-taken p (Write v x) pe oe =
@@ -115,7 +115,7 @@ module _ (s : Shape) (pl : s .processes ≤ 4) (vl : s .variables ≤ 4) (xl : s
       memory-arw (shapeOf s) pl vl (run .messages) rows a (c .memory) (memory-of K) (K .area) most-messages p v y pe (oe .0)
 
   queues-taken : (p : ℕ) (o : Operation) → p < s .processes → pws.OperationOf (shapeOf s) o
-      → QueuesHeld (shapeOf s) (run .heads) (tailsTaken (run .tails) p o) (areaTaken a run p o) (suc k) (queueAfter c p o)
+      → QueuesHeld (shapeOf s) (run .heads) (tailsTaken (run .tails) p o) (lowerTaken a run p o) (suc k) (queueAfter c p o)
   queues-taken p Nop pe oe = queues-area (queues-of K) (λ q j. refl)
   queues-taken p (Read v x) pe oe = queues-area (queues-of K) (λ q j. refl)
   queues-taken p (Write v x) pe oe =
@@ -139,7 +139,7 @@ module _ (s : Shape) (pl : s .processes ≤ 4) (vl : s .variables ≤ 4) (xl : s
   ]
 
   kept-taken : (t : Transition) → t .process < s .processes → pws.OperationOf (shapeOf s) (t .operation)
-      → Kept (shapeOf s) (suc k) (runAfter run (Take t)) (rowsAfter rows (run .messages) (Take t)) (areaAfter a run (Take t)) (afterTake c t)
+      → Kept (shapeOf s) (suc k) (runAfter run (Take t)) (rowsAfter rows (run .messages) (Take t)) (lowerAfter a run (Take t)) (afterTake c t)
   kept-taken t pe oe =
       kept-of (states-taken (t .process) (t .to) pe) (length-set (run .states) (t .process) (t .to) ∙ K .states) (memory-taken (t .process) (t .operation) pe oe)
       (queues-taken (t .process) (t .operation) pe oe) (area-length a run (Take t) ∙ K .area) (messages-taken (t .operation))
@@ -156,7 +156,7 @@ module _ (s : Shape) (pl : s .processes ≤ 4) (vl : s .variables ≤ 4) (xl : s
       (ap (λ (n : ℕ). getD (tableFrom (waitingAt a (4 * p + v)) h n) 0 0) (sym e) ∙ ap (λ (xs : List ℕ). getD xs 0 0) (K .represents .queues p v pe ve))
 
   kept-serialised : (p v : ℕ) → p < s .processes → v < s .variables → getD (run .heads) (4 * p + v) 0 < getD (run .tails) (4 * p + v) 0
-      → Kept (shapeOf s) (suc k) (runAfter run (Serialise p v)) (rowsAfter rows (run .messages) (Serialise p v)) (areaAfter a run (Serialise p v)) (afterSerialise c p v)
+      → Kept (shapeOf s) (suc k) (runAfter run (Serialise p v)) (rowsAfter rows (run .messages) (Serialise p v)) (lowerAfter a run (Serialise p v)) (afterSerialise c p v)
   kept-serialised p v pe ve l =
       rw (oldest-is p v pe ve l)
       (kept-of (K .represents .states) (K .states)
@@ -172,7 +172,7 @@ module _ (s : Shape) (pl : s .processes ≤ 4) (vl : s .variables ≤ 4) (xl : s
       appended-length = ap (λ (y : ℕ). length (appended a (run .messages) v y)) (sym (oldest-is p v pe ve l)) ∙ area-length a run (Serialise p v)
 
   kept-updated : (p : ℕ) → p < s .processes → c .memory .pointer p < length (c .memory .channel)
-      → Kept (shapeOf s) (suc k) (runAfter run (Update p)) (rowsAfter rows (run .messages) (Update p)) (areaAfter a run (Update p)) (afterUpdate c p)
+      → Kept (shapeOf s) (suc k) (runAfter run (Update p)) (rowsAfter rows (run .messages) (Update p)) (lowerAfter a run (Update p)) (afterUpdate c p)
   kept-updated p pe l =
       kept-of (K .represents .states) (K .states)
       (memory-update (shapeOf s) pl vl (run .messages) rows a (c .memory) (memory-of K) (K .area) most-messages p pe l)
@@ -249,13 +249,13 @@ module _ (f : List ℕ) (p : Program) where
     -- a permitted step leaves a representation of the configuration after it
     pub step-kept : k < 1024 → (s : steps.Step) → T (may (programOf f p) c s)
         → Kept (shapeOf (p .shape)) (suc k) (runAfter run (moveOf f (p .transitions) s)) (rowsAfter rows (run .messages) (moveOf f (p .transitions) s))
-        (areaAfter a run (moveOf f (p .transitions) s)) (after (programOf f p) c s)
+        (lowerAfter a run (moveOf f (p .transitions) s)) (after (programOf f p) c s)
     step-kept few (step.Take n) t =
         let y = and-yes (ltb n (length (programOf f p .transitions))) (mayTake (shapeOf (p .shape)) c (pws.transition (programOf f p) n)) t in
         let l : n < length (programOf f p .transitions) = ltb-true n (length (programOf f p .transitions)) (T-true (ltb n (length (programOf f p .transitions))) (y .0)) in
         let o = R .transitions n l in
         let w = pws.transition (programOf f p) n in
-        subst (λ (m : Move). Kept (shapeOf (p .shape)) (suc k) (runAfter run m) (rowsAfter rows (run .messages) m) (areaAfter a run m) (afterTake c w))
+        subst (λ (m : Move). Kept (shapeOf (p .shape)) (suc k) (runAfter run m) (rowsAfter rows (run .messages) m) (lowerAfter a run m) (afterTake c w))
         (sym (move-take n (omega (arith, transition-count))))
         (kept-taken (p .shape) (R .shape .processes) (R .shape .variables) values-most k run rows a c K few w (o .process) (o .operation))
     step-kept few (step.Serialise q v) t =
@@ -275,5 +275,5 @@ module _ (f : List ℕ) (p : Program) where
         → (isPermitted (answerIn run rows a (p .shape) (moveOf f (p .transitions) s)) ≡ may (programOf f p) c s)
         × (T (may (programOf f p) c s)
         → Represents (shapeOf (p .shape)) (runAfter run (moveOf f (p .transitions) s)) (rowsAfter rows (run .messages) (moveOf f (p .transitions) s))
-        (areaAfter a run (moveOf f (p .transitions) s)) (after (programOf f p) c s))
+        (lowerAfter a run (moveOf f (p .transitions) s)) (after (programOf f p) c s))
     step-right few s = (ap isPermitted (answer-is s) ∙ answer-may (programOf f p) c s, (λ t. step-kept few s t .represents))

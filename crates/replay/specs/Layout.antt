@@ -225,16 +225,16 @@ rowsAfter rows messages (Update p) = updated rows p
 unfoldable pub appended : List ℕ → ℕ → ℕ → ℕ → List ℕ
 appended a messages v x = putSnapshot a (nextNumber messages) (set (snapshotAt a messages) v x)
 
-abbrev pub areaTaken : List ℕ → Run → ℕ → Operation → List ℕ
-areaTaken a run p Nop = a
-areaTaken a run p (Read v x) = a
-areaTaken a run p (Write v x) = putWaiting a (queueNumber p v) (getD (run .tails) (queueNumber p v) 0) x
-areaTaken a run p Mfence = a
-areaTaken a run p Sfence = a
-areaTaken a run p (Arw v old new) = appended a (run .messages) v new
+abbrev pub lowerTaken : List ℕ → Run → ℕ → Operation → List ℕ
+lowerTaken a run p Nop = a
+lowerTaken a run p (Read v x) = a
+lowerTaken a run p (Write v x) = putWaiting a (queueNumber p v) (getD (run .tails) (queueNumber p v) 0) x
+lowerTaken a run p Mfence = a
+lowerTaken a run p Sfence = a
+lowerTaken a run p (Arw v old new) = appended a (run .messages) v new
 
-abbrev pub areaAfter : List ℕ → Run → Move → List ℕ
-areaAfter a run Absent = a
-areaAfter a run (Take t) = areaTaken a run (t .process) (t .operation)
-areaAfter a run (Serialise p v) = appended a (run .messages) v (waitingAt a (queueNumber p v) (getD (run .heads) (queueNumber p v) 0))
-areaAfter a run (Update p) = a
+abbrev pub lowerAfter : List ℕ → Run → Move → List ℕ
+lowerAfter a run Absent = a
+lowerAfter a run (Take t) = lowerTaken a run (t .process) (t .operation)
+lowerAfter a run (Serialise p v) = appended a (run .messages) v (waitingAt a (queueNumber p v) (getD (run .heads) (queueNumber p v) 0))
+lowerAfter a run (Update p) = a

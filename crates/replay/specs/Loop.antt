@@ -17,7 +17,7 @@ use Rattle.replay.specs.declared.step.Run.{Run}
 use Rattle.replay.specs.declared.run.RunAnswer.{RunAnswer}
 use Rattle.replay.specs.declared.run.RunAnswer.the-variants.{Reachable, Stopped, Missed}
 use Rattle.replay.specs.Answers.{answerThen}
-use Rattle.replay.specs.Layout.{putSnapshot, moveOf, answerIn, runAfter, rowsAfter, areaAfter}
+use Rattle.replay.specs.Layout.{putSnapshot, moveOf, answerIn, runAfter, rowsAfter, lowerAfter}
 
 -- ---- the last test
 
@@ -63,7 +63,7 @@ runFrom f s transitions targets steps k at run rows a zero = lastIn f targets s 
 runFrom f s transitions targets steps k at run rows a (suc n) =
     let m = moveOf f transitions (stepAt f at) in
     answerThen (answerIn run rows a s m) k (λ _.
-    runFrom f s transitions targets steps (k + 1) (nextStep f at) (runAfter run m) (rowsAfter rows (run .messages) m) (areaAfter a run m) n)
+    runFrom f s transitions targets steps (k + 1) (nextStep f at) (runAfter run m) (rowsAfter rows (run .messages) m) (lowerAfter a run m) n)
 
 abbrev pub replayIn : List ℕ → Program → ℕ → ℕ → List ℕ → RunAnswer
 replayIn f p at count a =

@@ -10,14 +10,14 @@ ghost use Rattle.replay.specs.Layout.{queueNumber, snapshotAt, putSnapsh
 use records::bytes::byte_at;
 use records::bytes::wide;
 
-pub fn widen(x: u16) -> usize
+fn widen(x: u16) -> usize
     ensures { λ r. ⌜ r ≡ x ⌝ }
 {
     x as usize
 }
 
 // One more; there is no number past 65,535.
-pub fn next_number(x: u16) -> u16
+pub(crate) fn next_number(x: u16) -> u16
     ensures { λ r. ⌜ r ≡ nextNumber x ⌝ }
 {
     if x < 65535 {
@@ -27,7 +27,7 @@ pub fn next_number(x: u16) -> u16
 }
 
 // The queue of process p and variable v; 16 where there is none.
-pub fn queue_number(p: usize, v: usize) -> u8
+pub(crate) fn queue_number(p: usize, v: usize) -> u8
     ensures { λ r. ⌜ r ≡ queueNumber p v ⌝ }
 {
     if 4 <= p {
@@ -40,7 +40,7 @@ pub fn queue_number(p: usize, v: usize) -> u8
 }
 
 // A snapshot with one value changed.
-pub fn with_value(snapshot: [u8; 4], v: usize, x: u8) -> [u8; 4]
+pub(crate) fn with_value(snapshot: [u8; 4], v: usize, x: u8) -> [u8; 4]
     ensures { λ r. ⌜ r ≡ set snapshot v x ⌝ }
 {
     let mut next = snapshot;
@@ -51,7 +51,7 @@ pub fn with_value(snapshot: [u8; 4], v: usize, x: u8) -> [u8; 4]
 }
 
 // The snapshot of message i.
-pub fn snapshot_at(lower: &[u8], i: u16) -> [u8; 4]
+pub(crate) fn snapshot_at(lower: &[u8], i: u16) -> [u8; 4]
     ensures { λ r. ⌜ r ≡ snapshotAt (now (lower .entry)) i ⌝ }
 {
     let at = 4 * widen(i);
@@ -63,7 +63,7 @@ pub fn snapshot_at(lower: &[u8], i: u16) -> [u8; 4]
     ]
 }
 
-pub fn put_snapshot(lower: &mut [u8], i: u16, snapshot: [u8; 4])
+pub(crate) fn put_snapshot(lower: &mut [u8], i: u16, snapshot: [u8; 4])
     ensures { λ _. ⌜ now (lower .exit) ≡ putSnapshot (now (lower .entry)) i snapshot ⌝ }
 {
     let at = 4 * widen(i);
@@ -76,14 +76,14 @@ pub fn put_snapshot(lower: &mut [u8], i: u16, snapshot: [u8; 4])
     lower[at + 3] = snapshot[3];
 }
 
-pub fn waiting_place(q: u8, k: u16) -> usize
+fn waiting_place(q: u8, k: u16) -> usize
     ensures { λ r. ⌜ r ≡ waitingPlace q k ⌝ }
 {
     8192 + 512 * wide(q) + widen(k) / 2
 }
 
 // Value k of queue q.
-pub fn waiting_at(lower: &[u8], q: u8, k: u16) -> u8
+pub(crate) fn waiting_at(lower: &[u8], q: u8, k: u16) -> u8
     ensures { λ r. ⌜ r ≡ waitingAt (now (lower .entry)) q k ⌝ }
 {
     let both = byte_at(lower, waiting_place(q, k));
@@ -94,7 +94,7 @@ pub fn waiting_at(lower: &[u8], q: u8, k: u16) -> u8
 }
 
 // The byte that holds value k, with x there. No value past k is kept.
-pub fn halves(both: u8, k: u16, x: u8) -> u8
+fn halves(both: u8, k: u16, x: u8) -> u8
     ensures { λ r. ⌜ r ≡ halves both k x ⌝ }
 {
     if k % 2 == 0 {
@@ -103,7 +103,7 @@ pub fn halves(both: u8, k: u16, x: u8) -> u8
     both % 16 + 16 * (x % 16)
 }
 
-pub fn put_waiting(lower: &mut [u8], q: u8, k: u16, x: u8)
+pub(crate) fn put_waiting(lower: &mut [u8], q: u8, k: u16, x: u8)
     ensures { λ _. ⌜ now (lower .exit) ≡ putWaiting (now (lower .entry)) q k x ⌝ }
 {
     let at = waiting_place(q, k);

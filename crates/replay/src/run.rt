@@ -7,19 +7,19 @@ ghost use Rattle.records.specs.ProgramPart.{programOf, targetsOf};
 ghost use Rattle.reading.specs.EvidencePart.{stepsOf};
 ghost use Rattle.replay.specs.Answers.{runAnswer, RunOf};
 ghost use Rattle.replay.specs.Loop.{agreesIn, inTargetIn, nextTarget, nextStep, lastIn, stoppedBy, firstRun, firstRows, replayIn};
+use crate::after::rows_after;
+use crate::after::store;
 use crate::area::clear;
 use crate::area::put_snapshot;
 use crate::step::Answer;
 use crate::step::Cause;
 use crate::step::Run;
 use crate::step::move_of;
-use crate::step::rows_after;
 use crate::step::step_answer;
-use crate::step::store;
 use reading::evidence::Contents;
 use reading::evidence::either;
-use reading::evidence::step_at;
-use reading::evidence::step_body;
+use reading::steps::step_at;
+use reading::steps::step_body;
 use records::bytes::both;
 use records::bytes::field;
 use records::program::Program;
@@ -37,14 +37,14 @@ pub enum RunAnswer {
 
 // ---- the last test
 
-pub fn agrees(shape: Shape, p: usize, x: u8, y: u8) -> bool
+fn agrees(shape: Shape, p: usize, x: u8, y: u8) -> bool
     ensures { λ r. ⌜ r ≡ agreesIn shape p x y ⌝ }
 {
     either(shape.processes <= p, x == y)
 }
 
 // The states are those of the target at a place.
-pub fn in_target(file: &[u8], at: usize, shape: Shape, states: [u8; 4]) -> bool
+fn in_target(file: &[u8], at: usize, shape: Shape, states: [u8; 4]) -> bool
     ensures { λ r. ⌜ r ≡ inTargetIn (now (file .entry)) at shape states ⌝ }
 {
     let a = agrees(shape, 0, of_four(states, 0), field(file, at, 1));
@@ -55,7 +55,7 @@ pub fn in_target(file: &[u8], at: usize, shape: Shape, states: [u8; 4]) -> bool
 }
 
 // Where the next target stands, and the next step; past the file's end there is nothing to pass.
-pub fn next_target(file: &[u8], at: usize) -> usize
+fn next_target(file: &[u8], at: usize) -> usize
     ensures { λ r. ⌜ r ≡ nextTarget (now (file .entry)) at ⌝ }
 {
     if file.len() <= at {
@@ -64,7 +64,7 @@ pub fn next_target(file: &[u8], at: usize) -> usize
     at + 5
 }
 
-pub fn next_step(file: &[u8], at: usize) -> usize
+fn next_step(file: &[u8], at: usize) -> usize
     ensures { λ r. ⌜ r ≡ nextStep (now (file .entry)) at ⌝ }
 {
     if file.len() <= at {
@@ -73,13 +73,7 @@ pub fn next_step(file: &[u8], at: usize) -> usize
     at + (1 + step_body(file, at))
 }
 
-pub fn last_answer(
-    file: &[u8],
-    targets: Row,
-    shape: Shape,
-    states: [u8; 4],
-    steps: usize,
-) -> RunAnswer
+fn last_answer(file: &[u8], targets: Row, shape: Shape, states: [u8; 4], steps: usize) -> RunAnswer
     ensures { λ r. ⌜ r ≡ lastIn (now (file .entry)) targets shape states steps ⌝ }
 {
     let mut k = targets.at;
@@ -97,7 +91,7 @@ pub fn last_answer(
 
 // ---- the replay
 
-pub fn stopped_by(step: usize, answer: Answer) -> RunAnswer
+fn stopped_by(step: usize, answer: Answer) -> RunAnswer
     ensures { λ r. ⌜ r ≡ stoppedBy step answer ⌝ }
 {
     match answer {
@@ -113,7 +107,7 @@ pub fn stopped_by(step: usize, answer: Answer) -> RunAnswer
 }
 
 // Initial local states, empty queues, one message.
-pub fn first_run(states: [u8; 4]) -> Run
+fn first_run(states: [u8; 4]) -> Run
     ensures { λ r. ⌜ r ≡ firstRun states ⌝ }
 {
     let none = [0u16; 16];
@@ -126,7 +120,7 @@ pub fn first_run(states: [u8; 4]) -> Run
 }
 
 // All pointers and LastWrite numbers 1.
-pub fn first_rows() -> [[u16; 5]; 4]
+fn first_rows() -> [[u16; 5]; 4]
     ensures { λ r. ⌜ r ≡ firstRows ⌝ }
 {
     let row = [1u16; 5];
@@ -134,7 +128,7 @@ pub fn first_rows() -> [[u16; 5]; 4]
 }
 
 // `count` steps from `at` on; afterwards the lower part is 0.
-pub fn replay_steps(
+fn replay_steps(
     file: &[u8],
     program: Program,
     at: usize,

@@ -15,7 +15,7 @@ use Rattle.records.specs.declared.program.Shape.{Shape}
 use Rattle.records.specs.ProgramPart.{shapeOf}
 use Rattle.reading.specs.Cube.{noQueue, emptyQueue, waitingOf, channelOf, queueOf}
 use Rattle.reading.proofs.CubeParts.{queue-of, queue-none}
-use Rattle.lists.specs.Lists.{any}
+use Rattle.lists.specs.Lists.{anyOf}
 use Rattle.lists.specs.Shapes.{outlineMemory}
 use Rattle.lists.proofs.Lists.{early-or}
 use Rattle.matching.proofs.Below.{or-true, Each}
@@ -24,19 +24,19 @@ use Rattle.targets.specs.ShapeCube.{outlineOf, ShapeCube}
 
 -- ---- labels
 
-pub some-message : (f : Message → Bool) (ms : List Message) (n i : ℕ) → i < n → f (getD ms i noMessage) ≡ true → any f (channelOf ms n) ≡ true
+pub some-message : (f : Message → Bool) (ms : List Message) (n i : ℕ) → i < n → f (getD ms i noMessage) ≡ true → anyOf f (channelOf ms n) ≡ true
 some-message f ms zero i l e = absurd (omega arith)
 some-message f ms (suc n) i l e =
-    early-or (f (getD ms n noMessage)) (any f (channelOf ms n)) ∙ elim (ℕ-discrete i n) [
+    early-or (f (getD ms n noMessage)) (anyOf f (channelOf ms n)) ∙ elim (ℕ-discrete i n) [
       | yes d ↦ rw (ap (λ (k : ℕ). f (getD ms k noMessage)) (sym d) ∙ e) refl
       | no d ↦ ap (_||_ (f (getD ms n noMessage))) (some-message f ms n i (omega arith) e) ∙ or-true (f (getD ms n noMessage))
     ]
 
-none-below : (f : Message → Bool) (ms : List Message) (n : ℕ) → ((k : ℕ) → k < n → f (getD ms k noMessage) ≡ false) → any f (channelOf ms n) ≡ false
+none-below : (f : Message → Bool) (ms : List Message) (n : ℕ) → ((k : ℕ) → k < n → f (getD ms k noMessage) ≡ false) → anyOf f (channelOf ms n) ≡ false
 none-below f ms zero h = refl
 none-below f ms (suc n) h = rw (h n (omega arith)) (none-below f ms n (λ k l. h k (omega arith)))
 
-pub no-message : (f : Message → Bool) (ms : List Message) (n i : ℕ) → Each (λ k. f (getD ms k noMessage)) false n i → n ≤ i → any f (channelOf ms n) ≡ false
+pub no-message : (f : Message → Bool) (ms : List Message) (n i : ℕ) → Each (λ k. f (getD ms k noMessage)) false n i → n ≤ i → anyOf f (channelOf ms n) ≡ false
 no-message f ms n i w l = none-below f ms n (λ k m. w .each k (omega arith))
 
 -- ---- the first n messages turned round, so far

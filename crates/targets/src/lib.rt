@@ -9,7 +9,7 @@ ghost use Rattle.pws.specs.Program.{Program};
 ghost use Rattle.pws.specs.Machine.{isEmpty, allBelow, labelled};
 ghost use Rattle.records.specs.ProgramPart.{shapeOf};
 ghost use Rattle.reading.specs.Cube.{waitingOf, queueOf, channelOf, configurationOf};
-ghost use Rattle.lists.specs.Lists.{any};
+ghost use Rattle.lists.specs.Lists.{anyOf};
 ghost use Rattle.lists.specs.Values.{fills};
 ghost use Rattle.lists.specs.Cubes.{anyMessage};
 ghost use Rattle.lists.specs.Shapes.{allowed, queueShapes};
@@ -147,7 +147,7 @@ fn any_message(shape: Shape, p: usize, v: usize) -> Message
 // One of the first n messages has this label.
 fn is_seen(messages: [Message; 20], n: usize, p: usize, v: usize) -> bool
     requires { ⌜ n ≤ 20 ⌝ }
-    ensures { λ r. ⌜ r ≡ any (λ m. labelled m p v) (channelOf messages n) ⌝ }
+    ensures { λ r. ⌜ r ≡ anyOf (λ m. labelled m p v) (channelOf messages n) ⌝ }
 {
     for i in 0..n {
         let message = messages[i];

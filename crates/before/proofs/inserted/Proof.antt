@@ -1,6 +1,6 @@
 use Rattle.before.proofs.ChangeLaws.{changed-memory}
 use Rattle.reading.specs.Cube.{channelOf, configurationOf}
-use Rattle.pws.specs.Insertion.{insert, insertInto}
+use Rattle.pws.specs.Insertion.{putMessage, insertInto}
 use native.Mathlib.Omega.{arith}
 use mathlib.Core.Path.{_≡_, ap, _∙_}
 use Prim.Native.Nat.{ℕ, _+_, _-_}
@@ -23,4 +23,4 @@ inserted-spec = tie.close (tie.spec
     -- add-next 163:18
     (λ c. search needs)
     -- returns-3 146:1
-    (λ c w. let e : c .before .before .before .before .before .before .args .k - 1 + 1 ≡ c .before .before .before .before .before .before .args .k = omega (arith, w .some) in changed-memory (c .before .before .before .before .before .before .args .cube) (c .raised .result) (c .before .insert-message .result) (c .before .before .before .before .before .before .args .cube .count + 1) (insertInto (configurationOf (c .before .before .before .before .before .before .args .cube) .memory) (c .before .before .before .before .before .before .args .k) (c .before .before .before .before .before .before .args .message)) (c .before .insert-message .ensures (w .count) (omega (arith, w .most)) ∙ ap (λ (j : ℕ). insert (channelOf (c .before .before .before .before .before .before .args .cube .messages) (c .before .before .before .before .before .before .args .cube .count)) j (c .before .before .before .before .before .before .args .message)) e) (c .raised .ensures (w .pointers) (w .some))))
+    (λ c w. let e : c .before .before .before .before .before .before .args .k - 1 + 1 ≡ c .before .before .before .before .before .before .args .k = omega (arith, w .some) in changed-memory (c .before .before .before .before .before .before .args .cube) (c .raised .result) (c .before .insert-message .result) (c .before .before .before .before .before .before .args .cube .count + 1) (insertInto (configurationOf (c .before .before .before .before .before .before .args .cube) .memory) (c .before .before .before .before .before .before .args .k) (c .before .before .before .before .before .before .args .message)) (c .before .insert-message .ensures (w .count) (omega (arith, w .most)) ∙ ap (λ (j : ℕ). putMessage (channelOf (c .before .before .before .before .before .before .args .cube .messages) (c .before .before .before .before .before .before .args .cube .count)) j (c .before .before .before .before .before .before .args .message)) e) (c .raised .ensures (w .pointers) (w .some))))

@@ -16,13 +16,13 @@ line-for-spec = tie.close (tie.spec
     (λ c. (c .before .before .put-line .ensures .0, over-said (c .before .before .before .before .before .before .before .args .input .now) _ (c .before .before .before .before .if1 .taken) (c .before .before .put-line .ensures .1 (refused 14 65536) refl)))
     -- work-area-requires 105:20
     (λ c κs. search needs)
-    -- slice-aggregate-hrafnolt-judge 106:41
+    -- slice-aggregate-judge 106:41
     (λ c. search needs)
-    -- hrafnolt-judge-requires 106:9
+    -- judge-requires 106:9
     (λ c κs. search needs)
     -- put-line-requires-2 107:5
     (λ c κs. search needs)
     -- same-length-2 90:1
     (λ c. search needs)
     -- returns-2 90:1
-    (λ c. (c .before .before .put-line2 .ensures .0, judged-said (c .before .before .before .before .before .before .before .before .before .before .before .args .input .now) _ (length (c .before .before .before .before .before .before .before .work-area .result)) (sym (c .before .before .before .before .before .before .before .work-area .ensures)) (c .before .before .before .before .before .before .before .before .if1 .left) (c .before .before .put-line2 .ensures .1 (judged (c .before .before .before .before .before .before .before .before .before .before .before .args .input .now) (length (c .before .before .before .before .before .before .before .work-area .result))) (c .before .before .before .before .before .hrafnolt-judge .ensures .1 .0)))))
+    (λ c. (c .before .before .put-line2 .ensures .0, judged-said (c .before .before .before .before .before .before .before .before .before .before .before .args .input .now) _ (length (c .before .before .before .before .before .before .before .work-area .result)) (sym (c .before .before .before .before .before .before .before .work-area .ensures)) (c .before .before .before .before .before .before .before .before .if1 .left) (c .before .before .put-line2 .ensures .1 (judged (c .before .before .before .before .before .before .before .before .before .before .before .args .input .now) (length (c .before .before .before .before .before .before .before .work-area .result))) (c .before .before .before .before .before .judge .ensures .1 .0)))))

@@ -1,25 +1,16 @@
-use Prim.Native.Nat.{ℕ}
-use mathlib.Core.Path.{ap, _∙_}
-use mathlib.Core.List.{_++_}
-use native.Mathlib.Omega.{arith}
-use lib.ListN.{length, drop, replicate}
+use lib.ListN.{length}
 use borrow.Author.Needs.{needs}
-use Rattle.judge.proofs.AreaLaws.{used-fits, cleared-all, untouched}
-use Rattle.judge.proofs.JudgeLaws.{short-said}
+use Rattle.judge.proofs.JudgeLaws.{answered}
 use Rattle.judge.proofs.judge.Statement.{statement}
 use Rattle.judge.proofs.judge.Tie as tie
 
 pub judge-spec : {M : Type 1} → statement M
 judge-spec = tie.close (tie.spec
-    -- returns 67:9
-    (λ c. (short-said (c .before .before .before .args .file .now) (length (c .before .before .before .args .work .now)) (c .if1 .taken), untouched (c .before .before .before .args .work .now) (c .if1 .taken)))
-    -- judge-file-requires 72:9
+    -- judge-and-clear-requires 84:16
     (λ c κs. search needs)
-    -- used-of-requires 73:22
+    -- verdict-of-requires 84:5
     (λ c κs. search needs)
-    -- clear-used-requires 73:5
-    (λ c κs. omega (arith, used-fits (length (c .before .before .before .before .before .before .before .before .before .args .work .now)) (omega (arith, c .before .before .before .before .before .before .if1 .left)), c .used-of .ensures))
-    -- same-length 61:1
+    -- same-length 78:1
     (λ c. search needs)
-    -- returns-2 61:1
-    (λ c. (c .before .before .before .before .before .before .before .judge-file .ensures .0, c .before .before .clear-used .ensures ∙ ap (λ (n : ℕ). replicate n 0 ++ drop n (c .before .before .before .before .before .before .before .judge-file .last .1 .0)) (c .before .before .before .used-of .ensures) ∙ cleared-all (c .before .before .before .before .before .before .before .before .before .before .before .before .args .work .now) (c .before .before .before .before .before .before .before .judge-file .last .1 .0) (c .before .before .before .before .before .before .before .before .before .if1 .left) (c .before .before .before .before .before .before .before .judge-file .ensures .1))))
+    -- returns 78:1
+    (λ c. let a = answered (c .before .before .before .before .before .before .before .args .file .now) (length (c .before .before .before .before .before .before .before .args .work .now)) (c .before .before .before .judge-and-clear .result) _ (c .verdict-of .ensures) (c .before .before .before .judge-and-clear .ensures .0) in (a .0, (a .1, c .before .before .before .judge-and-clear .ensures .1))))

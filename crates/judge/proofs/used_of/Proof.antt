@@ -2,13 +2,13 @@ use Prim.Native.Nat.{ℕ, _+_, _*_}
 use mathlib.Core.Path.{_≡_, ap}
 use native.Mathlib.Omega.{arith}
 use borrow.Author.Needs.{needs}
-use Rattle.reading.specs.EvidencePart.{allowed}
+use Rattle.reading.specs.EvidencePart.{entriesAllowed}
 use Rattle.judge.specs.Judge.{usedOf}
 use Rattle.judge.proofs.AreaLaws.{few}
 use Rattle.judge.proofs.used_of.Statement.{statement}
 use Rattle.judge.proofs.used_of.Tie as tie
 
-used : (r area : ℕ) → r ≡ allowed area → 16384 + 4 * r ≡ usedOf area
+used : (r area : ℕ) → r ≡ entriesAllowed area → 16384 + 4 * r ≡ usedOf area
 unfolding usedOf
 used r area e = ap (λ (n : ℕ). 16384 + 4 * n) e
 

@@ -28,6 +28,10 @@ verdict-of-spec = tie.close (tie.spec
     (λ c κs. search needs)
     -- enum-known-answer-7 57:27
     (λ c. search needs)
+    -- cause-number-requires 57:45
+    (λ c κs. search needs)
+    -- cast-refused-2 57:45
+    (λ c. search needs)
     -- refused-requires-5 57:37
     (λ c κs. search needs)
     -- enum-known-answer-8 58:26
@@ -47,6 +51,6 @@ verdict-of-spec = tie.close (tie.spec
     -- returns-6 39:1
     (λ c. rw (c .before .before .answer6 .given .1, c .refused4 .ensures))
     -- returns-7 39:1
-    (λ c. rw (c .before .before .answer7 .given .1, c .refused5 .ensures))
+    (λ c. rw (c .before .before .before .answer7 .given .1, c .refused5 .ensures, c .before .cause-number .ensures))
     -- returns-8 39:1
     (λ c. rw (c .before .before .answer8 .given .1, c .refused6 .ensures)))

@@ -1,11 +1,11 @@
 use native.Mathlib.Omega.{arith}
-use Rattle.reading.specs.EvidencePart.{allowed}
+use Rattle.reading.specs.EvidencePart.{entriesAllowed}
 use borrow.Author.Needs.{needs}
 use Rattle.reading.proofs.evidence.entries_allowed.Statement.{statement}
 use Rattle.reading.proofs.evidence.entries_allowed.Tie as tie
 
 pub entries-allowed-spec : {M : Type 1} → statement M
-unfolding allowed
+unfolding entriesAllowed
 entries-allowed-spec = tie.close (tie.spec
     -- returns 512:9
     (λ c. omega arith)

@@ -3,7 +3,7 @@ use lib.ListN.{take, drop}
 use Rattle.reading.proofs.ReadingLaws.{upper, evidence-refused, evidence-entries, evidence-steps, claim-fits}
 use Rattle.reading.specs.Reading.{Evidence, readingRefused, countReading, evidenceReading, evidenceArea}
 use Rattle.reading.specs.Tally.{countOf}
-use Rattle.reading.specs.EvidencePart.{EntriesRead, entriesFrom, allowed, wroteFrom}
+use Rattle.reading.specs.EvidencePart.{EntriesRead, entriesFrom, entriesAllowed, wroteFrom}
 use Rattle.records.specs.ProgramPart.{refusalOf, unlessEnd}
 use Rattle.records.specs.Records.{checked, claimNumber}
 use Rattle.records.specs.declared.program.Checked.the-variants.{Fine, Refused}
@@ -21,7 +21,7 @@ fine : (c : tie.After-enum-told) → unlessEnd (c .before .before .before .befor
 fine c = sym (ap (unlessEnd (c .before .before .before .before .before .before .args .file .now) (c .before .before .before .before .before .before .args .program .claim)) (c .before .before .before .check-claim .ensures)) ∙ sym (c .before .before .unless-end .ensures) ∙ c .enum-told .given .1
 
 few : (c : tie.After-entries-allowed) → c .entries-allowed .result ≤ 524288
-unfolding allowed
+unfolding entriesAllowed
 few c = omega (arith, c .entries-allowed .ensures)
 
 pub read-evidence-spec : {M : Type 1} → statement M
@@ -59,7 +59,7 @@ read-evidence-spec = tie.close (tie.spec
     -- same-length 534:9
     (λ c. search needs)
     -- returns-2 534:9
-    (λ c. let a = c .before .before .before .before .before .before .before .before .before .before .before .before .before .before .before .before .args in let f = a .file .now in let p = a .program in let w = a .work .now in let e = evidence-entries f (p .claim) p (length w) (fine (c .before .before .before .before .before .before .before .before .before .before)) (sym (c .before .before .before .before .before .before .before .before .field .ensures) ∙ c .before .before .before .before .before .before .before .if1 .taken) in let read : ℕ → EntriesRead = λ m. entriesFrom m (p .shape) (p .states) f (p .claim + 2) [] [] in let m : c .before .before .before .before .before .entries-allowed .result ≡ allowed (length w) = c .before .before .before .before .before .entries-allowed .ensures in (c .reading-with .ensures ∙ ap (countReading p 0) (c .before .before .before .entries-from .ensures .0 ∙ ap (λ (m : ℕ). countOf (read m)) m) ∙ sym (ap (evidenceReading p) e), upper 16384 w (c .before .before .before .entries-from .last .1 .1 .1 .1 .1 .0) (λ l. wroteFrom 0 (read (allowed (length w)) .offsets) l) (omega (arith, c .before .before .before .before .before .before .before .before .before .before .before .before .before .before .before .before .pre .0)) (c .before .before .before .entries-from .ensures .1 ∙ ap (λ (m : ℕ). wroteFrom 0 (read m .offsets) (take (length w - 16384) (drop 16384 w))) m) ∙ sym (ap (λ (x : Evidence). evidenceArea x w) e)))
+    (λ c. let a = c .before .before .before .before .before .before .before .before .before .before .before .before .before .before .before .before .args in let f = a .file .now in let p = a .program in let w = a .work .now in let e = evidence-entries f (p .claim) p (length w) (fine (c .before .before .before .before .before .before .before .before .before .before)) (sym (c .before .before .before .before .before .before .before .before .field .ensures) ∙ c .before .before .before .before .before .before .before .if1 .taken) in let read : ℕ → EntriesRead = λ m. entriesFrom m (p .shape) (p .states) f (p .claim + 2) [] [] in let m : c .before .before .before .before .before .entries-allowed .result ≡ entriesAllowed (length w) = c .before .before .before .before .before .entries-allowed .ensures in (c .reading-with .ensures ∙ ap (countReading p 0) (c .before .before .before .entries-from .ensures .0 ∙ ap (λ (m : ℕ). countOf (read m)) m) ∙ sym (ap (evidenceReading p) e), upper 16384 w (c .before .before .before .entries-from .last .1 .1 .1 .1 .1 .0) (λ l. wroteFrom 0 (read (entriesAllowed (length w)) .offsets) l) (omega (arith, c .before .before .before .before .before .before .before .before .before .before .before .before .before .before .before .before .pre .0)) (c .before .before .before .entries-from .ensures .1 ∙ ap (λ (m : ℕ). wroteFrom 0 (read m .offsets) (take (length w - 16384) (drop 16384 w))) m) ∙ sym (ap (λ (x : Evidence). evidenceArea x w) e)))
     -- add-steps-from 537:34
     (λ c. omega (arith, claim-fits (c .before .before .before .before .before .before .before .before .before .before .args .file .now) (c .before .before .before .before .before .before .before .before .before .before .args .program .claim) (c .before .before .before .before .before .before .before .before .before .before .args .program) 0 (fine (c .before .before .before .before))))
     -- steps-from-requires 537:9
