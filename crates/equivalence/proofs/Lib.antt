@@ -12,4 +12,4 @@ pub mod ForwardAhead
 pub mod ForwardOwn
 pub mod ForwardOperations
 pub mod Forward
-pub mod ForwardTargets
+pub mod Reachability

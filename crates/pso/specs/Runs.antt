@@ -1,13 +1,12 @@
 -- Starts, sequences of steps and targets of the PSO machine (report, 4.1 and 4.2).
 use Prim.Native.Nat.{ℕ, _<_, _≤_}
 use mathlib.Core.Path.{_≡_}
-use mathlib.Core.Bool.{Bool, true, false, cond}
 use mathlib.Core.List.{List, [], _∷_}
 use lib.ListN.{length, getD}
 use lib.Dec.{T}
 use Rattle.pws.specs.Program.{Shape, Program}
 use Rattle.pso.specs.declared.PsoStep.{PsoStep}
-use Rattle.pso.specs.Machine.{Item, PsoConfiguration, psoMay, psoAfter}
+use Rattle.pso.specs.Machine.{PsoConfiguration, psoMay, psoAfter}
 
 -- a memory that a run may start from: any value in each variable, and 0 in the room of those that the shape does not have
 pub record MemoryOf (S : Shape) (memory : List ℕ) : Type 0 where
@@ -37,3 +36,12 @@ pub data PsoVisited (P : Program) : PsoConfiguration → List PsoStep → PsoCon
 -- a configuration is in a target when its local states are the target's, whatever buffers and memory are
 abbrev pub PsoInTarget : Shape → (ℕ → ℕ) → PsoConfiguration → Type 0
 PsoInTarget S target d = (p : ℕ) → p < S .processes → d .state p ≡ target p
+
+-- a run of any length from a start with this memory to the target (report, 4.2: Reachable(PSO))
+pub record PsoReachable (P : Program) (memory : List ℕ) (target : ℕ → ℕ) : Type 0 where
+  pub first : PsoConfiguration
+  pub starts : PsoStart P memory first
+  pub steps : List PsoStep
+  pub last : PsoConfiguration
+  pub takes : PsoTakes P first steps last
+  pub reached : PsoInTarget (P .shape) target last
