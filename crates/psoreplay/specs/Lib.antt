@@ -1,0 +1,5 @@
+pub mod Causes
+pub mod Answers
+pub mod Layout
+pub mod Represents
+pub mod Loop
