@@ -45,7 +45,7 @@ program processes variables ts =
       transitions = ts;
     }
 
-abbrev zeros : List ℕ
+abbrev pub zeros : List ℕ
 zeros = 0 ∷ 0 ∷ 0 ∷ 0 ∷ []
 
 -- store buffering: each of two processes writes its variable, and reads the other's as 0
@@ -53,12 +53,12 @@ abbrev buffering : Program
 buffering = program 2 2 (step 0 0 (Write 0 1) ∷ step 0 1 (Read 1 0) ∷ step 1 0 (Write 1 1) ∷ step 1 1 (Read 0 0) ∷ [])
 
 -- the same with an mfence after each write
-abbrev fenced : Program
+abbrev pub fenced : Program
 fenced =
     program 2 2 (step 0 0 (Write 0 1) ∷ step 0 1 Mfence ∷ step 0 2 (Read 1 0) ∷ step 1 0 (Write 1 1) ∷ step 1 1 Mfence ∷ step 1 2 (Read 0 0) ∷ [])
 
 -- a process writes 1 and passes an sfence; then it may read 1, read 0, pass an mfence, or change 1 to 0 at once
-abbrev marked : Program
+abbrev pub marked : Program
 marked =
     program 1 1 (step 0 0 (Write 0 1) ∷ step 0 1 Sfence ∷ step 0 2 (Read 0 1) ∷ step 0 2 (Read 0 0) ∷ step 0 2 Mfence ∷ step 0 2 (Arw 0 1 0) ∷ [])
 
@@ -67,12 +67,12 @@ abbrev between : Program
 between = program 1 1 (step 0 0 (Write 0 1) ∷ step 0 1 Sfence ∷ step 0 2 (Write 0 0) ∷ step 0 3 (Read 0 0) ∷ step 0 3 (Read 0 1) ∷ [])
 
 -- process 0 writes variable 1, or passes an sfence; then it changes variable 0 from 0 to 1, or from 1 to 0, at once. Process 1 reads 1 there.
-abbrev atomic : Program
+abbrev pub atomic : Program
 atomic =
     program 2 2 (step 0 0 (Write 1 1) ∷ step 0 0 Sfence ∷ step 0 1 (Arw 0 0 1) ∷ step 0 1 (Arw 0 1 0) ∷ step 0 1 (Arw 1 0 1) ∷ step 1 0 (Read 0 1) ∷ [])
 
 -- process 0 writes 1, then 0; process 1 reads 1
-abbrev inOrder : Program
+abbrev pub inOrder : Program
 inOrder = program 2 1 (step 0 0 (Write 0 1) ∷ step 0 1 (Write 0 0) ∷ step 1 0 (Read 0 1) ∷ [])
 
 -- ---- the table

@@ -5,4 +5,7 @@ pub mod Holding
 pub mod Answering
 pub mod Stepping
 pub mod CauseLaws
+pub mod Alike
+pub mod Accepted
 pub mod Replaying
+pub mod Cases

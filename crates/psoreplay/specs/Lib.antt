@@ -3,3 +3,4 @@ pub mod Answers
 pub mod Layout
 pub mod Represents
 pub mod Loop
+pub mod Cases
