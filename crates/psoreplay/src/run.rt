@@ -7,10 +7,11 @@ ghost use Rattle.records.specs.ProgramPart.{programOf, targetsOf};
 ghost use Rattle.reading.specs.EvidencePart.{stepsOf};
 ghost use Rattle.psoreplay.specs.Answers.{psoSteps, psoRunAnswer};
 ghost use Rattle.psoreplay.specs.Loop.{firstRun, replayIn};
+use crate::after::run_after;
+use crate::after::store;
 use crate::step::PsoRun;
 use crate::step::pso_move;
 use crate::step::step_answer;
-use crate::step::store;
 use reading::evidence::step_at;
 use records::program::Program;
 use replay::area::clear;
@@ -21,7 +22,7 @@ use replay::run::stopped_by;
 use replay::step::Answer;
 
 // Initial local states, empty buffers, and this memory.
-pub fn first_run(states: [u8; 4], memory: [u8; 4]) -> PsoRun
+fn first_run(states: [u8; 4], memory: [u8; 4]) -> PsoRun
     ensures { λ r. ⌜ r ≡ firstRun states memory ⌝ }
 {
     let none = [0u16; 16];
@@ -65,7 +66,7 @@ pub fn replay_steps(
             break stopped_by(i, answer);
         };
         let tails = run.tails;
-        let next = run.after(&lower[..], shape, step);
+        let next = run_after(run, &lower[..], shape, step);
         store(lower, tails, shape, step);
         run = next;
         k = next_step(file, k);

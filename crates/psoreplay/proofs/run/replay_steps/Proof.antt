@@ -73,7 +73,7 @@ replay-steps-spec = tie.close (tie.spec
     (λ c. let f = c .before .before .before .before .before .before .before .before .before .before .before .before .before .before .before .before .before .before .before .before .before .before .before .args .file .now in
     replaying-next (c .before .before .before .before .before .before .before .before .before .before .before .before .before .before .before .loop .inv) (c .before .before .before .before .before .before .before .before .before .before .before .before .pso-move .result) (c .before .before .before .before .before .before .before .before .before .before .before .before .before .before .if1 .left)
     (c .before .before .before .before .before .before .before .before .before .before .before .before .pso-move .ensures ∙ ap (psoMoveOf f (c .before .before .before .before .before .before .before .before .before .before .before .before .before .before .before .before .before .before .before .before .before .before .before .args .program .transitions)) (c .before .before .before .before .before .before .before .before .before .before .before .before .before .step-at .ensures))
-    (sym (c .before .before .before .before .before .before .before .before .before .before .step-answer .ensures) ∙ c .before .before .before .before .before .before .before .before .enum-told .given .1) (c .next-step .ensures) (c .before .before .before .before .before .after .ensures) (c .before .before .before .store .ensures))
+    (sym (c .before .before .before .before .before .before .before .before .before .before .step-answer .ensures) ∙ c .before .before .before .before .before .before .before .before .enum-told .given .1) (c .next-step .ensures) (c .before .before .before .before .before .run-after .ensures) (c .before .before .before .store .ensures))
     -- clear-requires
     (λ c κs. search needs)
     -- same-length

@@ -1,6 +1,6 @@
 use borrow.Author.Needs.{needs}
-use Rattle.psoreplay.proofs.step.memory_after.Statement.{statement}
-use Rattle.psoreplay.proofs.step.memory_after.Tie as tie
+use Rattle.psoreplay.proofs.after.memory_after.Statement.{statement}
+use Rattle.psoreplay.proofs.after.memory_after.Tie as tie
 
 pub memory-after-spec : {M : Type 1} → statement M
 memory-after-spec = tie.close (tie.spec

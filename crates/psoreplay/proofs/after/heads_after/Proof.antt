@@ -1,6 +1,6 @@
 use borrow.Author.Needs.{needs}
-use Rattle.psoreplay.proofs.step.heads_after.Statement.{statement}
-use Rattle.psoreplay.proofs.step.heads_after.Tie as tie
+use Rattle.psoreplay.proofs.after.heads_after.Statement.{statement}
+use Rattle.psoreplay.proofs.after.heads_after.Tie as tie
 
 pub heads-after-spec : {M : Type 1} → statement M
 heads-after-spec = tie.close (tie.spec

@@ -1,6 +1,6 @@
 use borrow.Author.Needs.{needs}
-use Rattle.psoreplay.proofs.step.store_operated.Statement.{statement}
-use Rattle.psoreplay.proofs.step.store_operated.Tie as tie
+use Rattle.psoreplay.proofs.after.store_operated.Statement.{statement}
+use Rattle.psoreplay.proofs.after.store_operated.Tie as tie
 
 pub store-operated-spec : {M : Type 1} → statement M
 store-operated-spec = tie.close (tie.spec

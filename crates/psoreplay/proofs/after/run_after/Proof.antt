@@ -1,9 +1,9 @@
 use borrow.Author.Needs.{needs}
-use Rattle.psoreplay.proofs.step.PsoRun.after.Statement.{statement}
-use Rattle.psoreplay.proofs.step.PsoRun.after.Tie as tie
+use Rattle.psoreplay.proofs.after.run_after.Statement.{statement}
+use Rattle.psoreplay.proofs.after.run_after.Tie as tie
 
-pub after-spec : {M : Type 1} → statement M
-after-spec = tie.close (tie.spec
+pub run-after-spec : {M : Type 1} → statement M
+run-after-spec = tie.close (tie.spec
     -- states-after-requires
     (λ c κs. search needs)
     -- memory-after-requires

@@ -1,6 +1,6 @@
 use borrow.Author.Needs.{needs}
-use Rattle.psoreplay.proofs.step.tails_after.Statement.{statement}
-use Rattle.psoreplay.proofs.step.tails_after.Tie as tie
+use Rattle.psoreplay.proofs.after.tails_after.Statement.{statement}
+use Rattle.psoreplay.proofs.after.tails_after.Tie as tie
 
 pub tails-after-spec : {M : Type 1} → statement M
 tails-after-spec = tie.close (tie.spec

@@ -1,6 +1,6 @@
 use borrow.Author.Needs.{needs}
-use Rattle.psoreplay.proofs.step.states_after.Statement.{statement}
-use Rattle.psoreplay.proofs.step.states_after.Tie as tie
+use Rattle.psoreplay.proofs.after.states_after.Statement.{statement}
+use Rattle.psoreplay.proofs.after.states_after.Tie as tie
 
 pub states-after-spec : {M : Type 1} → statement M
 states-after-spec = tie.close (tie.spec

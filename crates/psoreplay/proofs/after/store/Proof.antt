@@ -1,6 +1,6 @@
 use borrow.Author.Needs.{needs}
-use Rattle.psoreplay.proofs.step.store.Statement.{statement}
-use Rattle.psoreplay.proofs.step.store.Tie as tie
+use Rattle.psoreplay.proofs.after.store.Statement.{statement}
+use Rattle.psoreplay.proofs.after.store.Tie as tie
 
 pub store-spec : {M : Type 1} → statement M
 store-spec = tie.close (tie.spec

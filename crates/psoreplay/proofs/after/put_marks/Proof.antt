@@ -6,8 +6,8 @@ use lib.ListN.{length}
 use Rattle.psoreplay.specs.Layout.{markedBelow}
 use Rattle.psoreplay.proofs.AreaLaws.{marked-length}
 use borrow.Author.Needs.{needs}
-use Rattle.psoreplay.proofs.step.put_marks.Statement.{statement}
-use Rattle.psoreplay.proofs.step.put_marks.Tie as tie
+use Rattle.psoreplay.proofs.after.put_marks.Statement.{statement}
+use Rattle.psoreplay.proofs.after.put_marks.Tie as tie
 
 abbrev Inv-loop : tie.InvT-loop
 Inv-loop lower₀ tails p n v₀ lower v = (v ≤ n) × (lower ≡ markedBelow lower₀ tails p v)

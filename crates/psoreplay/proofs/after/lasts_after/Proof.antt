@@ -1,6 +1,6 @@
 use borrow.Author.Needs.{needs}
-use Rattle.psoreplay.proofs.step.lasts_after.Statement.{statement}
-use Rattle.psoreplay.proofs.step.lasts_after.Tie as tie
+use Rattle.psoreplay.proofs.after.lasts_after.Statement.{statement}
+use Rattle.psoreplay.proofs.after.lasts_after.Tie as tie
 
 pub lasts-after-spec : {M : Type 1} → statement M
 lasts-after-spec = tie.close (tie.spec

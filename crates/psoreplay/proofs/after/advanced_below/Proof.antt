@@ -4,8 +4,8 @@ use native.Mathlib.Omega.{arith}
 use native.Mathlib.Numerals.{add-one}
 use Rattle.psoreplay.specs.Layout.{advancedBelow}
 use borrow.Author.Needs.{needs}
-use Rattle.psoreplay.proofs.step.advanced_below.Statement.{statement}
-use Rattle.psoreplay.proofs.step.advanced_below.Tie as tie
+use Rattle.psoreplay.proofs.after.advanced_below.Statement.{statement}
+use Rattle.psoreplay.proofs.after.advanced_below.Tie as tie
 
 abbrev Inv-loop : tie.InvT-loop
 Inv-loop p n next₀ v₀ next v = (v ≤ n) × (next ≡ advancedBelow next₀ p v)

@@ -1,6 +1,6 @@
 use borrow.Author.Needs.{needs}
-use Rattle.psoreplay.proofs.step.tails_operated.Statement.{statement}
-use Rattle.psoreplay.proofs.step.tails_operated.Tie as tie
+use Rattle.psoreplay.proofs.after.tails_operated.Statement.{statement}
+use Rattle.psoreplay.proofs.after.tails_operated.Tie as tie
 
 pub tails-operated-spec : {M : Type 1} → statement M
 tails-operated-spec = tie.close (tie.spec

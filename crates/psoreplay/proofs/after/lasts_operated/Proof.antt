@@ -1,6 +1,6 @@
 use borrow.Author.Needs.{needs}
-use Rattle.psoreplay.proofs.step.lasts_operated.Statement.{statement}
-use Rattle.psoreplay.proofs.step.lasts_operated.Tie as tie
+use Rattle.psoreplay.proofs.after.lasts_operated.Statement.{statement}
+use Rattle.psoreplay.proofs.after.lasts_operated.Tie as tie
 
 pub lasts-operated-spec : {M : Type 1} → statement M
 lasts-operated-spec = tie.close (tie.spec

@@ -1,6 +1,6 @@
 use borrow.Author.Needs.{needs}
-use Rattle.psoreplay.proofs.step.memory_operated.Statement.{statement}
-use Rattle.psoreplay.proofs.step.memory_operated.Tie as tie
+use Rattle.psoreplay.proofs.after.memory_operated.Statement.{statement}
+use Rattle.psoreplay.proofs.after.memory_operated.Tie as tie
 
 pub memory-operated-spec : {M : Type 1} → statement M
 memory-operated-spec = tie.close (tie.spec
