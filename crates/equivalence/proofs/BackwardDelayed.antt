@@ -22,7 +22,8 @@ use Rattle.pws.specs.Configurations.{ConfigurationOf}
 use Rattle.pws.specs.Sequences.{Takes, done, step}
 use Rattle.pws.proofs.Facts.{T-eq, put-same, put-other, put-each, putQueue-same, putQueue-other}
 use Rattle.pws.proofs.Steps.{yes-take, yes-serialise, yes-update, step-configuration}
-use Rattle.equivalence.proofs.BackwardPending.{Deferred, waitingAfter, Permitted, Pending, pending-other, Before, Carries, pending-own, UpTo, pending-point}
+use Rattle.equivalence.proofs.Buffers.{waitingAfter}
+use Rattle.equivalence.proofs.BackwardPending.{Deferred, Permitted, Pending, pending-other, Before, Carries, pending-own, UpTo, pending-point}
 
 -- ---- steps that lead to where F holds
 

@@ -2,26 +2,21 @@
 use Prim.Native.Nat.{ℕ, zero, suc, _+_, _-_, _<_, _≤_}
 use mathlib.Core.Path.{_≡_, refl, ap, subst, _∙_}
 use mathlib.Core.Logic.{_≢_}
-use mathlib.Core.Bool.{Bool}
 use mathlib.Core.List.{List, [], _∷_}
 use native.Mathlib.Omega.{arith}
 use native.Mathlib.Decide.{ℕ-discrete}
 use lib.Dec.{T}
-use mir.Facts.{yes-and}
 use Rattle.pws.specs.declared.Operation.the-variants.{Sfence}
 use Rattle.pws.specs.declared.Step.the-variants.{Take, Serialise, Update}
 use Rattle.pws.specs.Program.{Shape, Program, transition, ProgramInRange}
-use Rattle.pws.specs.Machine.{Configuration, put, isEmpty, withoutOldest, allBelow, noneWaiting, afterSerialise, afterUpdate}
+use Rattle.pws.specs.Machine.{Configuration, put, isEmpty, withoutOldest, noneWaiting, afterSerialise, afterUpdate}
 use Rattle.pws.proofs.Facts.{put-same, put-other, putQueue-same, putQueue-other}
+use Rattle.equivalence.proofs.Pso.{yes-all}
 use Rattle.equivalence.proofs.BackwardPending.{Deferred, operationOf, UpTo}
 use Rattle.equivalence.proofs.BackwardDelayed.{Leads, stay, go, onward, weaken, Late, Delayed, Did, delayed-update, delayed-serialise, delayed-take}
 
-pub all-below : (n : ℕ) (f : ℕ → Bool) → ((i : ℕ) → i < n → T (f i)) → T (allBelow n f)
-all-below zero f h = tt
-all-below (suc n) f h = yes-and (allBelow n f) (f n) (all-below n f (λ i l. h i (omega arith))) (h n (omega arith))
-
 pub none-waiting : (S : Shape) (c : Configuration) (p : ℕ) → ((v : ℕ) → v < S .variables → c .queue p v ≡ []) → T (noneWaiting S c p)
-none-waiting S c p h = all-below (S .variables) (λ v. isEmpty (c .queue p v)) (λ v l. rw (h v l) tt)
+none-waiting S c p h = yes-all (S .variables) (λ v. isEmpty (c .queue p v)) (λ v l. rw (h v l) tt)
 
 -- ---- the first that p put off
 

@@ -18,7 +18,9 @@ use Rattle.pws.specs.Machine.{Configuration, put, newest, copyWith, isEmpty, wi
 use Rattle.pws.proofs.Facts.{put-same, put-other, put-each, message-new}
 use Rattle.pso.specs.Machine.{Item, mark, PsoConfiguration, valueFirst, markFirst, oldestValue, withoutFirst, newestValue, psoSees, psoMayOperate, psoMemoryAfter, mayOperateBy, afterOperate, afterUpdateVariable, afterRemoveMark}
 use Rattle.equivalence.proofs.BackwardPending.{Deferred, operationOf, waitingAll, Permitted, finds-newest, pending-snoc}
-use Rattle.equivalence.proofs.BackwardBuffers.{values, items, items-snoc, NoFence, fence-or-not, items-done, newest-all, buffer-other, buffer-own, AtFence, waits, fence-first, none-waits}
+use Rattle.equivalence.proofs.Pso.{buffer-other}
+use Rattle.equivalence.proofs.Buffers.{values, NoFence, fence-or-not, items-done, buffer-own}
+use Rattle.equivalence.proofs.BackwardBuffers.{items, items-snoc, newest-all, AtFence, waits, fence-first, none-waits}
 use Rattle.equivalence.proofs.BackwardDelayed.{Leads, stay, go, onward, weaken, Late, Delayed, Did, delayed-serialise}
 use Rattle.equivalence.proofs.BackwardDoing.{none-waiting, do-first}
 

@@ -3,7 +3,6 @@ use Prim.Native.Nat.{ℕ, suc, _<_, _≤_, max}
 use mathlib.Core.Path.{_≡_, refl, sym, _∙_}
 use mathlib.Core.Logic.{_≢_}
 use mathlib.Core.Bool.{true, false}
-use mathlib.Core.Option.{some}
 use mathlib.Core.List.{List, [], _∷_, _++_}
 use native.Mathlib.Omega.{arith}
 use native.Mathlib.Decide.{ℕ-discrete}
@@ -15,6 +14,7 @@ use Rattle.pws.specs.declared.Operation.the-variants.{Nop, Read, Write, Mfence,
 use Rattle.pws.specs.Program.{Program, transition}
 use Rattle.pws.specs.Machine.{put, message, labelled, lastLabelled, newestWaiting, newestOr}
 use Rattle.pws.proofs.Facts.{put-same, put-other, message-old, message-new, last-is}
+use Rattle.equivalence.proofs.Buffers.{waitingAfter, newest-cons}
 
 -- an operation put off: the number of its transition, and of the message that its process points at when it is done
 pub record Deferred : Type 0 where
@@ -23,15 +23,6 @@ pub record Deferred : Type 0 where
 
 abbrev pub operationOf : Program → Deferred → Operation
 operationOf P o = transition P (o .number) .operation
-
--- what a process has waiting, after an operation of it
-abbrev pub waitingAfter : (ℕ → List ℕ) → Operation → ℕ → List ℕ
-waitingAfter w Nop = w
-waitingAfter w (Read v x) = w
-waitingAfter w (Write v x) = put w v (w v ++ (x ∷ []))
-waitingAfter w Mfence = w
-waitingAfter w Sfence = w
-waitingAfter w (Arw v x y) = w
 
 -- and after all of these
 abbrev pub waitingAll : Program → (ℕ → List ℕ) → List Deferred → ℕ → List ℕ
@@ -137,10 +128,6 @@ before-after b (Write u y) = before-write b u y
 before-after b Mfence = b
 before-after b Sfence = b
 before-after b (Arw u y z) = b
-
-pub newest-cons : (x : ℕ) (xs : List ℕ) → newestWaiting (x ∷ xs) ≡ some (newestOr (newestWaiting xs) x)
-newest-cons x [] = refl
-newest-cons x (y ∷ ys) = rw (newest-cons y ys)
 
 -- m carries the label (p, v) and has x in v
 pub record Carries (m : Message) (p v x : ℕ) : Type 0 where

@@ -18,7 +18,8 @@ use Rattle.pws.proofs.Cases.{all-yes}
 use Rattle.pws.proofs.Steps.{yes-take, step-configuration}
 use Rattle.pso.specs.Machine.{PsoConfiguration, noItem, psoMayOperate, bufferAfter, psoMemoryAfter, mayOperateBy, afterOperate}
 use Rattle.equivalence.proofs.BackwardPending.{Deferred, UpTo}
-use Rattle.equivalence.proofs.BackwardBuffers.{values, items, no-item-waits, no-item-fence}
+use Rattle.equivalence.proofs.Buffers.{values}
+use Rattle.equivalence.proofs.BackwardBuffers.{items, no-item-waits, no-item-fence}
 use Rattle.equivalence.proofs.BackwardDelayed.{Leads, stay, go, apart-take, Late, late-apart, delayed-update}
 use Rattle.equivalence.proofs.BackwardDoing.{none-waiting}
 use Rattle.equivalence.proofs.BackwardFollowing.{Follows, Related, Deferrable, Waiting}

@@ -27,7 +27,8 @@ use Rattle.pso.specs.Runs.{PsoStart}
 use Rattle.equivalence.specs.Equivalence.{PwsStart, PsoReaches, PwsToPso}
 use Rattle.equivalence.proofs.ForwardThreads.{none, Thread}
 use Rattle.equivalence.proofs.ForwardMerge.{merge}
-use Rattle.equivalence.proofs.ForwardAhead.{values, ownItem, here}
+use Rattle.equivalence.proofs.Buffers.{values}
+use Rattle.equivalence.proofs.ForwardAhead.{ownItem, here}
 use Rattle.equivalence.proofs.ForwardOwn.{Coherent, own-same, own-variable, own-other, Own, grow, advance}
 use Rattle.equivalence.proofs.ForwardOperations.{operate}
 

@@ -2,7 +2,8 @@
 use Prim.Native.Nat.{ℕ, zero, suc, _<_, _≤_, max}
 use mathlib.Core.Path.{_≡_, refl, sym, ap, _∙_}
 use mathlib.Core.Bool.{Bool, true, false, cond}
-use mathlib.Core.List.{List, [], _∷_, _++_, map, append-assoc, append-nil}
+use mathlib.Core.Option.{Option}
+use mathlib.Core.List.{List, [], _∷_, _++_, append-assoc, append-nil}
 use native.Mathlib.Omega.{arith}
 use native.Mathlib.Decide.{decLe}
 use lib.ListN.{length, getD, replicate}
@@ -10,11 +11,9 @@ use Rattle.pws.specs.declared.Message.{Message}
 use Rattle.pws.specs.Machine.{message, labelled, lastLabelled, newestWaiting, newestOr}
 use Rattle.pws.proofs.Facts.{message-old, message-new, last-is}
 use Rattle.pso.specs.Machine.{Item, value, mark, newestValue}
+use Rattle.equivalence.proofs.Buffers.{values, newest-append, newest-values}
 
--- ---- buffers
-
-abbrev pub values : List ℕ → List Item
-values xs = map value xs
+-- ---- marks
 
 abbrev pub marks : ℕ → List Item
 marks n = replicate n mark
@@ -22,25 +21,6 @@ marks n = replicate n mark
 marks-snoc : (n : ℕ) → marks n ++ (mark ∷ []) ≡ marks (suc n)
 marks-snoc zero = refl
 marks-snoc (suc n) = ap {B = List Item} (λ is. mark ∷ is) (marks-snoc n)
-
-pub values-snoc : (xs : List ℕ) (x : ℕ) → values (xs ++ (x ∷ [])) ≡ values xs ++ (value x ∷ [])
-values-snoc [] x = refl
-values-snoc (y ∷ ys) x = ap {B = List Item} (λ is. value y ∷ is) (values-snoc ys x)
-
--- the newest value of two buffers in turn is that of the second, or else that of the first
-newest-append : (is js : List Item) (y : ℕ) → newestOr (newestValue (is ++ js)) y ≡ newestOr (newestValue js) (newestOr (newestValue is) y)
-newest-append [] js y = refl
-newest-append (value x ∷ is) js y = newest-append is js x
-newest-append (mark ∷ is) js y = newest-append is js y
-
-newest-values : (xs : List ℕ) (y : ℕ) → newestOr (newestValue (values xs)) y ≡ newestOr (newestWaiting xs) y
-newest-values [] y = refl
-newest-values (x ∷ []) y = refl
-newest-values (x ∷ x′ ∷ xs) y = newest-values (x′ ∷ xs) x ∙ some-same x′ xs x y
-  where
-    some-same : (z : ℕ) (zs : List ℕ) (a b : ℕ) → newestOr (newestWaiting (z ∷ zs)) a ≡ newestOr (newestWaiting (z ∷ zs)) b
-    some-same z [] a b = refl
-    some-same z (w ∷ ws) a b = some-same w ws a b
 
 -- ---- what is ahead of the pointer
 
@@ -136,5 +116,5 @@ module _ (p k v : ℕ) where
   pub ahead-sees : {ms : List Message} {b : ℕ → List Item} → Ahead p k ms b → (xs : List ℕ)
       → newestOr (newestValue (b v ++ values xs)) (reads ms k) ≡ newestOr (newestWaiting xs) (reads ms (max k (lastLabelled ms p v)))
   ahead-sees {ms} {b} a xs =
-      newest-append (b v) (values xs) (reads ms k) ∙ newest-values xs (newestOr (newestValue (b v)) (reads ms k))
+      newest-append (b v) (values xs) (reads ms k) ∙ ap (λ (o : Option ℕ). newestOr o (newestOr (newestValue (b v)) (reads ms k))) (newest-values xs)
       ∙ ap (newestOr (newestWaiting xs)) (ahead-reads a)

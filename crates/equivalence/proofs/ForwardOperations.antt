@@ -4,7 +4,6 @@ use mathlib.Core.Path.{_≡_, refl, sym, ap, subst, _∙_}
 use mathlib.Core.Bool.{_&&_}
 use mathlib.Core.List.{List, [], _∷_, _++_, append-assoc, append-nil}
 use native.Mathlib.Omega.{arith}
-use native.Mathlib.Decide.{ℕ-discrete}
 use lib.ListN.{length, getD}
 use lib.Dec.{T, eqb, eqb→eq}
 use mir.Facts.{and-yes, yes-and}
@@ -14,13 +13,14 @@ use Rattle.pws.specs.declared.Operation.the-variants.{Nop, Read, Write, Mfence,
 use Rattle.pws.specs.declared.Transition.{Transition}
 use Rattle.pws.specs.Program.{Shape, Program, transition, OperationOf}
 use Rattle.pws.specs.Machine.{Configuration, put, message, newest, copyWith, isEmpty, noneWaiting, atNewest, sees, mayOperate, queueAfter, memoryAfter}
-use Rattle.pws.proofs.Facts.{T-eq, put-same, put-other, message-new}
+use Rattle.pws.proofs.Facts.{T-eq, put-same, message-new}
 use Rattle.pws.proofs.Cases.{all-yes}
 use Rattle.pso.specs.declared.PsoStep.the-variants.{Operate}
-use Rattle.pso.specs.Machine.{Item, value, mark, PsoConfiguration, noItem, putBuffer, psoSees, psoMayOperate, bufferAfter, psoMemoryAfter, psoMay, psoAfter}
-use Rattle.equivalence.proofs.Pso.{yes-all, yes-operate, putBuffer-same, eachBuffer-at}
+use Rattle.pso.specs.Machine.{Item, mark, PsoConfiguration, noItem, psoSees, psoMayOperate, bufferAfter, psoMemoryAfter, psoMay, psoAfter}
+use Rattle.equivalence.proofs.Pso.{yes-all, yes-operate}
+use Rattle.equivalence.proofs.Buffers.{values, itemOf, waitingAfter, buffer-own, NoFence, items-done}
 use Rattle.equivalence.proofs.ForwardThreads.{Locals, more, Next, makes, arrives-grow, thread-next}
-use Rattle.equivalence.proofs.ForwardAhead.{values, values-snoc, Ahead, here, fence, ahead-sees}
+use Rattle.equivalence.proofs.ForwardAhead.{Ahead, here, fence, ahead-sees}
 use Rattle.equivalence.proofs.ForwardOwn.{Own, at-newest}
 
 is-nil : (xs : List ℕ) → T (isEmpty xs) → xs ≡ []
@@ -80,15 +80,14 @@ module _ (P : Program) (d₀ : PsoConfiguration) (n : ℕ) (listed : n < length 
     same-read : (v : ℕ) → v < S .variables → psoSees d p v ≡ sees c p v
     same-read v ve = rw (o .buffers v ve, o .memory) (ahead-sees p k v (o .ahead) (c .queue p v))
 
-    write-buffers : (v x u : ℕ) → v < S .variables → u < S .variables
-        → putBuffer (d .buffer) p v (d .buffer p v ++ (value x ∷ [])) p u ≡ o .held u ++ values (put (c .queue p) v (c .queue p v ++ (x ∷ [])) u)
-    write-buffers v x u ve ue =
-        let q = c .queue p v in
-        ap (λ (b : ℕ → List Item). b u) (putBuffer-same (d .buffer) p v (d .buffer p v ++ (value x ∷ []))) ∙ elim (ℕ-discrete u v) [
-          | yes e ↦ rw (e, put-same (d .buffer p) v (d .buffer p v ++ (value x ∷ [])), put-same (c .queue p) v (q ++ (x ∷ [])), o .buffers v ve, values-snoc q x)
-              (append-assoc (o .held v) (values q) (value x ∷ []))
-          | no e ↦ rw (put-other (d .buffer p) v (d .buffer p v ++ (value x ∷ [])) u e, put-other (c .queue p) v (q ++ (x ∷ [])) u e) (o .buffers u ue)
-        ]
+    -- what p has in its buffers after an operation that is no store-store fence
+    own-buffers : (x : Operation) → NoFence x → (u : ℕ) → u < S .variables → bufferAfter S d p x p u ≡ o .held u ++ values (waitingAfter (c .queue p) x u)
+    own-buffers x n u ue =
+        buffer-own S d p x u ue ∙ ap (λ (is : List Item). is ++ itemOf u x) (o .buffers u ue)
+        ∙ append-assoc (o .held u) (values (c .queue p u)) (itemOf u x)
+        ∙ ap (λ (is : List Item). o .held u ++ is)
+        (ap (λ (is : List Item). values (c .queue p u) ++ is) (sym (append-nil (itemOf u x))) ∙ items-done (c .queue p) u x n []
+        ∙ append-nil (values (waitingAfter (c .queue p) x u)))
 
     empty : T (noneWaiting S c p) → (v : ℕ) → v < S .variables → c .queue p v ≡ []
     empty z v ve = is-nil (c .queue p v) (all-yes (S .variables) (λ u. isEmpty (c .queue p u)) z v ve)
@@ -133,10 +132,10 @@ module _ (P : Program) (d₀ : PsoConfiguration) (n : ℕ) (listed : n < length 
     operate (Write v x) e w z =
         subst (Own P d₀ p ms k (t .to)) (sym (put-same (c .queue) p (put (c .queue p) v (c .queue p v ++ (x ∷ [])))))
         (stay (Write v x) e d (o .state) tt (o .held) o (put (c .queue p) v (c .queue p v ++ (x ∷ []))) (o .thread .stays) (o .memory) refl (o .ahead)
-        (λ u ue. write-buffers v x u (w .0) ue))
+        (own-buffers (Write v x) tt))
     operate Sfence e w z =
         stay Sfence e d (o .state) tt (λ v. o .held v ++ (mark ∷ [])) o (c .queue p) (o .thread .stays) (o .memory) refl (fence (o .ahead))
-        (λ v ve. eachBuffer-at (d .buffer) p S (λ is. is ++ (mark ∷ [])) v ve
+        (λ v ve. buffer-own S d p Sfence v ve
         ∙ rw (o .buffers v ve, empty z v ve, append-nil (o .held v), append-nil (o .held v ++ (mark ∷ []))))
     operate Mfence e w z =
         let y = and-yes (noneWaiting S c p) (atNewest (c .memory) p) z in

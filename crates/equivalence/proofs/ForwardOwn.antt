@@ -17,7 +17,8 @@ use Rattle.pso.specs.declared.PsoStep.the-variants.{UpdateVariable, RemoveMark}
 use Rattle.pso.specs.Machine.{Item, value, PsoConfiguration, oldestValue, withoutFirst, putBuffer, psoAfter}
 use Rattle.equivalence.proofs.Pso.{yes-remove, yes-update-variable, putBuffer-same, eachBuffer-at}
 use Rattle.equivalence.proofs.ForwardThreads.{Locals, more, Next, makes, other, Thread, thread-grow, thread-next}
-use Rattle.equivalence.proofs.ForwardAhead.{values, marks, ownItem, Ahead, next, ahead-high, ahead-none, First, ahead-first, split-more}
+use Rattle.equivalence.proofs.Buffers.{values}
+use Rattle.equivalence.proofs.ForwardAhead.{marks, ownItem, Ahead, next, ahead-high, ahead-none, First, ahead-first, split-more}
 
 -- each message's snapshot is the one before it with its own variable changed
 abbrev pub Coherent : List Message → Type 0

@@ -1,3 +1,5 @@
+pub mod Pso
+pub mod Buffers
 pub mod BackwardPending
 pub mod BackwardBuffers
 pub mod BackwardDelayed
@@ -5,11 +7,10 @@ pub mod BackwardDoing
 pub mod BackwardFollowing
 pub mod BackwardStrong
 pub mod Backward
-pub mod Pso
 pub mod ForwardThreads
 pub mod ForwardMerge
 pub mod ForwardAhead
 pub mod ForwardOwn
 pub mod ForwardOperations
 pub mod Forward
-pub mod ForwardTargets
+pub mod Reachability

@@ -146,16 +146,16 @@ other-state P d (Operate n) q l = put-other (d .state) (transition P n .process)
 other-state P d (UpdateVariable p v) q l = refl
 other-state P d (RemoveMark p) q l = refl
 
-other-operation : (S : Shape) (d : PsoConfiguration) (p : ℕ) (x : Operation) (q : ℕ) → q ≢ p → bufferAfter S d p x q ≡ d .buffer q
-other-operation S d p Nop q l = refl
-other-operation S d p (Read v x) q l = refl
-other-operation S d p (Write v x) q l = putBuffer-other (d .buffer) p v (d .buffer p v ++ (value x ∷ [])) q l
-other-operation S d p Mfence q l = refl
-other-operation S d p Sfence q l = eachBuffer-other (d .buffer) p S (λ is. is ++ (mark ∷ [])) q l
-other-operation S d p (Arw v old new) q l = refl
+pub buffer-other : (S : Shape) (d : PsoConfiguration) (p : ℕ) (x : Operation) (q : ℕ) → q ≢ p → bufferAfter S d p x q ≡ d .buffer q
+buffer-other S d p Nop q l = refl
+buffer-other S d p (Read v x) q l = refl
+buffer-other S d p (Write v x) q l = putBuffer-other (d .buffer) p v (d .buffer p v ++ (value x ∷ [])) q l
+buffer-other S d p Mfence q l = refl
+buffer-other S d p Sfence q l = eachBuffer-other (d .buffer) p S (λ is. is ++ (mark ∷ [])) q l
+buffer-other S d p (Arw v old new) q l = refl
 
 pub other-buffer : (P : Program) (d : PsoConfiguration) (u : PsoStep) (q : ℕ) → q ≢ stepProcess P u → psoAfter P d u .buffer q ≡ d .buffer q
-other-buffer P d (Operate n) q l = other-operation (P .shape) d (transition P n .process) (transition P n .operation) q l
+other-buffer P d (Operate n) q l = buffer-other (P .shape) d (transition P n .process) (transition P n .operation) q l
 other-buffer P d (UpdateVariable p v) q l = putBuffer-other (d .buffer) p v (withoutFirst (d .buffer p v)) q l
 other-buffer P d (RemoveMark p) q l = eachBuffer-other (d .buffer) p (P .shape) withoutFirst q l
 
