@@ -1,0 +1,13 @@
+// Runs as drawings (request N12): step records to DOT text, and the text back to step records.
+
+mod put;
+mod write;
+
+pub use write::dot_write;
+
+// number 0: value bytes were written; else the refusal's number and place.
+#[repr(C)]
+pub struct Written {
+    pub number: u64,
+    pub value: u64,
+}
