@@ -64,3 +64,37 @@ decimal-short n l = elim (decLt n 10) [
     ]
   ]
 ]
+
+-- a number that is not 0 does not begin with 0
+pub record Leading (n : ℕ) : Type 0 where
+  pub first : ℕ
+  pub rest : List ℕ
+  pub is : decimal n ≡ digit first ∷ rest
+  pub some : 1 ≤ first
+
+pub leading : (n : ℕ) → 1 ≤ n → n < 10000 → Leading n
+leading n z l = elim (decLt n 10) [
+  | yes a ↦ record { first = n; rest = []; is = decimal-one n a; some = z }
+  | no a ↦ elim (decLt n 100) [
+    | yes b ↦ record { first = n / 10; rest = digit (n % 10) ∷ []; is = decimal-two n (omega arith) b; some = omega arith }
+    | no b ↦ elim (decLt n 1000) [
+      | yes c ↦
+          record {
+            first = n / 10 / 10;
+            rest = digit (n / 10 % 10) ∷ digit (n % 10) ∷ [];
+            is = decimal-three n (omega arith) c;
+            some = omega arith;
+          }
+      | no c ↦
+          record {
+            first = n / 10 / 10 / 10;
+            rest = digit (n / 10 / 10 % 10) ∷ digit (n / 10 % 10) ∷ digit (n % 10) ∷ [];
+            is = decimal-four n (omega arith) l;
+            some = omega arith;
+          }
+    ]
+  ]
+]
+
+pub decimal-zero : decimal 0 ≡ 48 ∷ []
+decimal-zero = decimal-one 0 (omega arith)

@@ -94,13 +94,13 @@ module _ (f : List ℕ) where
 
   -- ---- what was read
 
-  abbrev ends : ℕ → ℕ → Bool
+  abbrev pub ends : ℕ → ℕ → Bool
   ends k n = leb (length f) k
 
-  abbrev check : ℕ → ℕ → Checked
+  abbrev pub check : ℕ → ℕ → Checked
   check k n = checked (stepNumber fullShape 256 f k n) k
 
-  abbrev size : ℕ → ℕ
+  abbrev pub size : ℕ → ℕ
   size k = 1 + stepBody f k
 
   -- from `at` on, n steps and no more

@@ -2,3 +2,5 @@ pub mod Text
 pub mod Runs
 pub mod Writing
 pub mod Parts
+pub mod Accepted
+pub mod Reading

@@ -1,8 +1,10 @@
 // Runs as drawings (request N12): step records to DOT text, and the text back to step records.
 
 mod put;
+mod read;
 mod write;
 
+pub use read::dot_read;
 pub use write::dot_write;
 
 // number 0: value bytes were written; else the refusal's number and place.
