@@ -1,17 +1,16 @@
 -- What the reader writes.
-use Prim.Native.Nat.{ℕ, _+_, _<_, _≤_}
-use mathlib.Core.Path.{_≡_, refl, sym, ap, subst, _∙_}
+use Prim.Native.Nat.{ℕ, _≤_}
+use mathlib.Core.Path.{_≡_, refl, sym, ap}
 use mathlib.Core.List.{List}
 use native.Mathlib.Omega.{arith}
 use lib.ListN.{length}
-use Rattle.pws.specs.declared.Step.{Step}
 use Rattle.drawing.specs.declared.read.NodesRead.the-variants.{Nodes, NoNodes}
 use Rattle.drawing.specs.declared.read.Size.{Size}
 use Rattle.drawing.specs.declared.read.Size.the-variants.{Bytes, Place}
 use Rattle.drawing.specs.Runs.{recordsOf}
 use Rattle.drawing.specs.Writing.{made, refused}
 use Rattle.drawing.specs.Accepted.{Reading, run, place}
-use Rattle.drawing.specs.Reading.{edgesAt, nodesRead, edgesFrom, readingOf, ofReading, recordsIn, sizeAfter, stepsIn, Readable}
+use Rattle.drawing.specs.Reading.{edgesAt, nodesRead, readingOf, ofReading, recordsIn, sizeAfter, stepsIn, Readable}
 use Rattle.drawing.proofs.ReadLaws.{nodes-few}
 
 bytes-place : {n p : ℕ} → _≡_ {A = Size} (Bytes n) (Place p) → ⊥

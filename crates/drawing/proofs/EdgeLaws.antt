@@ -1,12 +1,12 @@
 -- The edges' lines in a text: what is read, where it stops, and that no byte past that place matters.
-use Prim.Native.Nat.{ℕ, zero, suc, _+_, _-_, _<_, _≤_}
+use Prim.Native.Nat.{ℕ, zero, suc, _+_, _≤_}
 use mathlib.Core.Path.{_≡_, refl, sym, ap, subst, _∙_}
 use mathlib.Core.Bool.{Bool, true, false}
 use mathlib.Core.List.{List, [], _∷_, _++_, append-assoc}
 use native.Mathlib.Omega.{arith}
 use lib.ListN.{length, drop, drop-of-length-le, length-append, replicate, length-replicate}
 use lib.Dec.{ltb}
-use borrow.Author.Tests.{ltb-true, ltb-false, le-ltb}
+use borrow.Author.Tests.{ltb-false, le-ltb}
 use Rattle.pws.specs.declared.Step.{Step}
 use Rattle.pws.specs.declared.Step.the-variants.{Take}
 use Rattle.records.specs.Bytes.{choose}
@@ -18,28 +18,9 @@ use Rattle.drawing.specs.Text.{line, letters, edgeLine, edgeLines}
 use Rattle.drawing.specs.Runs.{StepInRange, AllInRange}
 use Rattle.drawing.specs.Parts.{edgeHead, edgeTail}
 use Rattle.drawing.specs.Accepted.{Reading, run, place}
-use Rattle.drawing.specs.Reading.{has, expectAt, labelAt, wayThen, labelThen, edgeEnd, edgeAt, ending, edgesThen, after, edgesAt}
+use Rattle.drawing.specs.Reading.{has, expectAt, labelAt, wayThen, labelThen, edgeEnd, edgeAt, ending, after, edgesAt}
 use Rattle.drawing.proofs.LineLaws.{edge-parts, edge-length}
-use Rattle.drawing.proofs.WordLaws.{
-  on-same,
-  Common,
-  Stands,
-  Agree,
-  word-next,
-  word-was,
-  word-stuck,
-  word-on,
-  stands-then,
-  stands-as,
-  stands-from,
-  common-none,
-  common-more,
-  common-as,
-  stands-common,
-  same-on,
-  same-stuck,
-  same-end,
-}
+use Rattle.drawing.proofs.WordLaws.{Common, Stands, Agree, word-next, word-was, word-stuck, word-on, stands-then, stands-as, stands-from, common-none, common-more, common-as, stands-common, same-on, same-stuck, same-end}
 use Rattle.drawing.proofs.LabelLaws.{LabelCase, label-is, label-case, label-was, label-stuck, label-on, label-same, label-same-stuck}
 
 pub run-place : {ss : List Step} {p : ℕ} → _≡_ {A = Reading} (run ss) (place p) → ⊥
@@ -83,15 +64,17 @@ module _ (t : List ℕ) (at k : ℕ) where
       label : {a : ℕ} → expectAt t at (edgeHead k) ≡ On a → (r : EdgeRead) → LabelCase t a r → EdgeCase (labelThen r (λ s b. edgeEnd t b s))
       label e (Edge s b) c = end-case e c
       label e (NoEdge p) c = noLabel e c
+
       go : (x : Way) → expectAt t at (edgeHead k) ≡ x → EdgeCase (wayThen x (λ a. labelThen (labelAt t a) (λ s b. edgeEnd t b s)))
       go (On a) e = label e (labelAt t a) (label-case t a)
       go (Stuck p) e = noHead e
 
   pub edge-was : {s : Step} {d : ℕ} → EdgeCase (Edge s d) → StepInRange s × Stands t at d (edgeLine k s)
   edge-was (whole {a = a} {b = b} {d = d} {s = s} e c f) =
-      let w = label-was t a c in
-      (w .0,
-      stands-as t (stands-then t (word-was t at (edgeHead k) a e) (stands-then t (w .1) (word-was t b edgeTail d f))) (sym (edge-parts k s)))
+      let w = label-was t a c in (
+        w .0,
+        stands-as t (stands-then t (word-was t at (edgeHead k) a e) (stands-then t (w .1) (word-was t b edgeTail d f))) (sym (edge-parts k s)),
+      )
 
   -- what stopped is how some edge's line begins
   pub record EdgeViable (p : ℕ) : Type 0 where
@@ -128,10 +111,10 @@ module _ (t : List ℕ) (at k : ℕ) where
   edge-on s x l e =
       let tail : List ℕ = edgeTail ++ x in
       let q : drop at t ≡ edgeHead k ++ (letters s ++ tail) =
-          e
-          ∙ ap (λ (w : List ℕ). w ++ x) (edge-parts k s)
-          ∙ append-assoc (edgeHead k) (letters s ++ edgeTail) x
-          ∙ ap (λ (w : List ℕ). edgeHead k ++ w) (append-assoc (letters s) edgeTail x)
+      e
+      ∙ ap (λ (w : List ℕ). w ++ x) (edge-parts k s)
+      ∙ append-assoc (edgeHead k) (letters s ++ edgeTail) x
+      ∙ ap (λ (w : List ℕ). edgeHead k ++ w) (append-assoc (letters s) edgeTail x)
       in
       let a : ℕ = at + length (edgeHead k) in
       let q' = stands-from t at (edgeHead k) (letters s ++ tail) q in
@@ -139,8 +122,8 @@ module _ (t : List ℕ) (at k : ℕ) where
       let q'' = stands-from t a (letters s) tail q' in
       let c : LabelCase t a (Edge s b) = subst (LabelCase t a) (label-on t a s (59 ∷ 10 ∷ x) l q') (label-case t a) in
       let p : b + 3 ≡ at + length (edgeLine k s) =
-          omega
-          (arith, ap length (edge-parts k s), length-append (edgeHead k) (letters s ++ edgeTail), length-append (letters s) edgeTail)
+      omega
+      (arith, ap length (edge-parts k s), length-append (edgeHead k) (letters s ++ edgeTail), length-append (letters s) edgeTail)
       in
       edge-is (whole (word-on t at (edgeHead k) (letters s ++ tail) q) c (word-on t b edgeTail x q'')) ∙ ap (Edge s) p
 
@@ -217,6 +200,7 @@ module _ (t : List ℕ) where
             count = refl;
             here = s .here ∙ ap (λ (w : List ℕ). closing ++ w) (drop-of-length-le t (ltb-false a (length t) d)) ∙ plain closing;
           })
+
       go : (x : Way) → expectAt t at closing ≡ x → ending t x ≡ run ss → EdgesWere 0 at k ss
       go (On a) h e = over a h (ltb a (length t)) refl e
       go (Stuck p) h e = absurd (run-place (sym e))
@@ -237,6 +221,7 @@ module _ (t : List ℕ) where
                 (common-as t (stands-common t (word-was t at closing a h) (common-none t a [])) (plain closing));
           }
       over a h false d e = absurd (run-place e)
+
       go : (x : Way) → expectAt t at closing ≡ x → ending t x ≡ place p → EdgesViable 0 at k p
       go (On a) h e = over a h (ltb a (length t)) refl e
       go (Stuck q) h e =
@@ -333,8 +318,10 @@ module _ (t : List ℕ) where
         where
           two : length closing ≡ 2
           two = unfold closing in refl
+
       ended-here : (at : ℕ) → drop at t ≡ closing → length t ≤ at + 2
       ended-here at e = unfold closing in omega (arith, lib.ListN.length-drop at t, ap length e)
+
       ended : (a : ℕ) → length t ≤ a → ending t (On a) ≡ run []
       ended a l = rw (le-ltb a (length t) l)
   edges-on (s ∷ ss) at k l e =
@@ -352,6 +339,7 @@ module _ (t : List ℕ) where
       inner : (s : Step) (a : ℕ) (r : Reading) → edgesAt m t a (k + 1) ≡ r → after s r ≡ place p → a ≤ p
       inner s a (run rs) d q = absurd (run-place q)
       inner s a (place q) d f = omega (arith, edges-stuck m a (k + 1) q d .common .place, place-same f)
+
       go : (r : EdgeRead) → EdgeCase t at k r → at + 1 ≤ p
       go (Edge s a) c =
           let w = edge-was t at k c .1 in
@@ -400,6 +388,7 @@ module _ (t u : List ℕ) (p : ℕ) (same : Agree t u p) where
           ∙ ap (λ (b : Bool). choose b (λ _. place a) (λ _. run [])) (sym (same-end t u p same a (omega arith)) ∙ d)
           ∙ e
       over a h false d e = absurd (run-place e)
+
       go : (x : Way) → expectAt t at closing ≡ x → ending t x ≡ place p → ending u (expectAt u at closing) ≡ place p
       go (On a) h e = over a h (ltb a (length t)) refl e
       go (Stuck q) h e = ap (ending u) (same-stuck t u p same at closing (h ∙ ap Stuck (place-same e)))

@@ -1,14 +1,14 @@
 -- A step's letters in a text: what is read, where it stops, and that no byte past that place matters.
-use Prim.Native.Nat.{ℕ, zero, suc, _+_, _*_, _-_, _/_, _%_, _<_, _≤_}
-use mathlib.Core.Path.{_≡_, refl, sym, ap, subst, _∙_}
-use mathlib.Core.Bool.{Bool, true, false, cond, _&&_, not}
+use Prim.Native.Nat.{ℕ, suc, _+_, _*_, _/_, _%_, _<_, _≤_}
+use mathlib.Core.Path.{_≡_, refl, sym, ap, _∙_}
+use mathlib.Core.Bool.{Bool, true, false, _&&_, not}
 use mathlib.Core.List.{List, [], _∷_, _++_}
 use native.Mathlib.Omega.{arith}
 use native.Mathlib.Decide.{decLt}
-use lib.ListN.{length, getD, drop, List·getD-eq-default}
+use lib.ListN.{length, drop, List·getD-eq-default}
 use lib.Seq.{drop-cons}
 use lib.Dec.{eqb, leb, ltb}
-use borrow.Author.Tests.{leb-true, leb-false, le-leb, lt-leb, eqb-true, eqb-false, ne-eqb, not-true}
+use borrow.Author.Tests.{leb-true, le-leb, lt-leb, eqb-false, ne-eqb, not-true}
 use Rattle.pws.specs.declared.Step.{Step}
 use Rattle.pws.specs.declared.Step.the-variants.{Take, Serialise, Update}
 use Rattle.records.specs.Bytes.{choose, byte}
@@ -18,22 +18,7 @@ use Rattle.drawing.specs.Text.{digit, decimal, letters}
 use Rattle.drawing.specs.Runs.{StepInRange}
 use Rattle.drawing.specs.Reading.{has, isDigit, isSmall, valueAt, thirdDigit, secondDigit, numberAt, variableAt, pairAt, processAt, labelAt}
 use Rattle.drawing.proofs.NumberLaws.{decimal-one, decimal-two, decimal-three}
-use Rattle.drawing.proofs.WordLaws.{
-  both-are,
-  Common,
-  Stands,
-  Agree,
-  head-here,
-  here-has,
-  stands-then,
-  stands-as,
-  stands-byte,
-  common-none,
-  common-as,
-  stands-common,
-  same-has,
-  same-byte,
-}
+use Rattle.drawing.proofs.WordLaws.{both-are, Common, Stands, Agree, head-here, here-has, stands-then, stands-as, stands-byte, common-none, stands-common, same-has, same-byte}
 
 module _ (t : List ℕ) (at : ℕ) where
   -- the number of one digit, and of two
@@ -138,10 +123,12 @@ module _ (t : List ℕ) (at : ℕ) where
           → LabelCase (choose x (λ _. processAt t (at + 1)) (λ _. NoEdge at))
       third a b true c = process-case a b c
       third a b false c = noLetter a b c
+
       second : has t at 116 ≡ false → (x : Bool) → has t at 115 ≡ x
           → LabelCase (choose x (λ _. pairAt t (at + 1)) (λ _. choose (has t at 117) (λ _. processAt t (at + 1)) (λ _. NoEdge at)))
       second a true b = pair-case a b
       second a false b = third a b (has t at 117) refl
+
       first : (x : Bool) → has t at 116 ≡ x
           → LabelCase
           (choose x (λ _. numberAt t (at + 1))
@@ -153,7 +140,7 @@ module _ (t : List ℕ) (at : ℕ) where
 
 module _ (t : List ℕ) where
   within : (i : ℕ) → 1 ≤ byte t i → i < length t
-  within i l = elim (decLt i (length t)) [ | yes y ↦ y | no y ↦ absurd (omega (arith, List·getD-eq-default t 0 {n = i} (omega arith))) ]
+  within i l = elim (decLt i (length t)) [ yes y ↦ y | no y ↦ absurd (omega (arith, List·getD-eq-default t 0 {n = i} (omega arith))) ]
 
   stands-digit : (i c : ℕ) → 1 ≤ c → byte t i ≡ c → Stands t i (i + 1) (c ∷ [])
   stands-digit i c l e =
@@ -195,7 +182,7 @@ module _ (t : List ℕ) where
   not-zero : (v : ℕ) → not (eqb v 0) ≡ true → 1 ≤ v
   not-zero v e =
       let n = eqb-false v 0 (not-true (eqb v 0) e) in
-      elim (decLt 0 v) [ | yes y ↦ y | no y ↦ absurd (n (omega arith)) ]
+      elim (decLt 0 v) [ yes y ↦ y | no y ↦ absurd (n (omega arith)) ]
 
   zero-not : (v : ℕ) → 1 ≤ v → not (eqb v 0) ≡ true
   zero-not v l = ap not (ne-eqb v 0 (λ e. omega arith))
@@ -232,35 +219,39 @@ module _ (t : List ℕ) (at : ℕ) where
   pub label-was : {s : Step} {b : ℕ} → LabelCase t at (Edge s b) → StepInRange s × Stands t at b (letters s)
   unfolding letters
   label-was (one a b c) =
-      let d = digit-is t (at + 1) b in
-      (omega (arith, d .0),
-      stands-as t (stands-then t (stands-byte t at 116 a) (digit-stands t (at + 1) b))
-      (ap (λ (w : List ℕ). 116 ∷ w) (sym (decimal-one (valueAt t (at + 1)) (d .0)))))
+      let d = digit-is t (at + 1) b in (
+        omega (arith, d .0),
+        stands-as t (stands-then t (stands-byte t at 116 a) (digit-stands t (at + 1) b))
+            (ap (λ (w : List ℕ). 116 ∷ w) (sym (decimal-one (valueAt t (at + 1)) (d .0)))),
+      )
   label-was (two a b c e) =
       let d = digit-is t (at + 1) b in
       let h = both-are _ _ c in
       let g = digit-is t (at + 1 + 1) (h .1) in
-      let z = not-zero t (valueAt t (at + 1)) (h .0) in
-      (omega (arith, d .0, g .0),
-      stands-as t (stands-then t (stands-then t (stands-byte t at 116 a) (digit-stands t (at + 1) b)) (digit-stands t (at + 1 + 1) (h .1)))
-      (ap (λ (w : List ℕ). 116 ∷ w) (sym (two-digits (valueAt t (at + 1)) (valueAt t (at + 1 + 1)) z (d .0) (g .0)))))
+      let z = not-zero t (valueAt t (at + 1)) (h .0) in (
+        omega (arith, d .0, g .0),
+        stands-as t (stands-then t (stands-then t (stands-byte t at 116 a) (digit-stands t (at + 1) b)) (digit-stands t (at + 1 + 1) (h .1)))
+            (ap (λ (w : List ℕ). 116 ∷ w) (sym (two-digits (valueAt t (at + 1)) (valueAt t (at + 1 + 1)) z (d .0) (g .0)))),
+      )
   label-was (three a b c e) =
       let d = digit-is t (at + 1) b in
       let h = both-are _ _ c in
       let g = digit-is t (at + 1 + 1) (h .1) in
       let z = not-zero t (valueAt t (at + 1)) (h .0) in
       let i = both-are (isDigit t (at + 1 + 1 + 1)) (leb (threeOf t at) 255) e in
-      let j = digit-is t (at + 1 + 1 + 1) (i .0) in
-      (omega (arith, leb-true (threeOf t at) 255 (i .1)),
-      stands-as t
-      (stands-then t
-      (stands-then t (stands-then t (stands-byte t at 116 a) (digit-stands t (at + 1) b)) (digit-stands t (at + 1 + 1) (h .1)))
-      (digit-stands t (at + 1 + 1 + 1) (i .0)))
-      (ap (λ (w : List ℕ). 116 ∷ w)
-      (sym (three-digits (valueAt t (at + 1)) (valueAt t (at + 1 + 1)) (valueAt t (at + 1 + 1 + 1)) z (d .0) (g .0) (j .0)))))
-  label-was (pair a b c d) =
-      ((small-is t (at + 1) c .0, small-is t (at + 1 + 1) d .0),
-      stands-then t (stands-then t (stands-byte t at 115 b) (small-stands t (at + 1) c)) (small-stands t (at + 1 + 1) d))
+      let j = digit-is t (at + 1 + 1 + 1) (i .0) in (
+        omega (arith, leb-true (threeOf t at) 255 (i .1)),
+        stands-as t
+            (stands-then t
+            (stands-then t (stands-then t (stands-byte t at 116 a) (digit-stands t (at + 1) b)) (digit-stands t (at + 1 + 1) (h .1)))
+            (digit-stands t (at + 1 + 1 + 1) (i .0)))
+            (ap (λ (w : List ℕ). 116 ∷ w)
+            (sym (three-digits (valueAt t (at + 1)) (valueAt t (at + 1 + 1)) (valueAt t (at + 1 + 1 + 1)) z (d .0) (g .0) (j .0)))),
+      )
+  label-was (pair a b c d) = (
+    (small-is t (at + 1) c .0, small-is t (at + 1 + 1) d .0),
+    stands-then t (stands-then t (stands-byte t at 115 b) (small-stands t (at + 1) c)) (small-stands t (at + 1 + 1) d),
+  )
   label-was (update a b c d) = (small-is t (at + 1) d .0, stands-then t (stands-byte t at 117 c) (small-stands t (at + 1) d))
 
   -- what stopped is how some step's letters begin
@@ -296,56 +287,56 @@ module _ (t : List ℕ) (at : ℕ) where
   read-take : (n : ℕ) (x : List ℕ) → n < 256 → drop at t ≡ (116 ∷ decimal n) ++ (93 ∷ x) → labelAt t at ≡ Edge (Take n) (at + length (116 ∷ decimal n))
   read-take n x l e =
       elim (decLt n 10) [
-      | yes a ↦
-          let q = decimal-one n a in
-          let h = head-here t at 116 _ (e ∙ ap (λ (w : List ℕ). (116 ∷ w) ++ (93 ∷ x)) q) in
-          let i = head-here t (at + 1) (digit n) _ (h .2) in
-          let j = head-here t (at + 1 + 1) 93 x (i .2) in
-          let d = is-digit t (at + 1) n a (i .1) in
-          let p : at + 1 + 1 ≡ at + suc (length (decimal n)) = omega (arith, ap length q) in
-          label-is t at
-          (one (here-has t at 116 _ (e ∙ ap (λ (w : List ℕ). (116 ∷ w) ++ (93 ∷ x)) q)) (d .0)
-          (ap (λ (b : Bool). not (eqb (valueAt t (at + 1)) 0) && b) (no-digit t (at + 1 + 1) (j .1)) ∙ and-false t (not (eqb (valueAt t (at + 1)) 0))))
-          ∙ ap (λ (v : ℕ). Edge (Take v) (at + 1 + 1)) (d .1)
-          ∙ ap (Edge (Take n)) p
-      | no a ↦
-          elim (decLt n 100) [
-          | yes b ↦
-              let q = decimal-two n (omega arith) b in
-              let e' = e ∙ ap (λ (w : List ℕ). (116 ∷ w) ++ (93 ∷ x)) q in
-              let h = head-here t at 116 _ e' in
-              let i = head-here t (at + 1) (digit (n / 10)) _ (h .2) in
-              let j = head-here t (at + 1 + 1) (digit (n % 10)) _ (i .2) in
-              let k = head-here t (at + 1 + 1 + 1) 93 x (j .2) in
-              let d = is-digit t (at + 1) (n / 10) (omega arith) (i .1) in
-              let f = is-digit t (at + 1 + 1) (n % 10) (omega arith) (j .1) in
-              let v : 10 * valueAt t (at + 1) + valueAt t (at + 1 + 1) ≡ n = omega (arith, d .1, f .1) in
-              let p : at + 1 + 1 + 1 ≡ at + suc (length (decimal n)) = omega (arith, ap length q) in
-              label-is t at
-              (two (here-has t at 116 _ e') (d .0)
-              (both-hold (zero-not t (valueAt t (at + 1)) (omega (arith, d .1))) (f .0))
-              (ap (λ (y : Bool). y && leb (threeOf t at) 255) (no-digit t (at + 1 + 1 + 1) (k .1))))
-              ∙ ap (λ (m : ℕ). Edge (Take m) (at + 1 + 1 + 1)) v
-              ∙ ap (Edge (Take n)) p
-          | no b ↦
-              let q = decimal-three n (omega arith) (omega arith) in
-              let e' = e ∙ ap (λ (w : List ℕ). (116 ∷ w) ++ (93 ∷ x)) q in
-              let h = head-here t at 116 _ e' in
-              let i = head-here t (at + 1) (digit (n / 10 / 10)) _ (h .2) in
-              let j = head-here t (at + 1 + 1) (digit (n / 10 % 10)) _ (i .2) in
-              let k = head-here t (at + 1 + 1 + 1) (digit (n % 10)) _ (j .2) in
-              let d = is-digit t (at + 1) (n / 10 / 10) (omega arith) (i .1) in
-              let f = is-digit t (at + 1 + 1) (n / 10 % 10) (omega arith) (j .1) in
-              let g = is-digit t (at + 1 + 1 + 1) (n % 10) (omega arith) (k .1) in
-              let v : threeOf t at ≡ n = omega (arith, d .1, f .1, g .1) in
-              let p : at + 1 + 1 + 1 + 1 ≡ at + suc (length (decimal n)) = omega (arith, ap length q) in
-              label-is t at
-              (three (here-has t at 116 _ e') (d .0)
-              (both-hold (zero-not t (valueAt t (at + 1)) (omega (arith, d .1))) (f .0))
-              (both-hold (g .0) (le-leb (threeOf t at) 255 (omega arith))))
-              ∙ ap (λ (m : ℕ). Edge (Take m) (at + 1 + 1 + 1 + 1)) v
-              ∙ ap (Edge (Take n)) p
-          ]
+        | yes a ↦
+            let q = decimal-one n a in
+            let h = head-here t at 116 _ (e ∙ ap (λ (w : List ℕ). (116 ∷ w) ++ (93 ∷ x)) q) in
+            let i = head-here t (at + 1) (digit n) _ (h .2) in
+            let j = head-here t (at + 1 + 1) 93 x (i .2) in
+            let d = is-digit t (at + 1) n a (i .1) in
+            let p : at + 1 + 1 ≡ at + suc (length (decimal n)) = omega (arith, ap length q) in
+            label-is t at
+            (one (here-has t at 116 _ (e ∙ ap (λ (w : List ℕ). (116 ∷ w) ++ (93 ∷ x)) q)) (d .0)
+            (ap (λ (b : Bool). not (eqb (valueAt t (at + 1)) 0) && b) (no-digit t (at + 1 + 1) (j .1)) ∙ and-false t (not (eqb (valueAt t (at + 1)) 0))))
+            ∙ ap (λ (v : ℕ). Edge (Take v) (at + 1 + 1)) (d .1)
+            ∙ ap (Edge (Take n)) p
+        | no a ↦
+            elim (decLt n 100) [
+              | yes b ↦
+                  let q = decimal-two n (omega arith) b in
+                  let e' = e ∙ ap (λ (w : List ℕ). (116 ∷ w) ++ (93 ∷ x)) q in
+                  let h = head-here t at 116 _ e' in
+                  let i = head-here t (at + 1) (digit (n / 10)) _ (h .2) in
+                  let j = head-here t (at + 1 + 1) (digit (n % 10)) _ (i .2) in
+                  let k = head-here t (at + 1 + 1 + 1) 93 x (j .2) in
+                  let d = is-digit t (at + 1) (n / 10) (omega arith) (i .1) in
+                  let f = is-digit t (at + 1 + 1) (n % 10) (omega arith) (j .1) in
+                  let v : 10 * valueAt t (at + 1) + valueAt t (at + 1 + 1) ≡ n = omega (arith, d .1, f .1) in
+                  let p : at + 1 + 1 + 1 ≡ at + suc (length (decimal n)) = omega (arith, ap length q) in
+                  label-is t at
+                  (two (here-has t at 116 _ e') (d .0)
+                  (both-hold (zero-not t (valueAt t (at + 1)) (omega (arith, d .1))) (f .0))
+                  (ap (λ (y : Bool). y && leb (threeOf t at) 255) (no-digit t (at + 1 + 1 + 1) (k .1))))
+                  ∙ ap (λ (m : ℕ). Edge (Take m) (at + 1 + 1 + 1)) v
+                  ∙ ap (Edge (Take n)) p
+              | no b ↦
+                  let q = decimal-three n (omega arith) (omega arith) in
+                  let e' = e ∙ ap (λ (w : List ℕ). (116 ∷ w) ++ (93 ∷ x)) q in
+                  let h = head-here t at 116 _ e' in
+                  let i = head-here t (at + 1) (digit (n / 10 / 10)) _ (h .2) in
+                  let j = head-here t (at + 1 + 1) (digit (n / 10 % 10)) _ (i .2) in
+                  let k = head-here t (at + 1 + 1 + 1) (digit (n % 10)) _ (j .2) in
+                  let d = is-digit t (at + 1) (n / 10 / 10) (omega arith) (i .1) in
+                  let f = is-digit t (at + 1 + 1) (n / 10 % 10) (omega arith) (j .1) in
+                  let g = is-digit t (at + 1 + 1 + 1) (n % 10) (omega arith) (k .1) in
+                  let v : threeOf t at ≡ n = omega (arith, d .1, f .1, g .1) in
+                  let p : at + 1 + 1 + 1 + 1 ≡ at + suc (length (decimal n)) = omega (arith, ap length q) in
+                  label-is t at
+                  (three (here-has t at 116 _ e') (d .0)
+                  (both-hold (zero-not t (valueAt t (at + 1)) (omega (arith, d .1))) (f .0))
+                  (both-hold (g .0) (le-leb (threeOf t at) 255 (omega arith))))
+                  ∙ ap (λ (m : ℕ). Edge (Take m) (at + 1 + 1 + 1 + 1)) v
+                  ∙ ap (Edge (Take n)) p
+            ]
       ]
     where
       both-hold : {a b : Bool} → a ≡ true → b ≡ true → (a && b) ≡ true

@@ -11,31 +11,11 @@ use Rattle.drawing.specs.declared.read.Way.the-variants.{On, Stuck}
 use Rattle.drawing.specs.declared.read.NodesRead.{NodesRead}
 use Rattle.drawing.specs.declared.read.NodesRead.the-variants.{Nodes, NoNodes}
 use Rattle.drawing.specs.Text.{digit, decimal, nodeLine, nodeLines}
-use Rattle.drawing.specs.Accepted.{Reading, run, place}
-use Rattle.drawing.specs.Reading.{has, expectAt, edgesAt, nodesThen, nodesAt, moreAt}
+use Rattle.drawing.specs.Accepted.{place}
+use Rattle.drawing.specs.Reading.{has, expectAt, edgesAt, nodesThen, nodesAt}
 use Rattle.drawing.proofs.NumberLaws.{leading}
 use Rattle.drawing.proofs.LineLaws.{node-parts, node-length}
-use Rattle.drawing.proofs.WordLaws.{
-  Common,
-  Stands,
-  Agree,
-  head-here,
-  here-has,
-  word-was,
-  word-stuck,
-  word-on,
-  word-next,
-  stands-none,
-  stands-then,
-  stands-as,
-  stands-from,
-  common-none,
-  common-more,
-  common-as,
-  stands-common,
-  same-has,
-  same-stuck,
-}
+use Rattle.drawing.proofs.WordLaws.{Common, Stands, Agree, head-here, here-has, word-was, word-stuck, word-on, word-next, stands-none, stands-then, stands-as, stands-from, common-none, common-more, common-as, stands-common, same-has, same-stuck}
 use Rattle.drawing.proofs.LabelLaws.{other-letter}
 use Rattle.drawing.proofs.EdgeLaws.{on-same-word, edges-stuck, edges-past}
 
@@ -72,10 +52,12 @@ module _ (t : List ℕ) (left at n : ℕ) where
           → NodesCase (nodesThen x (λ a. nodesAt left t a (n + 1)))
       third a b (On c) e = next a b e
       third a b (Stuck p) e = broken a b e
+
       second : has t at 99 ≡ true → (x : Bool) → has t (at + 1) 48 ≡ x
           → NodesCase (choose x (λ _. Nodes n at) (λ _. nodesThen (expectAt t at (nodeLine (n + 1))) (λ a. nodesAt left t a (n + 1))))
       second a true b = edges a b
       second a false b = third a b (expectAt t at (nodeLine (n + 1))) refl
+
       first : (x : Bool) → has t at 99 ≡ x
           → NodesCase
           (choose x
@@ -166,7 +148,7 @@ module _ (t : List ℕ) where
   node-first at k x z l e =
       let d = leading k z l in
       let q : drop at t ≡ 99 ∷ digit (d .first) ∷ ((d .rest ++ (59 ∷ 10 ∷ [])) ++ x) =
-          e ∙ ap (λ (w : List ℕ). w ++ x) (node-parts k) ∙ ap (λ (w : List ℕ). (99 ∷ (w ++ (59 ∷ 10 ∷ []))) ++ x) (d .is)
+      e ∙ ap (λ (w : List ℕ). w ++ x) (node-parts k) ∙ ap (λ (w : List ℕ). (99 ∷ (w ++ (59 ∷ 10 ∷ []))) ++ x) (d .is)
       in
       let h = head-here t at 99 _ q in
       (here-has t at 99 _ q, other-letter t (at + 1) (digit (d .first)) 48 _ (λ y. omega (arith, d .some)) (h .2))
@@ -186,15 +168,15 @@ module _ (t : List ℕ) where
   nodes-on (suc m) (suc left) at n x l f e =
       let y : List ℕ = nodeLines (n + 1 + 1) m ++ (99 ∷ 48 ∷ x) in
       let q : drop at t ≡ nodeLine (n + 1) ++ y =
-          e
-          ∙ ap (λ (w : List ℕ). w ++ (99 ∷ 48 ∷ x)) (sym (lines-next n m))
-          ∙ append-assoc (nodeLine (n + 1)) (nodeLines (n + 1 + 1) m) (99 ∷ 48 ∷ x)
+      e
+      ∙ ap (λ (w : List ℕ). w ++ (99 ∷ 48 ∷ x)) (sym (lines-next n m))
+      ∙ append-assoc (nodeLine (n + 1)) (nodeLines (n + 1 + 1) m) (99 ∷ 48 ∷ x)
       in
       let a : ℕ = at + length (nodeLine (n + 1)) in
       let h = node-first at (n + 1) y (omega arith) (omega arith) q in
       let i : n + 1 + m ≡ n + suc m = omega arith in
       let j : a + length (nodeLines (n + 1 + 1) m) ≡ at + length (nodeLines (n + 1) (suc m)) =
-          omega (arith, ap length (lines-next n m), length-append (nodeLine (n + 1)) (nodeLines (n + 1 + 1) m))
+      omega (arith, ap length (lines-next n m), length-append (nodeLine (n + 1)) (nodeLines (n + 1 + 1) m))
       in
       nodes-is t left at n (next (h .0) (h .1) (word-on t at (nodeLine (n + 1)) y q))
       ∙ nodes-on m left a (n + 1) x (omega arith) (omega arith) (stands-from t at (nodeLine (n + 1)) y q)

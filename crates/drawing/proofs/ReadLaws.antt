@@ -1,13 +1,12 @@
 -- What a reading means: an accepted text is read as its run, and 27's place is the one that the request names.
-use Prim.Native.Nat.{ℕ, zero, suc, _+_, _-_, _<_, _≤_}
+use Prim.Native.Nat.{ℕ, suc, _+_, _<_, _≤_}
 use mathlib.Core.Path.{_≡_, refl, sym, ap, subst, _∙_}
 use mathlib.Core.Bool.{Bool, true, false}
 use mathlib.Core.List.{List, [], _∷_, _++_, append-assoc}
 use native.Mathlib.Omega.{arith}
 use native.Mathlib.Decide.{decLt}
-use lib.ListN.{length, getD, take, drop, length-append, take-append-drop, List·getD-append}
+use lib.ListN.{length, take, drop, length-append, take-append-drop, List·getD-append}
 use lib.Seq.{take-at, take-take, getD-take, length-take-le}
-use lib.Dec.{ltb}
 use borrow.Author.Tests.{lt-ltb}
 use Rattle.pws.specs.declared.Step.{Step}
 use Rattle.records.specs.Bytes.{choose, byte}
@@ -16,54 +15,15 @@ use Rattle.drawing.specs.declared.read.Way.the-variants.{On, Stuck}
 use Rattle.drawing.specs.declared.read.NodesRead.{NodesRead}
 use Rattle.drawing.specs.declared.read.NodesRead.the-variants.{Nodes, NoNodes}
 use Rattle.drawing.specs.Text.{letters, name, arrow, labelled, line, opening, nodeLine, nodeLines, edgeLine, edgeLines, text}
-use Rattle.drawing.specs.Runs.{AllInRange, Run}
+use Rattle.drawing.specs.Runs.{Run}
 use Rattle.drawing.specs.Accepted.{Accepted, Begins, Place, Reading, run, place, Means}
 use Rattle.drawing.specs.Reading.{has, expectAt, edgesAt, nodesThen, nodesAt, moreAt, nodesRead, edgesFrom, readingOf}
 use Rattle.drawing.proofs.NumberLaws.{decimal-zero}
 use Rattle.drawing.proofs.LineLaws.{node-parts}
-use Rattle.drawing.proofs.WordLaws.{
-  Common,
-  Stands,
-  Agree,
-  here-has,
-  word-was,
-  word-stuck,
-  word-on,
-  stands-none,
-  stands-then,
-  stands-as,
-  stands-from,
-  common-more,
-  common-as,
-  stands-common,
-  same-has,
-  same-stuck,
-}
+use Rattle.drawing.proofs.WordLaws.{Common, Stands, Agree, here-has, word-was, word-stuck, word-on, stands-none, stands-then, stands-as, stands-from, common-more, common-as, stands-common, same-has, same-stuck}
 use Rattle.drawing.proofs.LabelLaws.{other-letter}
-use Rattle.drawing.proofs.EdgeLaws.{
-  run-place,
-  run-same,
-  place-same,
-  closing,
-  fill,
-  fill-length,
-  fill-range,
-  edges-were,
-  edges-stuck,
-  edges-on,
-  edges-same,
-  on-same-word,
-}
-use Rattle.drawing.proofs.NodeLaws.{
-  nodes-same,
-  nodes-not,
-  no-nodes-same,
-  nodes-were,
-  nodes-stuck,
-  nodes-on,
-  nodes-same-stuck,
-  nodes-same-edges,
-}
+use Rattle.drawing.proofs.EdgeLaws.{run-place, place-same, closing, fill, fill-length, fill-range, edges-were, edges-stuck, edges-on, edges-same, on-same-word}
+use Rattle.drawing.proofs.NodeLaws.{nodes-same, nodes-not, no-nodes-same, nodes-were, nodes-stuck, nodes-on, nodes-same-stuck, nodes-same-edges}
 
 -- ---- after node 0
 
@@ -90,6 +50,7 @@ module _ (t : List ℕ) (at : ℕ) where
       second : has t at 125 ≡ false → (x : Way) → expectAt t at (nodeLine 1) ≡ x → MoreCase (nodesThen x (λ a. nodesAt 1023 t a 1))
       second a (On b) e = next a e
       second a (Stuck p) e = broken a e
+
       first : (x : Bool) → has t at 125 ≡ x
           → MoreCase (choose x (λ _. Nodes 0 at) (λ _. nodesThen (expectAt t at (nodeLine 1)) (λ a. nodesAt 1023 t a 1)))
       first true a = done a
@@ -170,10 +131,10 @@ module _ (t : List ℕ) (at : ℕ) where
       let a : ℕ = at + length (nodeLine 1) in
       let f = first-edge s ss in
       let q' : drop a t ≡ nodeLines 2 n ++ (99 ∷ 48 ∷ f .rest) =
-          stands-from t at (nodeLine 1) (nodeLines 2 n ++ x) q ∙ ap (λ (w : List ℕ). nodeLines 2 n ++ w) (f .is)
+      stands-from t at (nodeLine 1) (nodeLines 2 n ++ x) q ∙ ap (λ (w : List ℕ). nodeLines 2 n ++ w) (f .is)
       in
       let o : has t at 125 ≡ false =
-          other-letter t at 99 125 _ (λ z. omega arith) (q ∙ ap (λ (w : List ℕ). w ++ (nodeLines 2 n ++ x)) (node-parts 1))
+      other-letter t at 99 125 _ (λ z. omega arith) (q ∙ ap (λ (w : List ℕ). w ++ (nodeLines 2 n ++ x)) (node-parts 1))
       in
       let c : 1 + n ≡ suc n = omega arith in
       let j : a + length (nodeLines 2 n) ≡ at + length (nodeLine 1 ++ nodeLines 2 n) = omega (arith, length-append (nodeLine 1) (nodeLines 2 n)) in
@@ -208,6 +169,7 @@ module _ (t : List ℕ) where
       second : {a : ℕ} → expectAt t 0 (line opening) ≡ On a → (x : Way) → expectAt t a (nodeLine 0) ≡ x → NodesReadCase (nodesThen x (λ b. moreAt t b))
       second e (On b) f = more e f
       second e (Stuck p) f = noNode e f
+
       first : (x : Way) → expectAt t 0 (line opening) ≡ x
           → NodesReadCase (nodesThen x (λ a. nodesThen (expectAt t a (nodeLine 0)) (λ b. moreAt t b)))
       first (On a) e = second e (expectAt t a (nodeLine 0)) refl
@@ -236,14 +198,15 @@ module _ (t : List ℕ) where
       inner (Nodes n a) d e =
           let m = more-were t b n a (moreAt t b) (more-case t b) d in
           let w = edges-were t n a 0 ss e in
-          let s = stands-then t (front-stands h i) (m .stands) in
-          (record { steps = w .range; few = omega (arith, m .few, w .count) },
-          s .here
-          ∙ ap (λ (x : List ℕ). ((line opening ++ nodeLine 0) ++ nodeLines 1 n) ++ x) (w .here)
-          ∙ append-assoc (line opening ++ nodeLine 0) (nodeLines 1 n) (edgeLines 0 ss ++ closing)
-          ∙ append-assoc (line opening) (nodeLine 0) (nodeLines 1 n ++ (edgeLines 0 ss ++ closing))
-          ∙ ap (λ (k : ℕ). line opening ++ (nodeLine 0 ++ (nodeLines 1 k ++ (edgeLines 0 ss ++ closing)))) (sym (w .count))
-          ∙ sym (text-front ss))
+          let s = stands-then t (front-stands h i) (m .stands) in (
+            record { steps = w .range; few = omega (arith, m .few, w .count) },
+            s .here
+                ∙ ap (λ (x : List ℕ). ((line opening ++ nodeLine 0) ++ nodeLines 1 n) ++ x) (w .here)
+                ∙ append-assoc (line opening ++ nodeLine 0) (nodeLines 1 n) (edgeLines 0 ss ++ closing)
+                ∙ append-assoc (line opening) (nodeLine 0) (nodeLines 1 n ++ (edgeLines 0 ss ++ closing))
+                ∙ ap (λ (k : ℕ). line opening ++ (nodeLine 0 ++ (nodeLines 1 k ++ (edgeLines 0 ss ++ closing)))) (sym (w .count))
+                ∙ sym (text-front ss),
+          )
 
   pub reading-was : (ss : List Step) → readingOf t ≡ run ss → Run ss × (t ≡ text ss)
   unfolding readingOf
@@ -285,6 +248,7 @@ module _ (t : List ℕ) where
     where
       whole : (ss : List Step) → Common t b p (nodeLines 1 (length ss) ++ (edgeLines 0 ss ++ closing)) → Common t 0 p (text ss)
       whole ss c = common-as t (stands-common t (word-was t 0 (line opening) o h) (stands-common t (word-was t o (nodeLine 0) b i) c)) (sym (text-front ss))
+
       inner : (x : NodesRead) → moreAt t b ≡ x → edgesFrom t x ≡ place p → TextViable p
       inner (NoNodes q) d e =
           let v = more-stuck t b q (moreAt t b) (more-case t b) d in
@@ -379,6 +343,7 @@ module _ (t u : List ℕ) (p : ℕ) (same : Agree t u p) where
       front l =
           let s = word-was t o (nodeLine 0) b i in
           read-is u (more (on-same-word t u p same 0 o (line opening) h (omega (arith, s .next))) (on-same-word t u p same o b (nodeLine 0) i l))
+
       inner : (x : NodesRead) → moreAt t b ≡ x → edgesFrom t x ≡ place p → edgesFrom u (nodesRead u) ≡ place p
       inner (NoNodes q) d e =
           let d' = d ∙ ap NoNodes (place-same e) in
@@ -400,9 +365,10 @@ agrees : (t rest : List ℕ) (p : ℕ) → p < length t → Agree t (take (suc p
 unfolding Agree
 agrees t rest p l i m =
     let w : List ℕ = take (suc p) t in
-    let n : length w ≡ suc p = length-take-le (suc p) t l in
-    (lt-ltb i (length t) (omega arith) ∙ sym (lt-ltb i (length (w ++ rest)) (omega (arith, length-append w rest))),
-    sym (List·getD-append w rest 0 i (omega arith) ∙ getD-take (suc p) t i 0 (omega arith)))
+    let n : length w ≡ suc p = length-take-le (suc p) t l in (
+      lt-ltb i (length t) (omega arith) ∙ sym (lt-ltb i (length (w ++ rest)) (omega (arith, length-append w rest))),
+      sym (List·getD-append w rest 0 i (omega arith) ∙ getD-take (suc p) t i 0 (omega arith)),
+    )
 
 pub means-place : (t : List ℕ) (p : ℕ) → readingOf t ≡ place p → Place t p
 means-place t p e =
@@ -460,6 +426,6 @@ means-once t (run ss) (place k) p q = absurd (q .outside (record { steps = ss; r
 means-once t (place j) (run rs) p q = absurd (p .outside (record { steps = rs; run = q .0; same = q .1 }))
 means-once t (place j) (place k) p q =
     elim (decLt j k) [
-    | yes l ↦ absurd (place-once t j k p q l)
-    | no l ↦ elim (decLt k j) [ | yes m ↦ absurd (place-once t k j q p m) | no m ↦ let e : j ≡ k = omega arith in ap place e ]
+      | yes l ↦ absurd (place-once t j k p q l)
+      | no l ↦ elim (decLt k j) [ yes m ↦ absurd (place-once t k j q p m) | no m ↦ let e : j ≡ k = omega arith in ap place e ]
     ]

@@ -9,7 +9,7 @@ use Rattle.records.specs.Records.{stepBody, stepAt}
 use Rattle.reading.specs.EvidencePart.{stepsOf}
 use Rattle.drawing.specs.Text.{nodeLine, edgeLine, nodeLines, edgeLines}
 use Rattle.drawing.specs.Runs.{StepInRange}
-use Rattle.drawing.specs.Parts.{placed, Put, FineFrom, Fine}
+use Rattle.drawing.specs.Parts.{Put, FineFrom, Fine}
 use Rattle.drawing.proofs.PutLaws.{placed-length, then-put, put-as, put-none}
 use Rattle.drawing.proofs.LineLaws.{nodes-next, edges-next, fine-next}
 

@@ -1,17 +1,15 @@
 -- The reader's loops, turn by turn.
-use Prim.Native.Nat.{ℕ, zero, suc, _+_, _-_, _*_, _<_, _≤_}
+use Prim.Native.Nat.{ℕ, suc, _+_, _-_, _*_, _<_, _≤_}
 use mathlib.Core.Path.{_≡_, refl, sym, ap, subst, _∙_}
-use mathlib.Core.Bool.{Bool, true, false}
+use mathlib.Core.Bool.{true, false}
 use mathlib.Core.List.{List, [], _∷_, _++_}
 use native.Mathlib.Omega.{arith}
 use lib.ListN.{length, length-append}
 use Rattle.pws.specs.declared.Step.{Step}
 use Rattle.pws.specs.declared.Step.the-variants.{Take, Serialise, Update}
-use Rattle.drawing.specs.declared.read.Way.{Way}
 use Rattle.drawing.specs.declared.read.Way.the-variants.{On, Stuck}
 use Rattle.drawing.specs.declared.read.EdgeRead.the-variants.{Edge, NoEdge}
 use Rattle.drawing.specs.declared.read.NodesRead.the-variants.{Nodes, NoNodes}
-use Rattle.drawing.specs.declared.read.Size.{Size}
 use Rattle.drawing.specs.declared.read.Size.the-variants.{Bytes, Place}
 use Rattle.drawing.specs.Text.{nodeLine}
 use Rattle.drawing.specs.Runs.{StepInRange, recordOf, recordsOf}

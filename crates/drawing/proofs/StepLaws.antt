@@ -1,27 +1,25 @@
 -- Step records that were found fine, and the records of a run: one is the other's way back.
 use Prim.Native.Nat.{ℕ, zero, suc, _+_, _-_, _<_, _≤_}
-use mathlib.Core.Path.{_≡_, refl, sym, ap, subst, _∙_}
-use mathlib.Core.Bool.{Bool, true, false, cond, _&&_, _||_, not}
-use mathlib.Core.List.{List, [], _∷_, _++_}
+use mathlib.Core.Path.{_≡_, refl, ap, subst, _∙_}
+use mathlib.Core.Bool.{Bool, true, false, cond, _&&_, _||_}
+use mathlib.Core.List.{List, _∷_, _++_}
 use native.Mathlib.Omega.{arith}
-use lib.ListN.{length, getD, drop, drop-of-length-le, length-drop}
-use lib.Seq.{drop-cons, getD-drop, drop-drop}
-use lib.Dec.{eqb, leb, ltb}
-use borrow.Author.Tests.{eqb-true, ltb-true, leb-true, leb-false, eq-eqb, ne-eqb, lt-ltb, lt-leb, le-leb, not-false}
-use Rattle.pws.specs.declared.Step.{Step}
+use lib.ListN.{length, drop, drop-of-length-le}
+use lib.Seq.{drop-cons}
+use lib.Dec.{leb, ltb}
+use borrow.Author.Tests.{eqb-true, ltb-true, leb-true, leb-false, not-false}
 use Rattle.pws.specs.declared.Step.the-variants.{Take, Serialise, Update}
-use Rattle.records.specs.Bytes.{choose, byte, cut}
-use Rattle.records.specs.declared.program.Shape.{Shape}
+use Rattle.records.specs.Bytes.{choose, byte}
 use Rattle.records.specs.declared.program.Refusal.{Refusal}
 use Rattle.records.specs.declared.program.Checked.{Checked}
 use Rattle.records.specs.declared.program.Checked.the-variants.{Fine, Refused}
 use Rattle.records.specs.declared.program.Counted.{Counted}
 use Rattle.records.specs.declared.program.Counted.the-variants.{Records, Stopped}
-use Rattle.records.specs.Records.{firstNumber, checked, isKind, isStep, stepBody, stepNames, stepNumber, stepAt}
+use Rattle.records.specs.Records.{checked, isKind, isStep, stepBody, stepNames, stepNumber, stepAt}
 use Rattle.records.specs.ProgramPart.{countThen, rowFrom}
-use Rattle.records.proofs.RecordLaws.{step-fine, cut-fits, row-ends, row-next}
+use Rattle.records.proofs.RecordLaws.{step-fine, cut-fits}
 use Rattle.reading.specs.EvidencePart.{stepsFrom, stepsOf}
-use Rattle.drawing.specs.Runs.{fullShape, StepInRange, AllInRange, Run, recordOf, recordsOf}
+use Rattle.drawing.specs.Runs.{fullShape, StepInRange, recordOf, recordsOf}
 use Rattle.drawing.specs.Parts as parts
 use Rattle.drawing.specs.Parts.{FineFrom}
 

@@ -1,5 +1,5 @@
 -- Words that stand in a text, and where they do not.
-use Prim.Native.Nat.{ℕ, zero, suc, _+_, _-_, _<_, _≤_}
+use Prim.Native.Nat.{ℕ, suc, _+_, _-_, _<_, _≤_}
 use mathlib.Core.Path.{_≡_, refl, sym, ap, subst, _∙_}
 use mathlib.Core.Bool.{Bool, true, false, cond, _&&_}
 use mathlib.Core.List.{List, [], _∷_, _++_, append-assoc}
@@ -7,8 +7,8 @@ use native.Mathlib.Omega.{arith}
 use lib.ListN.{length, getD, drop, length-append, length-drop, drop-of-length-le}
 use lib.Seq.{drop-cons, getD-drop, drop-drop, drop-at}
 use lib.Dec.{eqb, ltb}
-use borrow.Author.Tests.{ltb-true, eqb-true, eqb-false, lt-ltb, eq-eqb}
-use Rattle.records.specs.Bytes.{choose, byte}
+use borrow.Author.Tests.{ltb-true, eqb-true, lt-ltb, eq-eqb}
+use Rattle.records.specs.Bytes.{byte}
 use Rattle.drawing.specs.declared.read.Way.{Way}
 use Rattle.drawing.specs.declared.read.Way.the-variants.{On, Stuck}
 use Rattle.drawing.specs.Reading.{has, expectAt}
@@ -214,6 +214,7 @@ module _ (t u : List ℕ) (k : ℕ) (same : Agree t u k) where
     where
       z : at + 1 + length w ≡ at + suc (length w)
       z = omega arith
+
       go : (b : Bool) → has t at c ≡ b → (expectAt t (at + 1) w ≡ On (at + 1 + length w) → expectAt u (at + 1) w ≡ On (at + 1 + length w))
           → expectAt u at (c ∷ w) ≡ On (at + suc (length w))
       go true h ih =

@@ -1,6 +1,6 @@
 -- The answers, and what is left in the output.
 use Prim.Native.Nat.{ℕ, _+_, _<_, _≤_}
-use mathlib.Core.Path.{_≡_, refl, sym, ap, _∙_}
+use mathlib.Core.Path.{_≡_, sym, ap, _∙_}
 use mathlib.Core.Bool.{true, false}
 use mathlib.Core.List.{List, _++_}
 use native.Mathlib.Omega.{arith}
@@ -13,7 +13,7 @@ use Rattle.reading.specs.EvidencePart.{stepsFrom, stepsOf}
 use Rattle.drawing.specs.declared.Written.{Written}
 use Rattle.drawing.specs.Text.{text}
 use Rattle.drawing.specs.Runs.{fullShape}
-use Rattle.drawing.specs.Parts.{placed, Put}
+use Rattle.drawing.specs.Parts.{placed}
 use Rattle.drawing.specs.Writing.{Made, made, refused, answered, leftIn, ofCount, drawingOf}
 
 pub drawing-refused : (f : List ℕ) (r : Refusal) → stepsFrom fullShape 256 f 0 ≡ Stopped r → drawingOf f ≡ refused (r .number) (r .place)

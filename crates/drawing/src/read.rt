@@ -44,7 +44,11 @@ pub enum Size {
 fn has(text: &[u8], at: usize, c: u8) -> bool
     ensures { λ r. ⌜ r ≡ has (now (text .entry)) at c ⌝ }
 {
-    if at < text.len() { text[at] == c } else { false }
+    if at < text.len() {
+        text[at] == c
+    } else {
+        false
+    }
 }
 
 fn expect(text: &[u8], start: usize, word: &[u8]) -> Way
@@ -384,7 +388,20 @@ fn expect_opening(text: &[u8]) -> Way
         text,
         0,
         &[
-            b'd', b'i', b'g', b'r', b'a', b'p', b'h', b' ', b'r', b'u', b'n', b' ', b'{', b'\n',
+            b'd',
+            b'i',
+            b'g',
+            b'r',
+            b'a',
+            b'p',
+            b'h',
+            b' ',
+            b'r',
+            b'u',
+            b'n',
+            b' ',
+            b'{',
+            b'\n',
         ],
     )
 }

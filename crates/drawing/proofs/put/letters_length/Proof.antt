@@ -1,49 +1,33 @@
-use Rattle.drawing.specs.Text.{decimal, letters, nodeLine}
-use Rattle.drawing.specs.Runs.{StepInRange}
-use Rattle.drawing.proofs.PutLaws.{then-put, put-as}
-use Rattle.drawing.proofs.NumberLaws.{decimal-one, decimal-two, decimal-three, decimal-four, decimal-short}
-use lib.ListN.{length}
-use mathlib.Core.Path.{_≡_, refl, sym, ap, subst, _∙_}
-use Prim.Native.Nat.{ℕ, suc, _+_, _-_, _/_, _%_, _<_, _≤_}
+use Rattle.drawing.specs.Text.{letters}
+use Rattle.drawing.proofs.NumberLaws.{decimal-short}
 use native.Mathlib.Omega.{arith}
 use borrow.Author.Needs.{needs}
 use Rattle.drawing.proofs.put.letters_length.Statement.{statement}
 use Rattle.drawing.proofs.put.letters_length.Tie as tie
-use Rattle.drawing.proofs.put.letters_length.Reads as reads
-use Rattle.drawing.proofs.put.letters_length.Lts as lts
-use Rattle.drawing.proofs.put.number_length.Reads as number-length-reads
 
--- src/put.rt:92:22
 enum-known-step : tie.Need-enum-known-step
 enum-known-step c = search needs
 
--- src/put.rt:92:42
 number-length-requires : tie.Need-number-length-requires
 number-length-requires c κs = let h = rw (c .before .step .given .1) at (c .before .before .before .pre) in omega (arith, h)
 
--- src/put.rt:92:38
 add-result : tie.Need-add-result
 add-result c = let h = rw (c .before .before .step .given .1) at (c .before .before .before .before .pre) in omega (arith, c .number-length .ensures, decimal-short (c .before .before .step .given .0 .0) (omega (arith, h)))
 
--- src/put.rt:93:56
 enum-told : tie.Need-enum-told
 enum-told c = search needs
 
--- src/put.rt:94:40
 enum-told-2 : tie.Need-enum-told-2
 enum-told-2 c = search needs
 
--- src/put.rt:87:1
 returns : tie.Need-returns
 unfolding letters
 returns c = rw (c .before .before .step .given .1) (omega (arith, c .number-length .ensures))
 
--- src/put.rt:87:1
 returns-2 : tie.Need-returns-2
 unfolding letters
 returns-2 c = rw (c .enum-told .given .1)
 
--- src/put.rt:87:1
 returns-3 : tie.Need-returns-3
 unfolding letters
 returns-3 c = rw (c .enum-told2 .given .1)

@@ -1,62 +1,45 @@
 use Rattle.drawing.proofs.LineLaws.{head-length, head-parts}
 use native.Mathlib.Numerals.{add-one}
-use Rattle.drawing.specs.Parts.{edgeHead}
-use Rattle.drawing.specs.Text.{decimal, letters, nodeLine}
+use Rattle.drawing.specs.Text.{decimal}
 use Rattle.drawing.proofs.PutLaws.{then-put, put-as}
-use mathlib.Core.List.{List, [], _∷_, _++_, append-assoc}
 use lib.ListN.{length}
-use mathlib.Core.Path.{_≡_, refl, sym, ap, subst, _∙_}
-use Prim.Native.Nat.{ℕ, suc, _+_, _-_, _/_, _%_, _<_, _≤_}
+use mathlib.Core.Path.{ap}
+use Prim.Native.Nat.{ℕ}
 use native.Mathlib.Omega.{arith}
 use borrow.Author.Needs.{needs}
 use Rattle.drawing.proofs.put.put_head.Statement.{statement}
 use Rattle.drawing.proofs.put.put_head.Tie as tie
-use Rattle.drawing.proofs.put.put_head.Reads as reads
-use Rattle.drawing.proofs.put.put_head.Lts as lts
-use Rattle.drawing.proofs.put.put.Reads as put-reads
-use Rattle.drawing.proofs.put.put_number.Reads as put-number-reads
 
--- src/put.rt:113:26
 slice-aggregate-put : tie.Need-slice-aggregate-put
 slice-aggregate-put c = search needs
 
--- src/put.rt:113:9
 put-requires : tie.Need-put-requires
 put-requires c κs = omega (arith, c .before .before .before .pre .1, head-length (c .before .before .before .args .k), ap (λ (m : ℕ). length (decimal m)) (add-one (c .before .before .before .args .k)))
 
--- src/put.rt:114:9
 put-number-requires : tie.Need-put-number-requires
 put-number-requires c κs = (omega (arith, c .before .before .before .before .before .before .before .pre .0), omega (arith, c .before .before .before .before .before .before .before .pre .1, head-length (c .before .before .before .before .before .before .before .args .k), ap (λ (m : ℕ). length (decimal m)) (add-one (c .before .before .before .before .before .before .before .args .k)), c .before .before .before .put .ensures .after, c .before .before .before .put .kept .0))
 
--- src/put.rt:115:25
 slice-aggregate-put-2 : tie.Need-slice-aggregate-put-2
 slice-aggregate-put-2 c = search needs
 
--- src/put.rt:115:9
 put-requires-2 : tie.Need-put-requires-2
 put-requires-2 c κs = omega (arith, c .before .before .before .before .before .before .before .before .before .before .before .before .pre .1, head-length (c .before .before .before .before .before .before .before .before .before .before .before .before .args .k), ap (λ (m : ℕ). length (decimal m)) (add-one (c .before .before .before .before .before .before .before .before .before .before .before .before .args .k)), c .before .before .before .before .before .before .before .before .put .ensures .after, c .before .before .before .before .before .before .before .before .put .kept .0, c .before .before .before .before .put-number .ensures .after, c .before .before .before .before .put-number .kept .0)
 
--- src/put.rt:116:32
 add-put-number : tie.Need-add-put-number
 add-put-number c = search needs
 
--- src/put.rt:116:9
 put-number-requires-2 : tie.Need-put-number-requires-2
 put-number-requires-2 c κs = (omega (arith, c .before .before .before .before .before .before .before .before .before .before .before .before .before .before .before .before .pre .0), omega (arith, c .before .before .before .before .before .before .before .before .before .before .before .before .before .before .before .before .pre .1, head-length (c .before .before .before .before .before .before .before .before .before .before .before .before .before .before .before .before .args .k), ap (λ (m : ℕ). length (decimal m)) (add-one (c .before .before .before .before .before .before .before .before .before .before .before .before .before .before .before .before .args .k)), c .before .before .before .before .before .before .before .before .before .before .before .before .put .ensures .after, c .before .before .before .before .before .before .before .before .before .before .before .before .put .kept .0, c .before .before .before .before .before .before .before .before .put-number .ensures .after, c .before .before .before .before .before .before .before .before .put-number .kept .0, c .before .before .before .put2 .ensures .after, c .before .before .before .put2 .kept .0))
 
--- src/put.rt:120:9
 slice-aggregate-put-3 : tie.Need-slice-aggregate-put-3
 slice-aggregate-put-3 c = search needs
 
--- src/put.rt:117:5
 put-requires-3 : tie.Need-put-requires-3
 put-requires-3 c κs = omega (arith, c .before .before .before .before .before .before .before .before .before .before .before .before .before .before .before .before .before .before .before .before .before .pre .1, head-length (c .before .before .before .before .before .before .before .before .before .before .before .before .before .before .before .before .before .before .before .before .before .args .k), ap (λ (m : ℕ). length (decimal m)) (add-one (c .before .before .before .before .before .before .before .before .before .before .before .before .before .before .before .before .before .before .before .before .before .args .k)), c .before .before .before .before .before .before .before .before .before .before .before .before .before .before .before .before .before .put .ensures .after, c .before .before .before .before .before .before .before .before .before .before .before .before .before .before .before .before .before .put .kept .0, c .before .before .before .before .before .before .before .before .before .before .before .before .before .put-number .ensures .after, c .before .before .before .before .before .before .before .before .before .before .before .before .before .put-number .kept .0, c .before .before .before .before .before .before .before .before .put2 .ensures .after, c .before .before .before .before .before .before .before .before .put2 .kept .0, c .before .before .before .before .put-number2 .ensures .after, c .before .before .before .before .put-number2 .kept .0)
 
--- src/put.rt:109:1
 same-length : tie.Need-same-length
 same-length c = search needs
 
--- src/put.rt:109:1
 returns : tie.Need-returns
 returns c = put-as (then-put (then-put (then-put (then-put (c .before .before .before .before .before .before .before .before .before .before .before .before .before .before .before .before .before .before .before .before .put .ensures) (c .before .before .before .before .before .before .before .before .before .before .before .before .before .before .before .before .put-number .ensures)) (c .before .before .before .before .before .before .before .before .before .before .before .put2 .ensures)) (c .before .before .before .before .before .before .before .put-number2 .ensures)) (c .before .before .put3 .ensures)) (head-parts (c .before .before .before .before .before .before .before .before .before .before .before .before .before .before .before .before .before .before .before .before .before .before .before .before .args .k))
 

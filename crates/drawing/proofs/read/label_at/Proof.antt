@@ -1,72 +1,49 @@
-use borrow.Author.Tests.{lt-ltb, le-ltb}
-use Rattle.drawing.specs.Reading.{has, expectAt, isDigit, isSmall, valueAt, thirdDigit, secondDigit, numberAt, variableAt, pairAt, processAt, labelAt, edgeAt}
-use mathlib.Core.Bool.{true, false, not, _&&_}
-use lib.ListN.{length, getD, drop}
-use mathlib.Core.Path.{_≡_, refl, sym, ap, subst, _∙_}
-use Prim.Native.Nat.{ℕ, suc, _+_, _*_, _-_, _/_, _%_, _<_, _≤_}
+use Rattle.drawing.specs.Reading.{has, labelAt}
+use mathlib.Core.Path.{sym, _∙_}
 use native.Mathlib.Omega.{arith}
 use borrow.Author.Needs.{needs}
 use Rattle.drawing.proofs.read.label_at.Statement.{statement}
 use Rattle.drawing.proofs.read.label_at.Tie as tie
-use Rattle.drawing.proofs.read.label_at.Reads as reads
-use Rattle.drawing.proofs.read.label_at.Lts as lts
-use Rattle.drawing.proofs.read.has.Reads as has-reads
-use Rattle.drawing.proofs.read.number_at.Reads as number-at-reads
-use Rattle.drawing.proofs.read.pair_at.Reads as pair-at-reads
-use Rattle.drawing.proofs.read.process_at.Reads as process-at-reads
 
--- src/read.rt:174:8
 has-requires : tie.Need-has-requires
 has-requires c κs = search needs
 
--- src/read.rt:175:32
 add-number-at : tie.Need-add-number-at
 add-number-at c = omega (arith, c .before .before .before .pre)
 
--- src/read.rt:175:9
 number-at-requires : tie.Need-number-at-requires
 number-at-requires c κs = omega (arith, c .before .before .before .pre)
 
--- src/read.rt:175:9
 returns : tie.Need-returns
 unfolding labelAt
 returns c = rw (sym (c .before .before .has .ensures) ∙ c .before .if1 .taken) (c .number-at .ensures)
 
--- src/read.rt:177:8
 has-requires-2 : tie.Need-has-requires-2
 has-requires-2 c κs = search needs
 
--- src/read.rt:178:30
 add-pair-at : tie.Need-add-pair-at
 add-pair-at c = omega (arith, c .before .before .before .before .before .pre)
 
--- src/read.rt:178:9
 pair-at-requires : tie.Need-pair-at-requires
 pair-at-requires c κs = omega (arith, c .before .before .before .before .before .pre)
 
--- src/read.rt:178:9
 returns-2 : tie.Need-returns-2
 unfolding labelAt
 returns-2 c = rw (sym (c .before .before .before .before .has .ensures) ∙ c .before .before .before .if1 .left, sym (c .before .before .has2 .ensures) ∙ c .before .if2 .taken) (c .pair-at .ensures)
 
--- src/read.rt:180:8
 has-requires-3 : tie.Need-has-requires-3
 has-requires-3 c κs = search needs
 
--- src/read.rt:181:33
 add-process-at : tie.Need-add-process-at
 add-process-at c = omega (arith, c .before .before .before .before .before .before .before .pre)
 
--- src/read.rt:181:9
 process-at-requires : tie.Need-process-at-requires
 process-at-requires c κs = omega (arith, c .before .before .before .before .before .before .before .pre)
 
--- src/read.rt:181:9
 returns-3 : tie.Need-returns-3
 unfolding labelAt
 returns-3 c = rw (sym (c .before .before .before .before .before .before .has .ensures) ∙ c .before .before .before .before .before .if1 .left, sym (c .before .before .before .before .has2 .ensures) ∙ c .before .before .before .if2 .left, sym (c .before .before .has3 .ensures) ∙ c .before .if3 .taken) (c .process-at .ensures)
 
--- src/read.rt:170:1
 returns-4 : tie.Need-returns-4
 unfolding labelAt
 returns-4 c = rw (sym (c .before .before .before .before .before .has .ensures) ∙ c .before .before .before .before .if1 .left, sym (c .before .before .before .has2 .ensures) ∙ c .before .before .if2 .left, sym (c .before .has3 .ensures) ∙ c .if3 .left)

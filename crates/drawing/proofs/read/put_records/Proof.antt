@@ -1,27 +1,11 @@
-use borrow.Author.Tests.{lt-ltb, le-ltb, not-true, not-false}
-use Rattle.drawing.proofs.WordLaws.{has-is}
 use Rattle.drawing.proofs.RowLaws.{partly-same}
-use Rattle.drawing.proofs.PutLaws.{put-taken, put-as}
-use Rattle.drawing.proofs.LineLaws.{node-short, head-short}
-use Rattle.drawing.proofs.ScanLaws.{head-within, record-short, Sizing, size-begin, size-next, size-stop, size-end, Storing, store-begin, store-never, store-range, store-room, store-next, store-end, Scanning, scan-other, scan-edges, scan-broken, scan-next, scan-end}
-use Rattle.drawing.specs.declared.read.Size.the-variants.{Bytes, Place}
-use Rattle.drawing.specs.declared.read.NodesRead.the-variants.{Nodes, NoNodes}
-use Rattle.drawing.specs.declared.read.EdgeRead.the-variants.{Edge, NoEdge}
-use Rattle.drawing.specs.declared.read.Way.the-variants.{On, Stuck}
-use Rattle.drawing.specs.Reading.{has, expectAt, labelAt, edgeAt, edgeEnd, endSize, edgesAt, nodesAt, moreAt, nodesRead, recordsIn, readingOf, edgesFrom, ofReading, wayPlace, edgePlace, nodesPlace, sizePlace, sizeAfter, stepsIn}
-use lib.Seq.{length-take-le}
-use mathlib.Core.Bool.{true, false, not, _&&_}
-use lib.ListN.{length, getD, drop}
-use mathlib.Core.Path.{_≡_, refl, sym, ap, subst, _∙_}
-use Prim.Native.Nat.{ℕ, suc, _+_, _*_, _-_, _/_, _%_, _<_, _≤_}
+use Rattle.drawing.proofs.ScanLaws.{Storing, store-begin, store-never, store-range, store-room, store-next, store-end}
+use mathlib.Core.Path.{sym, _∙_}
+use Prim.Native.Nat.{_-_}
 use native.Mathlib.Omega.{arith}
 use borrow.Author.Needs.{needs}
 use Rattle.drawing.proofs.read.put_records.Statement.{statement}
 use Rattle.drawing.proofs.read.put_records.Tie as tie
-use Rattle.drawing.proofs.read.put_records.Reads as reads
-use Rattle.drawing.proofs.read.put_records.Lts as lts
-use Rattle.drawing.proofs.read.edge_at.Reads as edge-at-reads
-use Rattle.drawing.proofs.read.put_record.Reads as put-record-reads
 
 abbrev Inv-loop : tie.InvT-loop
 Inv-loop out₀ text start n at₀ place₀ k₀ out at place k = Storing out₀ text start n out at place k
@@ -29,51 +13,39 @@ Inv-loop out₀ text start n at₀ place₀ k₀ out at place k = Storing out₀
 abbrev μ-loop : tie.MeasureT-loop
 μ-loop out₀ text start n at₀ place₀ k₀ out at place k = n - k
 
--- src/read.rt:330:5
 loop-holds : tie.Need-loop-holds Inv-loop μ-loop
 loop-holds c = store-begin _ _ _ _ (c .before .before .pre)
 
--- src/read.rt:331:13
 edge-at-requires : tie.Need-edge-at-requires Inv-loop μ-loop
 edge-at-requires c κs = omega (arith, c .before .loop .inv .few, c .loop-test .taken)
 
--- src/read.rt:332:30
 enum-known-edge : tie.Need-enum-known-edge Inv-loop μ-loop
 enum-known-edge c = search needs
 
--- src/read.rt:333:13
 enum-told : tie.Need-enum-told Inv-loop μ-loop
 enum-told c = search needs
 
--- src/read.rt:333:13
 same-length : tie.Need-same-length Inv-loop μ-loop
 same-length c = partly-same (c .before .before .before .before .loop .inv .partly)
 
--- src/read.rt:333:13
 returns : tie.Need-returns Inv-loop μ-loop
 returns c = absurd (store-never (c .before .before .before .before .loop .inv) _ (c .before .before .before .loop-test .taken) (sym (c .before .before .edge-at .ensures) ∙ c .enum-told .given .1))
 
--- src/read.rt:335:9
 put-record-requires : tie.Need-put-record-requires Inv-loop μ-loop
 put-record-requires c κs = let e = sym (c .before .before .before .before .edge-at .ensures) ∙ c .before .before .edge .given .1 in (store-range (c .before .before .before .before .before .before .loop .inv) _ _ e, store-room (c .before .before .before .before .before .before .loop .inv) _ _ (c .before .before .before .before .before .loop-test .taken) e)
 
--- src/read.rt:337:9
 add-k : tie.Need-add-k Inv-loop μ-loop
 add-k c = omega (arith, c .before .before .before .before .before .before .before .before .before .loop .inv .few, c .before .before .before .before .before .before .before .before .loop-test .taken)
 
--- src/read.rt:330:5
 loop-less : tie.Need-loop-less Inv-loop μ-loop
 loop-less c = omega (arith, c .before .before .before .before .before .before .before .before .loop-test .taken)
 
--- src/read.rt:330:5
 loop-again : tie.Need-loop-again Inv-loop μ-loop
 loop-again c = store-next (c .before .before .before .before .before .before .before .before .before .loop .inv) _ _ (c .before .before .before .before .before .before .before .before .loop-test .taken) (sym (c .before .before .before .before .before .before .before .edge-at .ensures) ∙ c .before .before .before .before .before .edge .given .1) (c .before .before .put-record .ensures)
 
--- src/read.rt:323:1
 same-length-2 : tie.Need-same-length-2 Inv-loop μ-loop
 same-length-2 c = partly-same (c .before .loop .inv .partly)
 
--- src/read.rt:323:1
 returns-2 : tie.Need-returns-2 Inv-loop μ-loop
 returns-2 c = store-end (c .before .loop .inv) (c .loop-test .left)
 

@@ -1,54 +1,36 @@
-use borrow.Author.Tests.{lt-ltb, le-ltb}
-use Rattle.drawing.specs.Reading.{has, expectAt, isDigit, isSmall, valueAt, thirdDigit, secondDigit, numberAt, variableAt, pairAt, processAt, labelAt, edgeAt}
-use mathlib.Core.Bool.{true, false, not, _&&_}
-use lib.ListN.{length, getD, drop}
-use mathlib.Core.Path.{_≡_, refl, sym, ap, subst, _∙_}
-use Prim.Native.Nat.{ℕ, suc, _+_, _*_, _-_, _/_, _%_, _<_, _≤_}
+use Rattle.drawing.specs.Reading.{thirdDigit, secondDigit}
+use mathlib.Core.Path.{sym, ap, _∙_}
+use Prim.Native.Nat.{ℕ, _+_, _*_}
 use native.Mathlib.Omega.{arith}
 use borrow.Author.Needs.{needs}
 use Rattle.drawing.proofs.read.second_digit.Statement.{statement}
 use Rattle.drawing.proofs.read.second_digit.Tie as tie
-use Rattle.drawing.proofs.read.second_digit.Reads as reads
-use Rattle.drawing.proofs.read.second_digit.Lts as lts
-use Rattle.drawing.proofs.read.is_digit.Reads as is-digit-reads
-use Rattle.drawing.proofs.read.third_digit.Reads as third-digit-reads
-use Rattle.drawing.proofs.read.value_at.Reads as value-at-reads
-use Rattle.records.proofs.bytes.both.Reads as both-reads
 
--- src/read.rt:110:21
 is-digit-requires : tie.Need-is-digit-requires
 is-digit-requires c κs = search needs
 
--- src/read.rt:110:8
 both-requires : tie.Need-both-requires
 both-requires c κs = search needs
 
--- src/read.rt:111:34
 add-third-digit : tie.Need-add-third-digit
 add-third-digit c = omega (arith, c .before .before .before .before .pre .0)
 
--- src/read.rt:111:42
 mul-third-digit : tie.Need-mul-third-digit
 mul-third-digit c = omega (arith, c .before .before .before .before .pre .1)
 
--- src/read.rt:111:51
 value-at-requires : tie.Need-value-at-requires
 value-at-requires c κs = search needs
 
--- src/read.rt:111:42
 add-third-digit-2 : tie.Need-add-third-digit-2
 add-third-digit-2 c = omega (arith, c .value-at .ensures .1, c .before .before .before .before .before .pre .1)
 
--- src/read.rt:111:9
 third-digit-requires : tie.Need-third-digit-requires
 third-digit-requires c κs = (omega (arith, c .before .before .before .before .before .pre .0), omega (arith, c .value-at .ensures .1, c .before .before .before .before .before .pre .1))
 
--- src/read.rt:111:9
 returns : tie.Need-returns
 unfolding secondDigit
 returns c = rw (← c .before .before .before .before .is-digit .ensures, sym (c .before .before .before .both .ensures) ∙ c .before .before .if1 .taken) (c .third-digit .ensures ∙ ap (λ (x : ℕ). thirdDigit (c .before .before .before .before .before .before .args .text .now) (c .before .before .before .before .before .before .args .at + 1) (10 * c .before .before .before .before .before .before .args .a + x)) (c .before .value-at .ensures .0))
 
--- src/read.rt:106:1
 returns-2 : tie.Need-returns-2
 unfolding secondDigit
 returns-2 c = rw (← c .before .before .is-digit .ensures, sym (c .before .both .ensures) ∙ c .if1 .left)

@@ -8,66 +8,45 @@ use Rattle.drawing.specs.Runs.{fullShape}
 use Rattle.drawing.specs.Writing.{refused, drawingOf}
 use Rattle.drawing.proofs.StepLaws.{read-fine}
 use Rattle.drawing.proofs.WriteLaws.{says-refused, says-short, says-written, drawing-refused, drawing-made, placed-first}
-use lib.ListN.{length}
-use mathlib.Core.Path.{_≡_, refl, sym, ap, subst, _∙_}
-use Prim.Native.Nat.{ℕ, suc, _+_, _-_, _/_, _%_, _<_, _≤_}
+use mathlib.Core.Path.{_≡_, sym, ap, _∙_}
 use native.Mathlib.Omega.{arith}
 use borrow.Author.Needs.{needs}
 use Rattle.drawing.proofs.write.dot_write.Statement.{statement}
 use Rattle.drawing.proofs.write.dot_write.Tie as tie
-use Rattle.drawing.proofs.write.dot_write.Reads as reads
-use Rattle.drawing.proofs.write.dot_write.Lts as lts
-use Rattle.drawing.proofs.write.full_shape.Reads as full-shape-reads
-use Rattle.drawing.proofs.write.put_text.Reads as put-text-reads
-use Rattle.drawing.proofs.write.text_length.Reads as text-length-reads
-use Rattle.reading.proofs.evidence.steps_from.Reads as steps-from-reads
-use Rattle.records.proofs.program.stop_of.Reads as stop-of-reads
 
--- src/write.rt:131:40
 full-shape-requires : tie.Need-full-shape-requires
 full-shape-requires c κs = search needs
 
--- src/write.rt:131:9
 steps-from-requires : tie.Need-steps-from-requires
 steps-from-requires c κs = search needs
 
--- src/write.rt:132:26
 enum-known-counted : tie.Need-enum-known-counted
 enum-known-counted c = search needs
 
--- src/write.rt:133:13
 enum-told : tie.Need-enum-told
 enum-told c = search needs
 
--- src/write.rt:133:13
 stop-of-requires : tie.Need-stop-of-requires
 stop-of-requires c κs = search needs
 
--- src/write.rt:135:21
 cast-t8 : tie.Need-cast-t8
 cast-t8 c = search needs
 
--- src/write.rt:134:9
 returns : tie.Need-returns
 returns c = let f = c .before .before .before .before .before .before .before .before .args .steps .now in let e : stepsFrom fullShape 256 f 0 ≡ Stopped (c .before .before .enum-told .given .0 .0) = sym (c .before .before .before .before .steps-from .ensures ∙ ap (λ (s : Shape). stepsFrom s 256 f 0) (c .before .before .before .before .before .full-shape .ensures)) ∙ c .before .before .enum-told .given .1 in let r : c .before .stop-of .result ≡ c .before .before .enum-told .given .0 .0 = c .before .stop-of .ensures ∙ ap stopOf (c .before .before .enum-told .given .1) in says-refused (c .before .before .before .before .before .before .before .before .args .out .now) (drawingOf f) (c .before .stop-of .result .number) (c .before .stop-of .result .place) (drawing-refused f (c .before .before .enum-told .given .0 .0) e ∙ ap (λ (x : Refusal). refused (x .number) (x .place)) (sym r))
 
--- src/write.rt:139:9
 text-length-requires : tie.Need-text-length-requires
 text-length-requires c κs = let f = c .before .before .before .before .before .before .before .args .steps .now in let e : stepsFrom fullShape 256 f 0 ≡ Records (c .before .counted .given .0 .0) = sym (c .before .before .before .steps-from .ensures ∙ ap (λ (s : Shape). stepsFrom s 256 f 0) (c .before .before .before .before .full-shape .ensures)) ∙ c .before .counted .given .1 in let n = c .before .counted .given .0 .0 in read-fine f n e
 
--- src/write.rt:141:9
 returns-2 : tie.Need-returns-2
 returns-2 c = let f = c .before .before .before .before .before .before .before .before .before .args .steps .now in let e : stepsFrom fullShape 256 f 0 ≡ Records (c .before .before .before .counted .given .0 .0) = sym (c .before .before .before .before .before .steps-from .ensures ∙ ap (λ (s : Shape). stepsFrom s 256 f 0) (c .before .before .before .before .before .before .full-shape .ensures)) ∙ c .before .before .before .counted .given .1 in let n = c .before .before .before .counted .given .0 .0 in says-short (c .before .before .before .before .before .before .before .before .before .args .out .now) (drawingOf f) (text (stepsOf f 0 n)) (c .before .text-length .result) (drawing-made f n e) (c .before .text-length .ensures) (c .if1 .taken)
 
--- src/write.rt:146:5
 put-text-requires : tie.Need-put-text-requires
 put-text-requires c κs = let f = c .before .before .before .before .before .before .before .before .before .before .args .steps .now in let e : stepsFrom fullShape 256 f 0 ≡ Records (c .before .before .before .before .counted .given .0 .0) = sym (c .before .before .before .before .before .before .steps-from .ensures ∙ ap (λ (s : Shape). stepsFrom s 256 f 0) (c .before .before .before .before .before .before .before .full-shape .ensures)) ∙ c .before .before .before .before .counted .given .1 in let n = c .before .before .before .before .counted .given .0 .0 in (read-fine f n e, omega (arith, c .before .before .text-length .ensures, c .before .if1 .left))
 
--- src/write.rt:127:1
 same-length : tie.Need-same-length
 same-length c = search needs
 
--- src/write.rt:127:1
 returns-3 : tie.Need-returns-3
 returns-3 c = let f = c .before .before .before .before .before .before .before .before .before .before .before .before .before .args .steps .now in let e : stepsFrom fullShape 256 f 0 ≡ Records (c .before .before .before .before .before .before .before .counted .given .0 .0) = sym (c .before .before .before .before .before .before .before .before .before .steps-from .ensures ∙ ap (λ (s : Shape). stepsFrom s 256 f 0) (c .before .before .before .before .before .before .before .before .before .before .full-shape .ensures)) ∙ c .before .before .before .before .before .before .before .counted .given .1 in let n = c .before .before .before .before .before .before .before .counted .given .0 .0 in says-written (c .before .before .before .before .before .before .before .before .before .before .before .before .before .args .out .now) (drawingOf f) (text (stepsOf f 0 n)) _ (c .before .before .before .before .before .text-length .result) (drawing-made f n e) (c .before .before .before .before .before .text-length .ensures) (c .before .before .before .before .if1 .left) (c .before .before .put-text .ensures ∙ placed-first (c .before .before .before .before .before .before .before .before .before .before .before .before .before .args .out .now) (text (stepsOf f 0 n)))
 

@@ -1,49 +1,36 @@
 use native.Mathlib.Numerals.{add-one}
-use Rattle.drawing.proofs.NumberLaws.{decimal-one, decimal-two, decimal-three, decimal-four, decimal-short}
-use Rattle.drawing.specs.Text.{decimal, letters, nodeLine}
-use Rattle.drawing.proofs.LineLaws.{node-parts, node-length, head-length, edge-parts, edge-length, letters-short}
-use Rattle.drawing.proofs.PutLaws.{then-put, put-as}
+use Rattle.drawing.proofs.NumberLaws.{decimal-short}
+use Rattle.drawing.specs.Text.{decimal}
+use Rattle.drawing.proofs.LineLaws.{edge-length, letters-short}
 use lib.ListN.{length}
-use mathlib.Core.Path.{_≡_, refl, sym, ap, subst, _∙_}
-use Prim.Native.Nat.{ℕ, suc, _+_, _-_, _/_, _%_, _<_, _≤_}
+use mathlib.Core.Path.{ap}
+use Prim.Native.Nat.{ℕ, _+_}
 use native.Mathlib.Omega.{arith}
 use borrow.Author.Needs.{needs}
 use Rattle.drawing.proofs.write.edge_length.Statement.{statement}
 use Rattle.drawing.proofs.write.edge_length.Tie as tie
-use Rattle.drawing.proofs.write.edge_length.Reads as reads
-use Rattle.drawing.proofs.write.edge_length.Lts as lts
-use Rattle.drawing.proofs.put.letters_length.Reads as letters-length-reads
-use Rattle.drawing.proofs.put.number_length.Reads as number-length-reads
 
--- src/write.rt:43:10
 number-length-requires : tie.Need-number-length-requires
 number-length-requires c κs = search needs
 
--- src/write.rt:43:5
 add-result : tie.Need-add-result
 add-result c = omega (arith, c .number-length .ensures, decimal-short (c .before .args .k) (omega (arith, c .before .pre .0)))
 
--- src/write.rt:43:43
 add-number-length : tie.Need-add-number-length
 add-number-length c = search needs
 
--- src/write.rt:43:29
 number-length-requires-2 : tie.Need-number-length-requires-2
 number-length-requires-2 c κs = search needs
 
--- src/write.rt:43:5
 add-result-2 : tie.Need-add-result-2
 add-result-2 c = omega (arith, c .before .number-length .ensures, c .number-length2 .ensures, decimal-short (c .before .before .args .k) (omega (arith, c .before .before .pre .0)), decimal-short (c .before .before .args .k + 1) (omega (arith, c .before .before .pre .0)))
 
--- src/write.rt:43:52
 letters-length-requires : tie.Need-letters-length-requires
 letters-length-requires c κs = search needs
 
--- src/write.rt:43:5
 add-result-3 : tie.Need-add-result-3
 add-result-3 c = omega (arith, c .before .before .number-length .ensures, c .before .number-length2 .ensures, c .letters-length .ensures, letters-short (c .before .before .before .args .step) (c .before .before .before .pre .1), decimal-short (c .before .before .before .args .k) (omega (arith, c .before .before .before .pre .0)), decimal-short (c .before .before .before .args .k + 1) (omega (arith, c .before .before .before .pre .0)))
 
--- src/write.rt:39:1
 returns : tie.Need-returns
 returns c = omega (arith, c .before .before .number-length .ensures, c .before .number-length2 .ensures, c .letters-length .ensures, edge-length (c .before .before .before .args .k) (c .before .before .before .args .step), ap (λ (m : ℕ). length (decimal m)) (add-one (c .before .before .before .args .k)))
 

@@ -1,20 +1,14 @@
 use Rattle.drawing.specs.Text.{edgeLine}
 use Rattle.pws.specs.declared.Step.{Step}
-use Rattle.records.specs.Records.{stepBody, stepAt}
 use Rattle.drawing.specs.Runs.{StepInRange}
-use Rattle.drawing.proofs.RowLaws.{NodesPut, nodes-begin, nodes-room, nodes-put, nodes-end, EdgesPut, edges-begin, edges-fine, edges-room, edges-put, edges-end, partly-same}
+use Rattle.drawing.proofs.RowLaws.{EdgesPut, edges-begin, edges-fine, edges-room, edges-put, edges-end, partly-same}
 use lib.ListN.{length}
-use mathlib.Core.Path.{_≡_, refl, sym, ap, subst, _∙_}
-use Prim.Native.Nat.{ℕ, suc, _+_, _-_, _/_, _%_, _<_, _≤_}
+use mathlib.Core.Path.{sym, ap, subst}
+use Prim.Native.Nat.{ℕ, _+_, _-_}
 use native.Mathlib.Omega.{arith}
 use borrow.Author.Needs.{needs}
 use Rattle.drawing.proofs.write.put_edges.Statement.{statement}
 use Rattle.drawing.proofs.write.put_edges.Tie as tie
-use Rattle.drawing.proofs.write.put_edges.Reads as reads
-use Rattle.drawing.proofs.write.put_edges.Lts as lts
-use Rattle.drawing.proofs.write.put_edge.Reads as put-edge-reads
-use Rattle.reading.proofs.evidence.step_at.Reads as step-at-reads
-use Rattle.reading.proofs.evidence.step_body.Reads as step-body-reads
 
 abbrev Inv-loop : tie.InvT-loop
 Inv-loop out₀ start steps n at₀ record₀ k₀ out at «record» k = EdgesPut out₀ start steps n out at «record» k
@@ -22,47 +16,36 @@ Inv-loop out₀ start steps n at₀ record₀ k₀ out at «record» k = EdgesPu
 abbrev μ-loop : tie.MeasureT-loop
 μ-loop out₀ start steps n at₀ record₀ k₀ out at «record» k = n - k
 
--- src/write.rt:94:5
 loop-holds : tie.Need-loop-holds Inv-loop μ-loop
 loop-holds c = edges-begin _ _ _ _ (c .before .before .pre .0) (c .before .before .pre .1)
 
--- src/write.rt:95:35
 step-at-requires : tie.Need-step-at-requires Inv-loop μ-loop
 step-at-requires c κs = search needs
 
--- src/write.rt:95:9
 put-edge-requires : tie.Need-put-edge-requires Inv-loop μ-loop
 put-edge-requires c κs = let v = c .before .before .before .loop .inv in let l = c .before .before .loop-test .taken in let k = c .before .before .before .loop .k in (omega (arith, v .few, l), subst StepInRange (sym (c .step-at .ensures)) (edges-fine v l .1), omega (arith, edges-room v l, ap (λ (s : Step). length (edgeLine k s)) (c .step-at .ensures)))
 
--- src/write.rt:96:23
 step-body-requires : tie.Need-step-body-requires Inv-loop μ-loop
 step-body-requires c κs = search needs
 
--- src/write.rt:96:19
 add-record : tie.Need-add-record Inv-loop μ-loop
 add-record c = let v = c .before .before .before .before .before .before .before .loop .inv in let l = c .before .before .before .before .before .before .loop-test .taken in omega (arith, c .step-body .ensures, edges-fine v l .0)
 
--- src/write.rt:96:9
 add-record-2 : tie.Need-add-record-2 Inv-loop μ-loop
 add-record-2 c = let v = c .before .before .before .before .before .before .before .loop .inv in let l = c .before .before .before .before .before .before .loop-test .taken in omega (arith, c .step-body .ensures, edges-fine v l .0)
 
--- src/write.rt:97:9
 add-k : tie.Need-add-k Inv-loop μ-loop
 add-k c = omega (arith, c .before .before .before .before .before .before .before .loop .inv .few, c .before .before .before .before .before .before .loop-test .taken)
 
--- src/write.rt:94:5
 loop-less : tie.Need-loop-less Inv-loop μ-loop
 loop-less c = omega (arith, c .before .before .before .before .before .before .loop-test .taken)
 
--- src/write.rt:94:5
 loop-again : tie.Need-loop-again Inv-loop μ-loop
 loop-again c = let v = c .before .before .before .before .before .before .before .loop .inv in let l = c .before .before .before .before .before .before .loop-test .taken in let row = c .before .before .before .before .before .before .before .loop .«record» in edges-put v (c .before .before .before .before .step-at .result) (row + (1 + c .step-body .result)) l (c .before .before .before .before .step-at .ensures) (ap (λ (m : ℕ). row + (1 + m)) (c .step-body .ensures)) (c .before .before .before .put-edge .ensures)
 
--- src/write.rt:87:1
 same-length : tie.Need-same-length Inv-loop μ-loop
 same-length c = partly-same (c .before .loop .inv .partly)
 
--- src/write.rt:87:1
 returns : tie.Need-returns Inv-loop μ-loop
 returns c = edges-end (c .before .loop .inv) (c .loop-test .left)
 

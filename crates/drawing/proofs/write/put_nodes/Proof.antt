@@ -1,14 +1,8 @@
-use Rattle.drawing.proofs.RowLaws.{NodesPut, nodes-begin, nodes-room, nodes-put, nodes-end, EdgesPut, edges-begin, edges-fine, edges-room, edges-put, edges-end, partly-same}
-use lib.ListN.{length}
-use mathlib.Core.Path.{_≡_, refl, sym, ap, subst, _∙_}
-use Prim.Native.Nat.{ℕ, suc, _+_, _-_, _/_, _%_, _<_, _≤_}
+use Rattle.drawing.proofs.RowLaws.{NodesPut, nodes-begin, nodes-room, nodes-put, nodes-end, partly-same}
+use Prim.Native.Nat.{_+_, _-_}
 use native.Mathlib.Omega.{arith}
-use borrow.Author.Needs.{needs}
 use Rattle.drawing.proofs.write.put_nodes.Statement.{statement}
 use Rattle.drawing.proofs.write.put_nodes.Tie as tie
-use Rattle.drawing.proofs.write.put_nodes.Reads as reads
-use Rattle.drawing.proofs.write.put_nodes.Lts as lts
-use Rattle.drawing.proofs.put.put_node.Reads as put-node-reads
 
 abbrev Inv-loop : tie.InvT-loop
 Inv-loop out₀ start n at₀ k₀ out at k = NodesPut out₀ start n out at k
@@ -16,31 +10,24 @@ Inv-loop out₀ start n at₀ k₀ out at k = NodesPut out₀ start n out at k
 abbrev μ-loop : tie.MeasureT-loop
 μ-loop out₀ start n at₀ k₀ out at k = n + 1 - k
 
--- src/write.rt:71:5
 loop-holds : tie.Need-loop-holds Inv-loop μ-loop
 loop-holds c = nodes-begin _ _ _ (c .before .pre .0) (c .before .pre .1)
 
--- src/write.rt:72:9
 put-node-requires : tie.Need-put-node-requires Inv-loop μ-loop
 put-node-requires c κs = let v = c .before .before .loop .inv in (omega (arith, v .few, c .before .loop-test .taken), nodes-room v (c .before .loop-test .taken))
 
--- src/write.rt:73:9
 add-k : tie.Need-add-k Inv-loop μ-loop
 add-k c = omega (arith, c .before .before .before .before .before .loop .inv .few, c .before .before .before .before .loop-test .taken)
 
--- src/write.rt:71:5
 loop-less : tie.Need-loop-less Inv-loop μ-loop
 loop-less c = omega (arith, c .before .before .before .before .loop-test .taken)
 
--- src/write.rt:71:5
 loop-again : tie.Need-loop-again Inv-loop μ-loop
 loop-again c = nodes-put (c .before .before .before .before .before .loop .inv) (c .before .before .before .before .loop-test .taken) (c .before .before .put-node .ensures)
 
--- src/write.rt:65:1
 same-length : tie.Need-same-length Inv-loop μ-loop
 same-length c = partly-same (c .before .loop .inv .partly)
 
--- src/write.rt:65:1
 returns : tie.Need-returns Inv-loop μ-loop
 returns c = nodes-end (c .before .loop .inv) (c .loop-test .left)
 
