@@ -9,7 +9,7 @@ all: build
 build:
 	@mkdir -p target
 	@[ -e target/bin/hrafnolt-files ] || echo 'proving and building the judge: some minutes, the first time'
-	@{ rt staticlib judge && rt check hrafnolt && c/build; } >target/make.log 2>&1 || { cat target/make.log; exit 1; }
+	@{ rt staticlib judge && rt staticlib exports && rt check hrafnolt && c/build; } >target/make.log 2>&1 || { cat target/make.log; exit 1; }
 
 test:
 	@.ci/run
