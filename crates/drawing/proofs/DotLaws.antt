@@ -6,27 +6,27 @@ use native.Mathlib.Omega.{arith}
 use lib.ListN.{length}
 use Rattle.drawing.specs.declared.read.NodesRead.the-variants.{Nodes, NoNodes}
 use Rattle.drawing.specs.declared.read.Size.{Size}
-use Rattle.drawing.specs.declared.read.Size.the-variants.{Bytes, Place}
+use Rattle.drawing.specs.declared.read.Size.the-variants.{Bytes, Outside}
 use Rattle.drawing.specs.Runs.{recordsOf}
 use Rattle.drawing.specs.Writing.{made, refused}
 use Rattle.drawing.specs.Accepted.{Reading, run, place}
 use Rattle.drawing.specs.Reading.{edgesAt, nodesRead, readingOf, ofReading, recordsIn, sizeAfter, stepsIn, Readable}
 use Rattle.drawing.proofs.ReadLaws.{nodes-few}
 
-bytes-place : {n p : ℕ} → _≡_ {A = Size} (Bytes n) (Place p) → ⊥
+bytes-place : {n p : ℕ} → _≡_ {A = Size} (Bytes n) (Outside p) → ⊥
 bytes-place e = let z : _≡_ {A = ℕ} 0 1 = cc in omega arith
 
 bytes-same : {n m : ℕ} → _≡_ {A = Size} (Bytes n) (Bytes m) → n ≡ m
 bytes-same e = cc
 
-place-is : {p q : ℕ} → _≡_ {A = Size} (Place p) (Place q) → p ≡ q
+place-is : {p q : ℕ} → _≡_ {A = Size} (Outside p) (Outside q) → p ≡ q
 place-is e = cc
 
 sized-run : (r : Reading) (needed : ℕ) → sizeAfter 0 r ≡ Bytes needed → (r ≡ run (stepsIn r)) × (needed ≡ length (recordsOf (stepsIn r)))
 sized-run (run ss) needed e = let d = bytes-same e in (refl, omega arith)
 sized-run (place p) needed e = absurd (bytes-place (sym e))
 
-sized-place : (r : Reading) (p : ℕ) → sizeAfter 0 r ≡ Place p → r ≡ place p
+sized-place : (r : Reading) (p : ℕ) → sizeAfter 0 r ≡ Outside p → r ≡ place p
 sized-place (run ss) p e = absurd (bytes-place e)
 sized-place (place q) p e = ap place (place-is e)
 
@@ -40,7 +40,7 @@ module _ (t : List ℕ) where
     unfolding recordsIn readingOf
     reading-is r e = rw nodes (ap ofReading e)
 
-    pub no-edges : (p : ℕ) → sizeAfter 0 (edgesAt n t a 0) ≡ Place p → recordsIn t ≡ refused 27 p
+    pub no-edges : (p : ℕ) → sizeAfter 0 (edgesAt n t a 0) ≡ Outside p → recordsIn t ≡ refused 27 p
     no-edges p e = reading-is (place p) (sized-place (edgesAt n t a 0) p e)
 
     module _ (needed : ℕ) (size : sizeAfter 0 (edgesAt n t a 0) ≡ Bytes needed) where

@@ -10,10 +10,10 @@ use borrow.Author.Tests.{ltb-false, le-ltb}
 use Rattle.pws.specs.declared.Step.{Step}
 use Rattle.pws.specs.declared.Step.the-variants.{Take}
 use Rattle.records.specs.Bytes.{choose}
-use Rattle.drawing.specs.declared.read.Way.{Way}
-use Rattle.drawing.specs.declared.read.Way.the-variants.{On, Stuck}
-use Rattle.drawing.specs.declared.read.EdgeRead.{EdgeRead}
-use Rattle.drawing.specs.declared.read.EdgeRead.the-variants.{Edge, NoEdge}
+use Rattle.drawing.specs.declared.word.Way.{Way}
+use Rattle.drawing.specs.declared.word.Way.the-variants.{On, Stuck}
+use Rattle.drawing.specs.declared.label.EdgeRead.{EdgeRead}
+use Rattle.drawing.specs.declared.label.EdgeRead.the-variants.{Edge, NoEdge}
 use Rattle.drawing.specs.Text.{line, letters, edgeLine, edgeLines}
 use Rattle.drawing.specs.Runs.{StepInRange, AllInRange}
 use Rattle.drawing.specs.Parts.{edgeHead, edgeTail}

@@ -12,8 +12,8 @@ use borrow.Author.Tests.{leb-true, le-leb, lt-leb, eqb-false, ne-eqb, not-true}
 use Rattle.pws.specs.declared.Step.{Step}
 use Rattle.pws.specs.declared.Step.the-variants.{Take, Serialise, Update}
 use Rattle.records.specs.Bytes.{choose, byte}
-use Rattle.drawing.specs.declared.read.EdgeRead.{EdgeRead}
-use Rattle.drawing.specs.declared.read.EdgeRead.the-variants.{Edge, NoEdge}
+use Rattle.drawing.specs.declared.label.EdgeRead.{EdgeRead}
+use Rattle.drawing.specs.declared.label.EdgeRead.the-variants.{Edge, NoEdge}
 use Rattle.drawing.specs.Text.{digit, decimal, letters}
 use Rattle.drawing.specs.Runs.{StepInRange}
 use Rattle.drawing.specs.Reading.{has, isDigit, isSmall, valueAt, thirdDigit, secondDigit, numberAt, variableAt, pairAt, processAt, labelAt}

@@ -12,3 +12,4 @@ pub mod ReadLaws
 pub mod ScanLaws
 pub mod DotLaws
 pub mod TripLaws
+pub mod Cases

@@ -10,7 +10,7 @@ use Rattle.records.specs.Records.{stepBody, stepAt}
 use Rattle.reading.specs.EvidencePart.{stepsOf}
 use Rattle.drawing.specs.Text.{decimalIn, decimal, letters, name, line, opening, arrow, labelled, nodeLine, edgeLine, nodeLines, edgeLines, text}
 use Rattle.drawing.specs.Runs.{StepInRange}
-use Rattle.drawing.specs.Parts.{edgeHead, edgeTail, FineFrom, Fine}
+use Rattle.drawing.specs.Parts.{edgeHead, edgeTail, FineFrom, AllFine}
 use Rattle.drawing.proofs.NumberLaws.{decimal-short}
 
 pub node-parts : (k : ℕ) → nodeLine k ≡ 99 ∷ (decimal k ++ (59 ∷ 10 ∷ []))
@@ -118,7 +118,7 @@ pub record Counting (f : List ℕ) (n total at i : ℕ) : Type 0 where
   pub small : total ≤ 20 + 50 * i
   pub rest : total + (length (nodeLines (i + 1) (n - i)) + length (edgeLines i (stepsOf f at (n - i)))) ≡ length (text (stepsOf f 0 n))
 
-pub count-begin : (f : List ℕ) (n : ℕ) → Fine f n → Counting f n 20 0 0
+pub count-begin : (f : List ℕ) (n : ℕ) → AllFine f n → Counting f n 20 0 0
 count-begin f n h =
     let z : n - 0 ≡ n = omega arith in
     record {

@@ -6,8 +6,8 @@ use mathlib.Core.List.{List, [], _∷_, _++_, append-assoc}
 use native.Mathlib.Omega.{arith}
 use lib.ListN.{length, drop, length-append}
 use Rattle.records.specs.Bytes.{choose}
-use Rattle.drawing.specs.declared.read.Way.{Way}
-use Rattle.drawing.specs.declared.read.Way.the-variants.{On, Stuck}
+use Rattle.drawing.specs.declared.word.Way.{Way}
+use Rattle.drawing.specs.declared.word.Way.the-variants.{On, Stuck}
 use Rattle.drawing.specs.declared.read.NodesRead.{NodesRead}
 use Rattle.drawing.specs.declared.read.NodesRead.the-variants.{Nodes, NoNodes}
 use Rattle.drawing.specs.Text.{digit, decimal, nodeLine, nodeLines}

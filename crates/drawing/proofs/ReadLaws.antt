@@ -10,8 +10,8 @@ use lib.Seq.{take-at, take-take, getD-take, length-take-le}
 use borrow.Author.Tests.{lt-ltb}
 use Rattle.pws.specs.declared.Step.{Step}
 use Rattle.records.specs.Bytes.{choose, byte}
-use Rattle.drawing.specs.declared.read.Way.{Way}
-use Rattle.drawing.specs.declared.read.Way.the-variants.{On, Stuck}
+use Rattle.drawing.specs.declared.word.Way.{Way}
+use Rattle.drawing.specs.declared.word.Way.the-variants.{On, Stuck}
 use Rattle.drawing.specs.declared.read.NodesRead.{NodesRead}
 use Rattle.drawing.specs.declared.read.NodesRead.the-variants.{Nodes, NoNodes}
 use Rattle.drawing.specs.Text.{letters, name, arrow, labelled, line, opening, nodeLine, nodeLines, edgeLine, edgeLines, text}

@@ -9,7 +9,7 @@ use Rattle.records.specs.Records.{stepBody, stepAt}
 use Rattle.reading.specs.EvidencePart.{stepsOf}
 use Rattle.drawing.specs.Text.{nodeLine, edgeLine, nodeLines, edgeLines}
 use Rattle.drawing.specs.Runs.{StepInRange}
-use Rattle.drawing.specs.Parts.{Put, FineFrom, Fine}
+use Rattle.drawing.specs.Parts.{Put, FineFrom, AllFine}
 use Rattle.drawing.proofs.PutLaws.{placed-length, then-put, put-as, put-none}
 use Rattle.drawing.proofs.LineLaws.{nodes-next, edges-next, fine-next}
 
@@ -89,7 +89,7 @@ pub record EdgesPut (old : List ℕ) (start : ℕ) (f : List ℕ) (n : ℕ) (new
   pub fine : FineFrom f row (n - k)
   pub partly : Partly old start (edgeLines 0 (stepsOf f 0 n)) new at (edgeLines k (stepsOf f row (n - k)))
 
-pub edges-begin : (old : List ℕ) (start : ℕ) (f : List ℕ) (n : ℕ) → Fine f n → start + length (edgeLines 0 (stepsOf f 0 n)) ≤ length old
+pub edges-begin : (old : List ℕ) (start : ℕ) (f : List ℕ) (n : ℕ) → AllFine f n → start + length (edgeLines 0 (stepsOf f 0 n)) ≤ length old
     → EdgesPut old start f n old start 0 0
 edges-begin old start f n h l =
     let z : n ≡ n - 0 = omega arith in

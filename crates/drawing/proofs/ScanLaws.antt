@@ -7,10 +7,10 @@ use native.Mathlib.Omega.{arith}
 use lib.ListN.{length, length-append}
 use Rattle.pws.specs.declared.Step.{Step}
 use Rattle.pws.specs.declared.Step.the-variants.{Take, Serialise, Update}
-use Rattle.drawing.specs.declared.read.Way.the-variants.{On, Stuck}
-use Rattle.drawing.specs.declared.read.EdgeRead.the-variants.{Edge, NoEdge}
+use Rattle.drawing.specs.declared.word.Way.the-variants.{On, Stuck}
+use Rattle.drawing.specs.declared.label.EdgeRead.the-variants.{Edge, NoEdge}
 use Rattle.drawing.specs.declared.read.NodesRead.the-variants.{Nodes, NoNodes}
-use Rattle.drawing.specs.declared.read.Size.the-variants.{Bytes, Place}
+use Rattle.drawing.specs.declared.read.Size.the-variants.{Bytes, Outside}
 use Rattle.drawing.specs.Text.{nodeLine}
 use Rattle.drawing.specs.Runs.{StepInRange, recordOf, recordsOf}
 use Rattle.drawing.specs.Parts.{placed, Put, edgeHead}
@@ -67,7 +67,7 @@ module _ {t : List ℕ} {start n at total k : ℕ} (p : Sizing t start n at tota
             ∙ size-one l;
       }
 
-  pub size-stop : (q : ℕ) → k < n → edgeAt t at k ≡ NoEdge q → Place q ≡ sizeAfter 0 (edgesAt n t start 0)
+  pub size-stop : (q : ℕ) → k < n → edgeAt t at k ≡ NoEdge q → Outside q ≡ sizeAfter 0 (edgesAt n t start 0)
   size-stop q l e = sym (ap (sizeAfter total) (edges-none t (n - (k + 1)) at k e)) ∙ size-one l
 
   pub size-end : n ≤ k → endSize t at total ≡ sizeAfter 0 (edgesAt n t start 0)

@@ -159,5 +159,5 @@ module _ (f : List ℕ) where
       let z : m - 0 ≡ m = omega arith in
       (r .few, subst (Holds 0) z (r .holds))
 
-  pub read-fine : (m : ℕ) → stepsFrom fullShape 256 f 0 ≡ Records m → parts.Fine f m
+  pub read-fine : (m : ℕ) → stepsFrom fullShape 256 f 0 ≡ Records m → parts.AllFine f m
   read-fine m e = let h = read-holds m e in record { few = h .0; steps = h .1 .fine }

@@ -9,8 +9,8 @@ use lib.Seq.{drop-cons, getD-drop, drop-drop, drop-at}
 use lib.Dec.{eqb, ltb}
 use borrow.Author.Tests.{ltb-true, eqb-true, lt-ltb, eq-eqb}
 use Rattle.records.specs.Bytes.{byte}
-use Rattle.drawing.specs.declared.read.Way.{Way}
-use Rattle.drawing.specs.declared.read.Way.the-variants.{On, Stuck}
+use Rattle.drawing.specs.declared.word.Way.{Way}
+use Rattle.drawing.specs.declared.word.Way.the-variants.{On, Stuck}
 use Rattle.drawing.specs.Reading.{has, expectAt}
 
 pub false-true : _≡_ {A = Bool} false true → ⊥

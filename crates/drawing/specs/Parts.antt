@@ -29,6 +29,6 @@ abbrev pub FineFrom : List ℕ → ℕ → ℕ → Type 0
 FineFrom f at zero = Unit {0}
 FineFrom f at (suc n) = (at + stepBody f at < length f) × StepInRange (stepAt f at) × FineFrom f (at + (1 + stepBody f at)) n
 
-pub record Fine (f : List ℕ) (n : ℕ) : Type 0 where
+pub record AllFine (f : List ℕ) (n : ℕ) : Type 0 where
   pub few : n ≤ 1024
   pub steps : FineFrom f 0 n

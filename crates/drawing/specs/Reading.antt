@@ -8,14 +8,14 @@ use lib.Dec.{eqb, leb, ltb}
 use Rattle.pws.specs.declared.Step.{Step}
 use Rattle.pws.specs.declared.Step.the-variants.{Take, Serialise, Update}
 use Rattle.records.specs.Bytes.{choose, byte}
-use Rattle.drawing.specs.declared.read.Way.{Way}
-use Rattle.drawing.specs.declared.read.Way.the-variants.{On, Stuck}
-use Rattle.drawing.specs.declared.read.EdgeRead.{EdgeRead}
-use Rattle.drawing.specs.declared.read.EdgeRead.the-variants.{Edge, NoEdge}
+use Rattle.drawing.specs.declared.word.Way.{Way}
+use Rattle.drawing.specs.declared.word.Way.the-variants.{On, Stuck}
+use Rattle.drawing.specs.declared.label.EdgeRead.{EdgeRead}
+use Rattle.drawing.specs.declared.label.EdgeRead.the-variants.{Edge, NoEdge}
 use Rattle.drawing.specs.declared.read.NodesRead.{NodesRead}
 use Rattle.drawing.specs.declared.read.NodesRead.the-variants.{Nodes, NoNodes}
 use Rattle.drawing.specs.declared.read.Size.{Size}
-use Rattle.drawing.specs.declared.read.Size.the-variants.{Bytes, Place}
+use Rattle.drawing.specs.declared.read.Size.the-variants.{Bytes, Outside}
 use Rattle.drawing.specs.Text.{line, opening, nodeLine}
 use Rattle.drawing.specs.Runs.{recordsOf}
 use Rattle.drawing.specs.Writing.{Made, made, refused}
@@ -143,7 +143,7 @@ recordsIn t = ofReading (readingOf t)
 -- how many bytes they take, after those of the steps before
 abbrev pub sizeAfter : ℕ → Reading → Size
 sizeAfter n (run ss) = Bytes (n + length (recordsOf ss))
-sizeAfter n (place p) = Place p
+sizeAfter n (place p) = Outside p
 
 unfoldable pub endSize : List ℕ → ℕ → ℕ → Size
 endSize t at n = sizeAfter n (ending t (expectAt t at (line (125 ∷ []))))
@@ -164,7 +164,7 @@ nodesPlace (NoNodes p) = p
 
 abbrev pub sizePlace : Size → ℕ
 sizePlace (Bytes n) = 0
-sizePlace (Place p) = p
+sizePlace (Outside p) = p
 
 abbrev pub stepsIn : Reading → List Step
 stepsIn (run ss) = ss

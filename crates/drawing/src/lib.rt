@@ -1,7 +1,9 @@
 // Runs as drawings (request N12): step records to DOT text, and the text back to step records.
 
+mod label;
 mod put;
 mod read;
+mod word;
 mod write;
 
 pub use read::dot_read;

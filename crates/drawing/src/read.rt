@@ -7,27 +7,18 @@ ghost use Rattle.drawing.specs.Text.{line, opening, nodeLine};
 ghost use Rattle.drawing.specs.Runs.{StepInRange, recordOf, recordsOf};
 ghost use Rattle.drawing.specs.Writing.{answered, leftIn};
 ghost use Rattle.drawing.specs.Parts.{placed, Put, edgeHead};
-ghost use Rattle.drawing.specs.Reading.{has, expectAt, isDigit, isSmall, valueAt, thirdDigit, secondDigit, numberAt, variableAt, pairAt, processAt, labelAt, edgeAt, edgesAt, nodesAt, moreAt, nodesRead, recordsIn, sizeAfter, edgeEnd, endSize, wayPlace, edgePlace, nodesPlace, sizePlace, stepsIn, Readable};
+ghost use Rattle.drawing.specs.Reading.{expectAt, edgeAt, edgesAt, nodesAt, moreAt, nodesRead, recordsIn, sizeAfter, edgeEnd, endSize, edgePlace, nodesPlace, sizePlace, stepsIn, Readable};
 use crate::Written;
+use crate::label::EdgeRead;
+use crate::label::label_at;
 use crate::put::put;
 use crate::put::put_head;
 use crate::put::put_node;
+use crate::word::Way;
+use crate::word::expect;
+use crate::word::has;
+use crate::word::way_place;
 use pws::Step;
-use records::bytes::both;
-use records::bytes::byte_at;
-use records::bytes::wide;
-
-// The place after what was expected, or where it is missing.
-pub enum Way {
-    On(usize),
-    Stuck(usize),
-}
-
-// An edge's step and the place after it, or where something else stands.
-pub enum EdgeRead {
-    Edge { step: Step, next: usize },
-    NoEdge(usize),
-}
 
 // How many edges there are to be and where they begin, or where no node's line goes on.
 pub enum NodesRead {
@@ -38,153 +29,7 @@ pub enum NodesRead {
 // How many bytes the step records take, or where the text is wrong.
 pub enum Size {
     Bytes(usize),
-    Place(usize),
-}
-
-fn has(text: &[u8], at: usize, c: u8) -> bool
-    ensures { λ r. ⌜ r ≡ has (now (text .entry)) at c ⌝ }
-{
-    if at < text.len() {
-        text[at] == c
-    } else {
-        false
-    }
-}
-
-fn expect(text: &[u8], start: usize, word: &[u8]) -> Way
-    ensures { λ r. ⌜ r ≡ expectAt (now (text .entry)) start (now (word .entry)) ⌝ }
-{
-    let mut at = start;
-    let mut i = 0;
-    while i < word.len() {
-        if has(text, at, word[i]) {
-            at += 1;
-            i += 1;
-        } else {
-            return Way::Stuck(at);
-        }
-    }
-    Way::On(at)
-}
-
-// ---- a step's letters
-
-fn is_digit(text: &[u8], at: usize) -> bool
-    ensures { λ r. ⌜ r ≡ isDigit (now (text .entry)) at ⌝ }
-{
-    let b = byte_at(text, at);
-    both(48 <= b, b <= 57)
-}
-
-fn is_small(text: &[u8], at: usize) -> bool
-    ensures { λ r. ⌜ r ≡ isSmall (now (text .entry)) at ⌝ }
-{
-    let b = byte_at(text, at);
-    both(48 <= b, b <= 51)
-}
-
-fn value_at(text: &[u8], at: usize) -> usize
-    ensures { λ r. ⌜ (r ≡ valueAt (now (text .entry)) at) × (r < 256) ⌝ }
-{
-    let b = wide(byte_at(text, at));
-    if b < 48 { 0 } else { b - 48 }
-}
-
-fn third_digit(text: &[u8], at: usize, b: usize) -> EdgeRead
-    requires { ⌜ (at ≤ length (now text) + 3) × (b < 5000) ⌝ }
-    ensures { λ r. ⌜ r ≡ thirdDigit (now (text .entry)) at b ⌝ }
-{
-    let c = 10 * b + value_at(text, at);
-    if both(is_digit(text, at), c <= 255) {
-        return EdgeRead::Edge {
-            step: Step::Take { transition: c },
-            next: at + 1,
-        };
-    }
-    EdgeRead::Edge {
-        step: Step::Take { transition: b },
-        next: at,
-    }
-}
-
-fn second_digit(text: &[u8], at: usize, a: usize) -> EdgeRead
-    requires { ⌜ (at ≤ length (now text) + 2) × (a < 256) ⌝ }
-    ensures { λ r. ⌜ r ≡ secondDigit (now (text .entry)) at a ⌝ }
-{
-    if both(a != 0, is_digit(text, at)) {
-        return third_digit(text, at + 1, 10 * a + value_at(text, at));
-    }
-    EdgeRead::Edge {
-        step: Step::Take { transition: a },
-        next: at,
-    }
-}
-
-fn number_at(text: &[u8], at: usize) -> EdgeRead
-    requires { ⌜ at ≤ length (now text) + 1 ⌝ }
-    ensures { λ r. ⌜ r ≡ numberAt (now (text .entry)) at ⌝ }
-{
-    if is_digit(text, at) {
-        return second_digit(text, at + 1, value_at(text, at));
-    }
-    EdgeRead::NoEdge(at)
-}
-
-fn variable_at(text: &[u8], at: usize, p: usize) -> EdgeRead
-    requires { ⌜ at ≤ length (now text) + 2 ⌝ }
-    ensures { λ r. ⌜ r ≡ variableAt (now (text .entry)) at p ⌝ }
-{
-    if is_small(text, at) {
-        return EdgeRead::Edge {
-            step: Step::Serialise {
-                process: p,
-                variable: value_at(text, at),
-            },
-            next: at + 1,
-        };
-    }
-    EdgeRead::NoEdge(at)
-}
-
-fn pair_at(text: &[u8], at: usize) -> EdgeRead
-    requires { ⌜ at ≤ length (now text) + 1 ⌝ }
-    ensures { λ r. ⌜ r ≡ pairAt (now (text .entry)) at ⌝ }
-{
-    if is_small(text, at) {
-        return variable_at(text, at + 1, value_at(text, at));
-    }
-    EdgeRead::NoEdge(at)
-}
-
-fn process_at(text: &[u8], at: usize) -> EdgeRead
-    requires { ⌜ at ≤ length (now text) + 1 ⌝ }
-    ensures { λ r. ⌜ r ≡ processAt (now (text .entry)) at ⌝ }
-{
-    if is_small(text, at) {
-        return EdgeRead::Edge {
-            step: Step::Update {
-                process: value_at(text, at),
-            },
-            next: at + 1,
-        };
-    }
-    EdgeRead::NoEdge(at)
-}
-
-fn label_at(text: &[u8], at: usize) -> EdgeRead
-    requires { ⌜ at ≤ length (now text) ⌝ }
-    ensures { λ r. ⌜ r ≡ labelAt (now (text .entry)) at ⌝ }
-{
-    if has(text, at, b't') {
-        return number_at(text, at + 1);
-    }
-    if has(text, at, b's') {
-        return pair_at(text, at + 1);
-    }
-    if has(text, at, b'u') {
-        return process_at(text, at + 1);
-    }
-    EdgeRead::NoEdge(at)
+    Outside(usize),
 }
 
 // ---- the lines
@@ -205,15 +50,6 @@ fn expect_head(text: &[u8], at: usize, k: usize) -> Way
     let mut line = [0u8; 32];
     let n = put_head(&mut line, 0, k);
     expect(text, at, &line[..n])
-}
-
-fn way_place(way: Way) -> usize
-    ensures { λ r. ⌜ r ≡ wayPlace way ⌝ }
-{
-    match way {
-        Way::On(_) => 0,
-        Way::Stuck(p) => p,
-    }
 }
 
 fn edge_place(edge: EdgeRead) -> usize
@@ -275,10 +111,10 @@ fn end_size(text: &[u8], at: usize, total: usize) -> Size
 {
     let way = expect(text, at, &[b'}', b'\n']);
     let Way::On(end) = way else {
-        return Size::Place(way_place(way));
+        return Size::Outside(way_place(way));
     };
     if end < text.len() {
-        return Size::Place(end);
+        return Size::Outside(end);
     }
     Size::Bytes(total)
 }
@@ -294,7 +130,7 @@ fn edges_size(text: &[u8], start: usize, n: usize) -> Size
     while k < n {
         let edge = edge_at(text, at, k);
         let EdgeRead::Edge { step, next } = edge else {
-            return Size::Place(edge_place(edge));
+            return Size::Outside(edge_place(edge));
         };
         total += record_size(step);
         at = next;
@@ -434,7 +270,7 @@ fn size_place(size: Size) -> usize
 {
     match size {
         Size::Bytes(_) => 0,
-        Size::Place(p) => p,
+        Size::Outside(p) => p,
     }
 }
 

@@ -7,7 +7,7 @@ ghost use Rattle.reading.specs.EvidencePart.{stepsOf};
 ghost use Rattle.drawing.specs.Text.{line, opening, nodeLines, edgeLine, edgeLines, text};
 ghost use Rattle.drawing.specs.Runs.{fullShape, StepInRange};
 ghost use Rattle.drawing.specs.Writing.{drawingOf, answered, leftIn};
-ghost use Rattle.drawing.specs.Parts.{placed, Put, Fine};
+ghost use Rattle.drawing.specs.Parts.{placed, Put, AllFine};
 use crate::Written;
 use crate::put::letters_length;
 use crate::put::number_length;
@@ -44,7 +44,7 @@ fn edge_length(k: usize, step: Step) -> usize
 }
 
 fn text_length(steps: &[u8], n: usize) -> usize
-    requires { ⌜ Fine (now steps) n ⌝ }
+    requires { ⌜ AllFine (now steps) n ⌝ }
     ensures { λ r. ⌜ r ≡ length (text (stepsOf (now (steps .entry)) 0 n)) ⌝ }
 {
     let mut total = 20;
@@ -85,7 +85,7 @@ fn put_edge(out: &mut [u8], at: usize, k: usize, step: Step) -> usize
 }
 
 fn put_edges(out: &mut [u8], start: usize, steps: &[u8], n: usize) -> usize
-    requires { ⌜ Fine (now steps) n × (start + length (edgeLines 0 (stepsOf (now steps) 0 n)) ≤ length (now out)) ⌝ }
+    requires { ⌜ AllFine (now steps) n × (start + length (edgeLines 0 (stepsOf (now steps) 0 n)) ≤ length (now out)) ⌝ }
     ensures { λ r. ⌜ Put (now (out .entry)) (now (out .exit)) start r (edgeLines 0 (stepsOf (now (steps .entry)) 0 n)) ⌝ }
 {
     let mut at = start;
@@ -127,7 +127,7 @@ fn put_opening(out: &mut [u8]) -> usize
 }
 
 fn put_text(out: &mut [u8], steps: &[u8], n: usize)
-    requires { ⌜ Fine (now steps) n × (length (text (stepsOf (now steps) 0 n)) ≤ length (now out)) ⌝ }
+    requires { ⌜ AllFine (now steps) n × (length (text (stepsOf (now steps) 0 n)) ≤ length (now out)) ⌝ }
     ensures { λ _. ⌜ now (out .exit) ≡ placed (now (out .entry)) 0 (text (stepsOf (now (steps .entry)) 0 n)) ⌝ }
 {
     let a = put_opening(out);

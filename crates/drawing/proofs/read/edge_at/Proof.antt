@@ -1,5 +1,5 @@
 use Rattle.drawing.proofs.ScanLaws.{head-within}
-use Rattle.drawing.specs.declared.read.EdgeRead.the-variants.{NoEdge}
+use Rattle.drawing.specs.declared.label.EdgeRead.the-variants.{NoEdge}
 use Rattle.drawing.specs.Reading.{edgeAt, wayPlace}
 use mathlib.Core.Path.{sym, ap, _∙_}
 use borrow.Author.Needs.{needs}

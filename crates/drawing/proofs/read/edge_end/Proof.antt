@@ -1,4 +1,4 @@
-use Rattle.drawing.specs.declared.read.EdgeRead.the-variants.{NoEdge}
+use Rattle.drawing.specs.declared.label.EdgeRead.the-variants.{NoEdge}
 use Rattle.drawing.specs.Reading.{edgeEnd, wayPlace}
 use mathlib.Core.Path.{sym, ap, _∙_}
 use borrow.Author.Needs.{needs}

@@ -1,5 +1,5 @@
 use Rattle.drawing.proofs.ScanLaws.{record-short, Sizing, size-begin, size-next, size-stop, size-end}
-use Rattle.drawing.specs.declared.read.Size.the-variants.{Place}
+use Rattle.drawing.specs.declared.read.Size.the-variants.{Outside}
 use Rattle.drawing.specs.Reading.{edgePlace}
 use mathlib.Core.Path.{sym, ap, _∙_}
 use Prim.Native.Nat.{_-_}
@@ -30,7 +30,7 @@ edge-place-requires : tie.Need-edge-place-requires Inv-loop μ-loop
 edge-place-requires c κs = search needs
 
 returns : tie.Need-returns Inv-loop μ-loop
-returns c = let e = sym (c .before .before .before .edge-at .ensures) ∙ c .before .enum-told .given .1 in ap Place (c .edge-place .ensures ∙ ap edgePlace (c .before .enum-told .given .1)) ∙ size-stop (c .before .before .before .before .before .loop .inv) _ (c .before .before .before .before .loop-test .taken) e
+returns c = let e = sym (c .before .before .before .edge-at .ensures) ∙ c .before .enum-told .given .1 in ap Outside (c .edge-place .ensures ∙ ap edgePlace (c .before .enum-told .given .1)) ∙ size-stop (c .before .before .before .before .before .loop .inv) _ (c .before .before .before .before .loop-test .taken) e
 
 record-size-requires : tie.Need-record-size-requires Inv-loop μ-loop
 record-size-requires c κs = search needs

@@ -1,6 +1,6 @@
 use Rattle.drawing.specs.Runs.{recordsOf}
 use borrow.Author.Tests.{lt-ltb, le-ltb}
-use Rattle.drawing.specs.declared.read.Size.the-variants.{Bytes, Place}
+use Rattle.drawing.specs.declared.read.Size.the-variants.{Bytes, Outside}
 use Rattle.drawing.specs.Reading.{endSize, wayPlace}
 use mathlib.Core.Path.{_≡_, sym, ap, _∙_}
 use Prim.Native.Nat.{_+_}
@@ -26,7 +26,7 @@ way-place-requires c κs = search needs
 
 returns : tie.Need-returns
 unfolding endSize recordsOf
-returns c = rw (sym (c .before .before .before .expect .ensures) ∙ c .before .enum-told .given .1) (ap Place (c .way-place .ensures ∙ ap wayPlace (c .before .enum-told .given .1)))
+returns c = rw (sym (c .before .before .before .expect .ensures) ∙ c .before .enum-told .given .1) (ap Outside (c .way-place .ensures ∙ ap wayPlace (c .before .enum-told .given .1)))
 
 returns-2 : tie.Need-returns-2
 unfolding endSize recordsOf

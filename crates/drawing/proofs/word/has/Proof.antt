@@ -1,8 +1,8 @@
 use borrow.Author.Tests.{lt-ltb, le-ltb}
 use Rattle.drawing.specs.Reading.{has}
 use borrow.Author.Needs.{needs}
-use Rattle.drawing.proofs.read.has.Statement.{statement}
-use Rattle.drawing.proofs.read.has.Tie as tie
+use Rattle.drawing.proofs.word.has.Statement.{statement}
+use Rattle.drawing.proofs.word.has.Tie as tie
 
 shared-slice-read-result : tie.Need-shared-slice-read-result
 shared-slice-read-result c = search needs

@@ -3,8 +3,8 @@ use mathlib.Core.Path.{ap, _∙_}
 use Prim.Native.Nat.{ℕ, _-_}
 use native.Mathlib.Omega.{arith}
 use borrow.Author.Needs.{needs}
-use Rattle.drawing.proofs.read.value_at.Statement.{statement}
-use Rattle.drawing.proofs.read.value_at.Tie as tie
+use Rattle.drawing.proofs.label.value_at.Statement.{statement}
+use Rattle.drawing.proofs.label.value_at.Tie as tie
 
 byte-at-requires : tie.Need-byte-at-requires
 byte-at-requires c κs = search needs

@@ -3,8 +3,8 @@ use mathlib.Core.Path.{_≡_, sym, ap, _∙_}
 use Prim.Native.Nat.{ℕ, _+_, _*_}
 use native.Mathlib.Omega.{arith}
 use borrow.Author.Needs.{needs}
-use Rattle.drawing.proofs.read.third_digit.Statement.{statement}
-use Rattle.drawing.proofs.read.third_digit.Tie as tie
+use Rattle.drawing.proofs.label.third_digit.Statement.{statement}
+use Rattle.drawing.proofs.label.third_digit.Tie as tie
 
 mul-c : tie.Need-mul-c
 mul-c c = search needs

@@ -1,12 +1,12 @@
 use Rattle.pws.specs.declared.Step.the-variants.{Serialise}
-use Rattle.drawing.specs.declared.read.EdgeRead.the-variants.{Edge}
+use Rattle.drawing.specs.declared.label.EdgeRead.the-variants.{Edge}
 use Rattle.drawing.specs.Reading.{variableAt}
 use mathlib.Core.Path.{sym, ap, _∙_}
 use Prim.Native.Nat.{ℕ, _+_}
 use native.Mathlib.Omega.{arith}
 use borrow.Author.Needs.{needs}
-use Rattle.drawing.proofs.read.variable_at.Statement.{statement}
-use Rattle.drawing.proofs.read.variable_at.Tie as tie
+use Rattle.drawing.proofs.label.variable_at.Statement.{statement}
+use Rattle.drawing.proofs.label.variable_at.Tie as tie
 
 is-small-requires : tie.Need-is-small-requires
 is-small-requires c κs = search needs

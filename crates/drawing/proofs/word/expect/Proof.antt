@@ -5,8 +5,8 @@ use mathlib.Core.Path.{refl, sym, _∙_}
 use Prim.Native.Nat.{_-_}
 use native.Mathlib.Omega.{arith}
 use borrow.Author.Needs.{needs}
-use Rattle.drawing.proofs.read.expect.Statement.{statement}
-use Rattle.drawing.proofs.read.expect.Tie as tie
+use Rattle.drawing.proofs.word.expect.Statement.{statement}
+use Rattle.drawing.proofs.word.expect.Tie as tie
 
 abbrev Inv-loop : tie.InvT-loop
 Inv-loop text start word at₀ i₀ at i = Expecting text start word at i

@@ -3,8 +3,8 @@ use mathlib.Core.Path.{sym, ap, _∙_}
 use Prim.Native.Nat.{ℕ, _+_}
 use native.Mathlib.Omega.{arith}
 use borrow.Author.Needs.{needs}
-use Rattle.drawing.proofs.read.pair_at.Statement.{statement}
-use Rattle.drawing.proofs.read.pair_at.Tie as tie
+use Rattle.drawing.proofs.label.pair_at.Statement.{statement}
+use Rattle.drawing.proofs.label.pair_at.Tie as tie
 
 is-small-requires : tie.Need-is-small-requires
 is-small-requires c κs = search needs

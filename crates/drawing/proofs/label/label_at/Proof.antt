@@ -2,8 +2,8 @@ use Rattle.drawing.specs.Reading.{has, labelAt}
 use mathlib.Core.Path.{sym, _∙_}
 use native.Mathlib.Omega.{arith}
 use borrow.Author.Needs.{needs}
-use Rattle.drawing.proofs.read.label_at.Statement.{statement}
-use Rattle.drawing.proofs.read.label_at.Tie as tie
+use Rattle.drawing.proofs.label.label_at.Statement.{statement}
+use Rattle.drawing.proofs.label.label_at.Tie as tie
 
 has-requires : tie.Need-has-requires
 has-requires c κs = search needs

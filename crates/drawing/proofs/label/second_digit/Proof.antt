@@ -3,8 +3,8 @@ use mathlib.Core.Path.{sym, ap, _∙_}
 use Prim.Native.Nat.{ℕ, _+_, _*_}
 use native.Mathlib.Omega.{arith}
 use borrow.Author.Needs.{needs}
-use Rattle.drawing.proofs.read.second_digit.Statement.{statement}
-use Rattle.drawing.proofs.read.second_digit.Tie as tie
+use Rattle.drawing.proofs.label.second_digit.Statement.{statement}
+use Rattle.drawing.proofs.label.second_digit.Tie as tie
 
 is-digit-requires : tie.Need-is-digit-requires
 is-digit-requires c κs = search needs

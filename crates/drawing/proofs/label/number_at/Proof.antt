@@ -3,8 +3,8 @@ use mathlib.Core.Path.{sym, ap, _∙_}
 use Prim.Native.Nat.{ℕ, _+_}
 use native.Mathlib.Omega.{arith}
 use borrow.Author.Needs.{needs}
-use Rattle.drawing.proofs.read.number_at.Statement.{statement}
-use Rattle.drawing.proofs.read.number_at.Tie as tie
+use Rattle.drawing.proofs.label.number_at.Statement.{statement}
+use Rattle.drawing.proofs.label.number_at.Tie as tie
 
 is-digit-requires : tie.Need-is-digit-requires
 is-digit-requires c κs = search needs
