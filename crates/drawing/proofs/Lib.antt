@@ -13,3 +13,4 @@ pub mod ScanLaws
 pub mod DotLaws
 pub mod TripLaws
 pub mod Cases
+pub mod ShownLaws

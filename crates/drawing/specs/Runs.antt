@@ -1,8 +1,10 @@
 -- Runs as step records (document 01, "Records", kinds 20 to 22), for a program of full shape: four processes, four variables, 256
 -- transitions; up to 1,024 steps.
 use Prim.Native.Nat.{ℕ, _<_, _≤_}
+use mathlib.Core.Bool.{Bool, _&&_}
 use mathlib.Core.List.{List, [], _∷_, _++_}
 use lib.ListN.{length}
+use lib.Dec.{ltb}
 use Rattle.pws.specs.declared.Step.{Step}
 use Rattle.pws.specs.declared.Step.the-variants.{Take, Serialise, Update}
 use Rattle.records.specs.declared.program.Shape.{Shape}
@@ -15,6 +17,11 @@ abbrev pub StepInRange : Step → Type 0
 StepInRange (Take n) = n < 256
 StepInRange (Serialise p v) = (p < 4) × (v < 4)
 StepInRange (Update p) = p < 4
+
+abbrev pub inRange : Step → Bool
+inRange (Take n) = ltb n 256
+inRange (Serialise p v) = ltb p 4 && ltb v 4
+inRange (Update p) = ltb p 4
 
 abbrev pub AllInRange : List Step → Type 0
 AllInRange [] = Unit {0}

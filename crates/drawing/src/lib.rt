@@ -6,6 +6,7 @@ mod read;
 mod word;
 mod write;
 
+pub use put::step_letters;
 pub use read::dot_read;
 pub use write::dot_write;
 

@@ -2,11 +2,13 @@
 ghost use mathlib.Core.Path.{_≡_};
 ghost use mathlib.Core.List.{_++_};
 ghost use Prim.Native.Nat.{_+_, _≤_, _<_};
-ghost use lib.ListN.{length};
+ghost use lib.ListN.{length, drop};
 ghost use Rattle.drawing.specs.Text.{decimal, letters, nodeLine};
-ghost use Rattle.drawing.specs.Runs.{StepInRange};
+ghost use Rattle.drawing.specs.Runs.{StepInRange, inRange};
+ghost use Rattle.drawing.specs.Writing.{shown};
 ghost use Rattle.drawing.specs.Parts.{Put, edgeHead};
 use pws::Step;
+use records::bytes::both;
 
 // The word goes to a place in the slice, and the place after it is handed back.
 pub fn put(out: &mut [u8], at: usize, word: &[u8]) -> usize
@@ -96,6 +98,29 @@ pub fn letters_length(step: Step) -> usize
         } => 3,
         Step::Update { process: _ } => 2,
     }
+}
+
+fn in_range(step: Step) -> bool
+    ensures { λ r. ⌜ r ≡ inRange step ⌝ }
+{
+    match step {
+        Step::Take { transition } => transition < 256,
+        Step::Serialise { process, variable } => both(process < 4, variable < 4),
+        Step::Update { process } => process < 4,
+    }
+}
+
+// The letters of one step at the start of a slice, and their number; nothing, and 0, where the step is out of range or they don't fit.
+pub fn step_letters(step: Step, out: &mut [u8]) -> usize
+    ensures { λ r. ⌜ r ≡ length (shown (length (now (out .entry))) step) ⌝ }
+    ensures { λ r. ⌜ now (out .exit) ≡ shown (length (now (out .entry))) step ++ drop (length (shown (length (now (out .entry))) step)) (now (out .entry)) ⌝ }
+{
+    if in_range(step) {
+        if letters_length(step) <= out.len() {
+            return put_letters(out, 0, step);
+        }
+    }
+    0
 }
 
 // `c0;` and the line's end.
