@@ -50,6 +50,28 @@ static inline size_t hrafnolt_work_enough(size_t file_len)
  * the rest is as it was; after refusal 8 all of it is as it was. The file is only read. */
 struct hrafnolt_verdict hrafnolt_judge(const uint8_t *file, size_t file_len, uint8_t *work, size_t work_len);
 
+/* ---- runs as drawings (request N12)
+ *
+ * number 0: value bytes were written, at the start of out. Else the number of a refusal, and its place: nothing was written.
+ * Bytes of out past those written are never touched. */
+struct hrafnolt_written {
+    uint64_t number, value;
+};
+
+/* Output that is long enough for each drawing, and for the step records of each. */
+#define HRAFNOLT_DOT_MOST ((size_t)33560)
+#define HRAFNOLT_STEPS_MOST ((size_t)(3 * 1024))
+
+/* Step records (20, 21, 22) to DOT text. Bad records are 2, 1, 5 or 4 with the record's offset, as the judge says for a program of four
+ * processes, four variables and 256 transitions; an output too short is 26 with the bytes needed.
+ * The pointers are not null, each names as many bytes as its length says (at most PTRDIFF_MAX), those of out set to something, and the two
+ * don't overlap. */
+struct hrafnolt_written hrafnolt_dot_write(const uint8_t *steps, size_t steps_len, uint8_t *out, size_t out_len);
+
+/* DOT text, exactly as hrafnolt_dot_write makes it, back to step records. Any other text is 27 with the offset of the first byte that no
+ * such text has after the same beginning, or the text's length if it stops early; an output too short is 26 with the bytes needed. */
+struct hrafnolt_written hrafnolt_dot_read(const uint8_t *text, size_t text_len, uint8_t *out, size_t out_len);
+
 #ifdef __cplusplus
 }
 #endif
