@@ -1,9 +1,7 @@
 use mathlib.Core.Path.{refl, sym, _∙_}
-use borrow.Author.Tests.{not-true, not-false, le-leb, lt-leb, lt-ltb, le-ltb, eq-eqb, ne-eqb}
-use native.Mathlib.Omega.{arith}
+use borrow.Author.Tests.{not-true, not-false, lt-ltb, le-ltb}
 use borrow.Author.Needs.{needs}
-use Rattle.figures.specs.Collections.{plausible, addOther}
-use Rattle.figures.proofs.Bounds.{plausible-bounds}
+use Rattle.figures.specs.Collections.{addOther}
 use Rattle.figures.proofs.add_other.Statement.{statement}
 use Rattle.figures.proofs.add_other.Tie as tie
 

@@ -1,8 +1,8 @@
 use mathlib.Core.Path.{refl, sym, _∙_}
-use borrow.Author.Tests.{not-true, not-false, le-leb, lt-leb, lt-ltb, le-ltb, eq-eqb, ne-eqb}
+use borrow.Author.Tests.{not-true, not-false, le-leb, lt-leb, lt-ltb, le-ltb}
 use native.Mathlib.Omega.{arith}
 use borrow.Author.Needs.{needs}
-use Rattle.figures.specs.Collections.{plausible, addSafe}
+use Rattle.figures.specs.Collections.{addSafe}
 use Rattle.figures.proofs.Bounds.{plausible-bounds, entries-square}
 use Rattle.figures.proofs.add_safe.Statement.{statement}
 use Rattle.figures.proofs.add_safe.Tie as tie

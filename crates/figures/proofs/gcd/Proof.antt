@@ -1,4 +1,4 @@
-use Prim.Native.Nat.{ℕ, _%_}
+use Prim.Native.Nat.{ℕ}
 use native.Mathlib.Nat.{mod-lt, pos-of-ne-zero}
 use borrow.Author.Needs.{needs}
 use Rattle.figures.proofs.Divisors.{Greatest, greatest-unique, greatest-end, greatest-step, gcd-greatest}

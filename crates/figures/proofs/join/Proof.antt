@@ -1,8 +1,8 @@
 use mathlib.Core.Path.{refl, sym, _∙_}
-use borrow.Author.Tests.{not-true, not-false, le-leb, lt-leb, lt-ltb, le-ltb, eq-eqb, ne-eqb}
+use borrow.Author.Tests.{not-true, not-false, le-leb, lt-leb}
 use native.Mathlib.Omega.{arith}
 use borrow.Author.Needs.{needs}
-use Rattle.figures.specs.Collections.{plausible, join}
+use Rattle.figures.specs.Collections.{join}
 use Rattle.figures.proofs.Bounds.{plausible-bounds}
 use Rattle.figures.proofs.join.Statement.{statement}
 use Rattle.figures.proofs.join.Tie as tie

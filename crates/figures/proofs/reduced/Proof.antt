@@ -9,10 +9,10 @@ gcd-requires : tie.Need-gcd-requires
 gcd-requires c κs = search needs
 
 div-t4 : tie.Need-div-t4
-div-t4 c = rw (c .gcd .ensures) (gcd-positive (c .before .args .x) (c .before .args .y) (c .before .pre))
+div-t4 c = rw (c .gcd .ensures) (gcd-positive _ _ (c .before .pre))
 
 div-t5 : tie.Need-div-t5
-div-t5 c = rw (c .gcd .ensures) (gcd-positive (c .before .args .x) (c .before .args .y) (c .before .pre))
+div-t5 c = rw (c .gcd .ensures) (gcd-positive _ _ (c .before .pre))
 
 returns : tie.Need-returns
 unfolding reduced

@@ -1,9 +1,9 @@
-use mathlib.Core.Path.{refl, sym, _∙_}
-use native.Mathlib.Nat.{mul-pos, pos-of-ne-zero}
-use borrow.Author.Tests.{not-true, not-false, le-leb, lt-leb, lt-ltb, le-ltb, eq-eqb, ne-eqb}
+use mathlib.Core.Path.{sym, _∙_}
+use native.Mathlib.Nat.{mul-pos}
+use borrow.Author.Tests.{not-true, not-false, eq-eqb, ne-eqb}
 use native.Mathlib.Omega.{arith}
 use borrow.Author.Needs.{needs}
-use Rattle.figures.specs.Collections.{plausible, varianceOf}
+use Rattle.figures.specs.Collections.{varianceOf}
 use Rattle.figures.proofs.Bounds.{plausible-bounds, square-fits, product-fits}
 use Rattle.figures.proofs.variance.Statement.{statement}
 use Rattle.figures.proofs.variance.Tie as tie
@@ -35,10 +35,10 @@ sub-reduced : tie.Need-sub-reduced
 sub-reduced c = (plausible-bounds (c .before .before .before .before .before .before .args .c) (sym (c .before .before .before .before .before .is-plausible .ensures) ∙ not-false _ (c .before .before .before .before .if1 .left))) .difference
 
 mul-reduced-3 : tie.Need-mul-reduced-3
-mul-reduced-3 c = let b = plausible-bounds (c .before .before .before .before .before .before .before .args .c) (sym (c .before .before .before .before .before .before .is-plausible .ensures) ∙ not-false _ (c .before .before .before .before .before .if1 .left)) in record { fits = square-fits _ (omega arith) }
+mul-reduced-3 c = let b = plausible-bounds (c .before .before .before .before .before .before .before .args .c) (sym (c .before .before .before .before .before .before .is-plausible .ensures) ∙ not-false _ (c .before .before .before .before .before .if1 .left)) in record { fits = product-fits _ _ (omega arith) (omega arith) }
 
 reduced-requires : tie.Need-reduced-requires
-reduced-requires c κs = mul-pos (pos-of-ne-zero (c .before .before .before .if2 .left)) (pos-of-ne-zero (c .before .before .before .if2 .left))
+reduced-requires c κs = let b = plausible-bounds (c .before .before .before .before .before .before .before .args .c) (sym (c .before .before .before .before .before .before .is-plausible .ensures) ∙ not-false _ (c .before .before .before .before .before .if1 .left)) in mul-pos (omega (arith, c .before .before .before .if2 .left)) (omega (arith, c .before .before .before .if2 .left))
 
 returns-3 : tie.Need-returns-3
 unfolding varianceOf
