@@ -5,9 +5,9 @@ use mathlib.Core.Bool.{Bool, true, false, _&&_}
 use native.Mathlib.Omega.{arith}
 use native.Mathlib.Nat.{mul-le-mul}
 use borrow.Author.Tests.{leb-true, le-leb}
-use lib.Dec.{leb}
+use lib.Dec.{leb, ltb}
 use Rattle.figures.specs.declared.Collection.{Collection}
-use Rattle.figures.specs.Collections.{plausible}
+use Rattle.figures.specs.Collections.{plausible, hasRoom}
 
 pub record Bounds (c : Collection) : Type 0 where
   pub results : c .results ≤ 4096
@@ -42,6 +42,10 @@ pub bounds-plausible : (c : Collection) → Bounds c → plausible c ≡ true
 unfolding plausible
 bounds-plausible c b =
     simp (le-leb _ _ (b .results), le-leb _ _ (b .safe), le-leb _ _ (b .sum), le-leb _ _ (b .squares), le-leb _ _ (b .difference))
+
+pub room-plausible : (c : Collection) → hasRoom c ≡ true → plausible c ≡ true
+unfolding hasRoom
+room-plausible c e = and-left (plausible c) (ltb (c .results) 4096) e
 
 -- ---- no overflow
 

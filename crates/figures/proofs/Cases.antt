@@ -2,22 +2,22 @@
 use mathlib.Core.Path.{_≡_, refl}
 use mathlib.Core.List.{[], _∷_}
 use Rattle.figures.specs.Results.{safe, other, variance}
-use Rattle.figures.specs.Collections.{plausible, addSafe, addOther, join, euclid, gcd, reduced, refused, meanOf, varianceOf, shareOf}
+use Rattle.figures.specs.Collections.{plausible, hasRoom, addSafe, addOther, join, euclid, gcd, reduced, refused, meanOf, varianceOf, shareOf}
 use Rattle.figures.specs.Year.{Year, nothing, withSafe, withOther, joined, collection}
 
 abbrev worked : Year
 worked = joined (withSafe nothing 2) (withOther (withSafe nothing 3))
 
 pub worked-mean : meanOf (collection worked) ≡ record { number = 0; numerator = 5; denominator = 2 }
-unfolding meanOf collection plausible addSafe addOther join reduced gcd euclid
+unfolding meanOf collection plausible hasRoom addSafe addOther join reduced gcd euclid
 worked-mean = refl
 
 pub worked-variance : varianceOf (collection worked) ≡ record { number = 0; numerator = 1; denominator = 4 }
-unfolding varianceOf collection plausible addSafe addOther join reduced gcd euclid
+unfolding varianceOf collection plausible hasRoom addSafe addOther join reduced gcd euclid
 worked-variance = refl
 
 pub worked-share : shareOf (collection worked) ≡ record { number = 0; numerator = 2; denominator = 3 }
-unfolding shareOf collection plausible addSafe addOther join reduced gcd euclid
+unfolding shareOf collection plausible hasRoom addSafe addOther join reduced gcd euclid
 worked-share = refl
 
 -- twice the deviations are 1 and 1
@@ -25,7 +25,7 @@ pub worked-deviations : variance (safe 2 ∷ other ∷ safe 3 ∷ []) ≡ record
 worked-deviations = refl
 
 pub nothing-mean : meanOf (collection (withOther nothing)) ≡ refused 24
-unfolding meanOf collection plausible addOther
+unfolding meanOf collection plausible hasRoom addOther
 nothing-mean = refl
 
 -- one safe result of a million entries, which no addition made

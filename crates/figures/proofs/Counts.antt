@@ -11,7 +11,7 @@ use lib.Dec.{leb, ltb}
 use Rattle.figures.specs.declared.Collection.{Collection}
 use Rattle.figures.specs.Results.{Result, safe, other, entries, total, square}
 use Rattle.figures.specs.Collections as collections
-use Rattle.figures.specs.Collections.{plausible, addSafe, addOther, join, together}
+use Rattle.figures.specs.Collections.{plausible, hasRoom, addSafe, addOther, join, together}
 use Rattle.figures.specs.Year.{Year, nothing, withSafe, withOther, joined, collection, results, allowed}
 use Rattle.figures.proofs.Bounds.{Bounds, bounds-plausible, and-left, and-right}
 use Rattle.figures.proofs.Sums.{entries-append, total-append, squares-append, entries-fewer, not-negative}
@@ -81,11 +81,15 @@ length-one {c} {rs} r h = ap (λ (n : ℕ). leb n 4096) (ap suc (ap (λ (d : Col
     e : length rs + 1 ≡ suc (length rs)
     e = omega arith
 
-pub test-safe : {c : Collection} {rs : List Result} (n : ℕ) → Counts c rs → (plausible c && (ltb (c .results) 4096 && leb n 524288)) ≡ (allowed (rs ++ (safe n ∷ [])) && leb n 524288)
-test-safe n h = rw (counts-plausible h, length-one (safe n) h)
+room : {c : Collection} {rs : List Result} (r : Result) → Counts c rs → hasRoom c ≡ allowed (rs ++ (r ∷ []))
+unfolding hasRoom
+room r h = rw (counts-plausible h, length-one r h)
 
-pub test-other : {c : Collection} {rs : List Result} → Counts c rs → (plausible c && ltb (c .results) 4096) ≡ allowed (rs ++ (other ∷ []))
-test-other h = rw (counts-plausible h, length-one other h)
+pub test-safe : {c : Collection} {rs : List Result} (n : ℕ) → Counts c rs → (hasRoom c && leb n 524288) ≡ (allowed (rs ++ (safe n ∷ [])) && leb n 524288)
+test-safe n h = ap (λ (t : Bool). t && leb n 524288) (room (safe n) h)
+
+pub test-other : {c : Collection} {rs : List Result} → Counts c rs → hasRoom c ≡ allowed (rs ++ (other ∷ []))
+test-other h = room other h
 
 pub test-join : {c d : Collection} {rs ss : List Result} → Counts c rs → Counts d ss → (plausible c && (plausible d && leb (c .results + d .results) 4096)) ≡ allowed (rs ++ ss)
 test-join {c} {d} {rs} {ss} h k =

@@ -8,12 +8,12 @@ use native.Mathlib.Omega.{arith}
 use native.Mathlib.Nat.{mul-pos, eq-zero-or-pos}
 use borrow.Author.Tests.{leb-true, leb-false, le-leb, lt-leb, eq-eqb, ne-eqb}
 use lib.ListN.{length, length-append}
-use lib.Dec.{leb, ltb}
+use lib.Dec.{leb}
 use Rattle.figures.specs.declared.Collection.{Collection}
 use Rattle.figures.specs.declared.Fraction.{Fraction}
 use Rattle.figures.specs.Results.{Result, safe, other, Ratio, entries, square, mean, variance, share, LowestTerms}
 use Rattle.figures.specs.Collections as collections
-use Rattle.figures.specs.Collections.{plausible, addSafe, addOther, join, figure, reduced, meanOf, varianceOf, shareOf}
+use Rattle.figures.specs.Collections.{plausible, hasRoom, addSafe, addOther, join, figure, reduced, meanOf, varianceOf, shareOf}
 use Rattle.figures.specs.Year.{
   Year,
   nothing,
@@ -267,11 +267,11 @@ outcome false c next = inr refl
 
 pub unchanged-safe : UnchangedSafe
 unfolding addSafe
-unchanged-safe c n = outcome (plausible c && (ltb (c .results) 4096 && leb n 524288)) c (collections.withSafe c n)
+unchanged-safe c n = outcome (hasRoom c && leb n 524288) c (collections.withSafe c n)
 
 pub unchanged-other : UnchangedOther
 unfolding addOther
-unchanged-other c = outcome (plausible c && ltb (c .results) 4096) c (collections.withOther c)
+unchanged-other c = outcome (hasRoom c) c (collections.withOther c)
 
 pub unchanged-join : UnchangedJoin
 unfolding join

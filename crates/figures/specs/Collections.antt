@@ -43,11 +43,15 @@ together a b =
       squares = a .squares + b .squares;
     }
 
+-- one more result is allowed
+unfoldable pub hasRoom : Collection → Bool
+hasRoom c = plausible c && ltb (c .results) mostResults
+
 unfoldable pub addSafe : Collection → ℕ → Collected
-addSafe c n = collected (plausible c && (ltb (c .results) mostResults && leb n mostEntries)) c (withSafe c n)
+addSafe c n = collected (hasRoom c && leb n mostEntries) c (withSafe c n)
 
 unfoldable pub addOther : Collection → Collected
-addOther c = collected (plausible c && ltb (c .results) mostResults) c (withOther c)
+addOther c = collected (hasRoom c) c (withOther c)
 
 unfoldable pub join : Collection → Collection → Collected
 join a b = collected (plausible a && (plausible b && leb (a .results + b .results) mostResults)) a (together a b)

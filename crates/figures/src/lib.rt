@@ -6,7 +6,7 @@
 // it is used, and its own test goes from the counts up, so that each product is made of numbers that are already known to be small.
 ghost use mathlib.Core.Path.{_≡_};
 ghost use Prim.Native.Nat.{_<_};
-ghost use Rattle.figures.specs.Collections.{plausible, addSafe, addOther, join, gcd, reduced, meanOf, varianceOf, shareOf};
+ghost use Rattle.figures.specs.Collections.{plausible, hasRoom, addSafe, addOther, join, gcd, reduced, meanOf, varianceOf, shareOf};
 
 const MOST_RESULTS: u64 = 4096;
 
@@ -57,6 +57,16 @@ fn is_plausible(c: Collection) -> bool
     c.sum * c.sum <= c.safe * c.squares
 }
 
+// One more result is allowed.
+fn has_room(c: Collection) -> bool
+    ensures { λ r. ⌜ r ≡ hasRoom c ⌝ }
+{
+    if !is_plausible(c) {
+        return false;
+    }
+    c.results < MOST_RESULTS
+}
+
 fn unchanged(c: Collection) -> Collected
     ensures { λ r. ⌜ r ≡ record { number = 25; collection = c } ⌝ }
 {
@@ -69,10 +79,7 @@ fn unchanged(c: Collection) -> Collected
 pub fn add_safe(c: Collection, entries: u64) -> Collected
     ensures { λ r. ⌜ r ≡ addSafe c entries ⌝ }
 {
-    if !is_plausible(c) {
-        return unchanged(c);
-    }
-    if MOST_RESULTS <= c.results {
+    if !has_room(c) {
         return unchanged(c);
     }
     if MOST_ENTRIES < entries {
@@ -93,10 +100,7 @@ pub fn add_safe(c: Collection, entries: u64) -> Collected
 pub fn add_other(c: Collection) -> Collected
     ensures { λ r. ⌜ r ≡ addOther c ⌝ }
 {
-    if !is_plausible(c) {
-        return unchanged(c);
-    }
-    if MOST_RESULTS <= c.results {
+    if !has_room(c) {
         return unchanged(c);
     }
     let next = Collection {
