@@ -3,10 +3,10 @@ use mathlib.Core.Path.{_≡_, refl}
 use mathlib.Core.List.{[], _∷_}
 use Rattle.figures.specs.Results.{safe, other, variance}
 use Rattle.figures.specs.Collections.{plausible, hasRoom, addSafe, addOther, join, euclid, gcd, reduced, refused, meanOf, varianceOf, shareOf}
-use Rattle.figures.specs.Year.{Year, nothing, withSafe, withOther, joined, collection}
+use Rattle.figures.specs.Year.{Year, nothing, addedSafe, addedOther, joined, collection}
 
 abbrev worked : Year
-worked = joined (withSafe nothing 2) (withOther (withSafe nothing 3))
+worked = joined (addedSafe nothing 2) (addedOther (addedSafe nothing 3))
 
 pub worked-mean : meanOf (collection worked) ≡ record { number = 0; numerator = 5; denominator = 2 }
 unfolding meanOf collection plausible hasRoom addSafe addOther join reduced gcd euclid
@@ -24,7 +24,7 @@ worked-share = refl
 pub worked-deviations : variance (safe 2 ∷ other ∷ safe 3 ∷ []) ≡ record { over = 2; under = 8 }
 worked-deviations = refl
 
-pub nothing-mean : meanOf (collection (withOther nothing)) ≡ refused 24
+pub nothing-mean : meanOf (collection (addedOther nothing)) ≡ refused 24
 unfolding meanOf collection plausible hasRoom addOther
 nothing-mean = refl
 

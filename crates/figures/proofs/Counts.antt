@@ -12,7 +12,7 @@ use Rattle.figures.specs.declared.Collection.{Collection}
 use Rattle.figures.specs.Results.{Result, safe, other, entries, total, square}
 use Rattle.figures.specs.Collections as collections
 use Rattle.figures.specs.Collections.{plausible, hasRoom, addSafe, addOther, join, together}
-use Rattle.figures.specs.Year.{Year, nothing, withSafe, withOther, joined, collection, results, allowed}
+use Rattle.figures.specs.Year.{Year, nothing, addedSafe, addedOther, joined, collection, results, allowed}
 use Rattle.figures.proofs.Bounds.{Bounds, bounds-plausible, and-left, and-right}
 use Rattle.figures.proofs.Sums.{entries-append, total-append, squares-append, entries-fewer, not-negative}
 
@@ -134,10 +134,10 @@ join-counts c d rs ss h k e =
 pub counts : (y : Year) → Counts (collection y) (results y)
 unfolding collection results addSafe addOther join
 counts nothing = record { same = refl; bounds = bounds-empty }
-counts (withSafe y n) =
+counts (addedSafe y n) =
     next-counts _ _ (collection y) (collections.withSafe (collection y) n) (results y) (results y ++ (safe n ∷ [])) (test-safe n (counts y)) (counts y)
     (safe-counts (collection y) (results y) n (counts y))
-counts (withOther y) =
+counts (addedOther y) =
     next-counts _ _ (collection y) (collections.withOther (collection y)) (results y) (results y ++ (other ∷ [])) (test-other (counts y)) (counts y)
     (other-counts (collection y) (results y) (counts y))
 counts (joined y z) =

@@ -109,7 +109,7 @@ module _ (x y X Y : ℕ) (positive : 0 < y) (exists : 0 < Y) (same : x * Y ≡ X
           (subst (λ (n : ℕ). k * g ∣ n) denominator (mul-dvd-mul-right k q g))
 
   pub lowest-terms : LowestTerms (x / gcd x y) (y / gcd x y) (record { over = X; under = Y })
-  lowest-terms = record { exists = exists; divides = denominator-positive; equal = equal; lowest = lowest }
+  lowest-terms = record { exists = exists; positive = denominator-positive; equal = equal; lowest = lowest }
 
 -- ---- there is one fraction in lowest terms
 
@@ -151,4 +151,4 @@ one-denominator a b = dvd-antisymm (denominator-divides a b) (denominator-divide
 
 pub one-numerator : {n d n′ d′ : ℕ} {q : Ratio} → LowestTerms n d q → LowestTerms n′ d′ q → n ≡ n′
 one-numerator {n} {d} {n′} {d′} a b =
-    eq-of-mul-eq-mul-right d (a .divides) n n′ (ap (λ (k : ℕ). n * k) (one-denominator a b) ∙ crossed a b)
+    eq-of-mul-eq-mul-right d (a .positive) n n′ (ap (λ (k : ℕ). n * k) (one-denominator a b) ∙ crossed a b)

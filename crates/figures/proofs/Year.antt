@@ -17,17 +17,17 @@ use Rattle.figures.specs.Collections.{plausible, hasRoom, addSafe, addOt
 use Rattle.figures.specs.Year.{
   Year,
   nothing,
-  withSafe,
-  withOther,
+  addedSafe,
+  addedOther,
   joined,
   collection,
   results,
   allowed,
   addEach,
   Figure,
-  Mean,
-  Variance,
-  Share,
+  MeanExact,
+  VarianceExact,
+  ShareExact,
   OneFraction,
   Refused24Mean,
   Refused24Variance,
@@ -102,13 +102,13 @@ counted-variance rs p =
 made : (F : Collection → List Result → Type 0) → ((rs : List Result) → plausible (counted rs) ≡ true → F (counted rs) rs) → (y : Year) → F (collection y) (results y)
 made F f y = subst (λ (c : Collection). F c (results y)) (sym (counts y .same)) (f (results y) (bounds-plausible (counted (results y)) (counts y .bounds)))
 
-pub mean-exact : Mean
+pub mean-exact : MeanExact
 mean-exact = made (λ c rs. Figure (meanOf c) (mean rs)) counted-mean
 
-pub variance-exact : Variance
+pub variance-exact : VarianceExact
 variance-exact = made (λ c rs. Figure (varianceOf c) (variance rs)) counted-variance
 
-pub share-exact : Share
+pub share-exact : ShareExact
 share-exact = made (λ c rs. Figure (shareOf c) (share rs)) counted-share
 
 figure-24 : {f : Fraction} {q : Ratio} → Figure f q → f .number ≡ 24 → q .under ≡ 0
@@ -166,10 +166,10 @@ small-kept false rs more a b = a
 small : (y : Year) → Small (results y)
 unfolding results
 small nothing = tt
-small (withSafe y n) =
+small (addedSafe y n) =
     small-kept (allowed (results y ++ (safe n ∷ [])) && leb n 524288) (results y) (results y ++ (safe n ∷ [])) (small y)
     (λ e. small-append (results y) (safe n ∷ []) (small y) (leb-true n 524288 (and-right (allowed (results y ++ (safe n ∷ []))) (leb n 524288) e), tt))
-small (withOther y) =
+small (addedOther y) =
     small-kept (allowed (results y ++ (other ∷ []))) (results y) (results y ++ (other ∷ [])) (small y) (λ e. small-append (results y) (other ∷ []) (small y) tt)
 small (joined y z) =
     small-kept (allowed (results y ++ results z)) (results y) (results y ++ results z) (small y) (λ e. small-append (results y) (results z) (small y) (small z))
@@ -183,11 +183,11 @@ allowed-first rs r ss e =
 regrouped : (rs : List Result) (r : Result) (ss : List Result) → rs ++ (r ∷ []) ++ ss ≡ rs ++ (r ∷ ss)
 regrouped rs r ss = append-assoc rs (r ∷ []) ss
 
-safe-added : (y : Year) (n : ℕ) → n ≤ 524288 → allowed (results y ++ (safe n ∷ [])) ≡ true → results (withSafe y n) ≡ results y ++ (safe n ∷ [])
+safe-added : (y : Year) (n : ℕ) → n ≤ 524288 → allowed (results y ++ (safe n ∷ [])) ≡ true → results (addedSafe y n) ≡ results y ++ (safe n ∷ [])
 unfolding results
 safe-added y n l e = ap (λ (t : Bool). cond t (results y ++ (safe n ∷ [])) (results y)) (ap (λ (t : Bool). t && leb n 524288) e ∙ le-leb n 524288 l)
 
-other-added : (y : Year) → allowed (results y ++ (other ∷ [])) ≡ true → results (withOther y) ≡ results y ++ (other ∷ [])
+other-added : (y : Year) → allowed (results y ++ (other ∷ [])) ≡ true → results (addedOther y) ≡ results y ++ (other ∷ [])
 unfolding results
 other-added y e = ap (λ (t : Bool). cond t (results y ++ (other ∷ [])) (results y)) e
 
@@ -197,11 +197,11 @@ each-added y [] s e = sym (append-nil (results y))
 each-added y (safe n ∷ rs) s e =
     let f = safe-added y n (s .0) (allowed-first (results y) (safe n) rs e) in
     let g = ap {B = List Result} (λ l. l ++ rs) f ∙ regrouped (results y) (safe n) rs in
-    each-added (withSafe y n) rs (s .1) (ap {B = Bool} (λ l. allowed l) g ∙ e) ∙ g
+    each-added (addedSafe y n) rs (s .1) (ap {B = Bool} (λ l. allowed l) g ∙ e) ∙ g
 each-added y (other ∷ rs) s e =
     let f = other-added y (allowed-first (results y) other rs e) in
     let g = ap {B = List Result} (λ l. l ++ rs) f ∙ regrouped (results y) other rs in
-    each-added (withOther y) rs s (ap {B = Bool} (λ l. allowed l) g ∙ e) ∙ g
+    each-added (addedOther y) rs s (ap {B = Bool} (λ l. allowed l) g ∙ e) ∙ g
 
 join-added : (y z : Year) → allowed (results y ++ results z) ≡ true → results (joined y z) ≡ results y ++ results z
 unfolding results

@@ -37,11 +37,12 @@ pub record Ratio : Type 0 where
 abbrev pub mean : List Result → Ratio
 mean rs = record { over = total (entries rs); under = length (entries rs) }
 
--- the squares of how far each x is from s / n, s the sum of n numbers, all times n²: x is apart from s / n by apart (n · x) s over n
+-- n numbers with the sum s: x deviates from their mean s / n by apart (n · x) s over n, so these are the squares of the deviations, times n · n
 abbrev pub deviations : ℕ → ℕ → List ℕ → List ℕ
 deviations n s = map (λ x. square (apart (n * x) s))
 
 -- "the variance divides by the number of safe results": the squares of the deviations from the mean, added up and divided by that number
+-- (and by the n · n of `deviations`)
 abbrev pub variance : List Result → Ratio
 variance rs =
     record {
@@ -56,6 +57,6 @@ share rs = record { over = length (entries rs); under = length rs }
 -- "a fraction in lowest terms": n / d is the number q
 pub record LowestTerms (n d : ℕ) (q : Ratio) : Type 0 where
   pub exists : 0 < q .under
-  pub divides : 0 < d
+  pub positive : 0 < d
   pub equal : n * q .under ≡ q .over * d
   pub lowest : (k : ℕ) → k ∣ n → k ∣ d → k ≡ 1

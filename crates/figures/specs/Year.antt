@@ -28,15 +28,15 @@ use Rattle.figures.specs.Collections.{
 
 pub data Year : Type 0 where
   nothing : Year
-  withSafe : Year → ℕ → Year
-  withOther : Year → Year
+  addedSafe : Year → ℕ → Year
+  addedOther : Year → Year
   joined : Year → Year → Year
 
 -- the collection that the functions give
 unfoldable pub collection : Year → Collection
 collection nothing = empty
-collection (withSafe y n) = addSafe (collection y) n .collection
-collection (withOther y) = addOther (collection y) .collection
+collection (addedSafe y n) = addSafe (collection y) n .collection
+collection (addedOther y) = addOther (collection y) .collection
 collection (joined y z) = join (collection y) (collection z) .collection
 
 -- "beyond 4,096"
@@ -50,15 +50,15 @@ unlessRefused fine rs next = cond fine next rs
 -- the results that were added, as a list: no sums, no squares
 unfoldable pub results : Year → List Result
 results nothing = []
-results (withSafe y n) = unlessRefused (allowed (results y ++ (safe n ∷ [])) && leb n mostEntries) (results y) (results y ++ (safe n ∷ []))
-results (withOther y) = unlessRefused (allowed (results y ++ (other ∷ []))) (results y) (results y ++ (other ∷ []))
+results (addedSafe y n) = unlessRefused (allowed (results y ++ (safe n ∷ [])) && leb n mostEntries) (results y) (results y ++ (safe n ∷ []))
+results (addedOther y) = unlessRefused (allowed (results y ++ (other ∷ []))) (results y) (results y ++ (other ∷ []))
 results (joined y z) = unlessRefused (allowed (results y ++ results z)) (results y) (results y ++ results z)
 
 -- results added one by one
 unfoldable pub addEach : Year → List Result → Year
 addEach y [] = y
-addEach y (safe n ∷ rs) = addEach (withSafe y n) rs
-addEach y (other ∷ rs) = addEach (withOther y) rs
+addEach y (safe n ∷ rs) = addEach (addedSafe y n) rs
+addEach y (other ∷ rs) = addEach (addedOther y) rs
 
 -- ---- the figures
 
@@ -69,14 +69,14 @@ pub record Figure (f : Fraction) (q : Ratio) : Type 0 where
   pub exact : 0 < q .under → LowestTerms (f .numerator) (f .denominator) q
 
 -- each figure of the collection is that of the list of all results
-abbrev pub Mean : Type 0
-Mean = (y : Year) → Figure (meanOf (collection y)) (mean (results y))
+abbrev pub MeanExact : Type 0
+MeanExact = (y : Year) → Figure (meanOf (collection y)) (mean (results y))
 
-abbrev pub Variance : Type 0
-Variance = (y : Year) → Figure (varianceOf (collection y)) (variance (results y))
+abbrev pub VarianceExact : Type 0
+VarianceExact = (y : Year) → Figure (varianceOf (collection y)) (variance (results y))
 
-abbrev pub Share : Type 0
-Share = (y : Year) → Figure (shareOf (collection y)) (share (results y))
+abbrev pub ShareExact : Type 0
+ShareExact = (y : Year) → Figure (shareOf (collection y)) (share (results y))
 
 -- 24 if and only if there is nothing to divide by
 abbrev pub Refused24Mean : Type 0
