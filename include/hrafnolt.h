@@ -72,6 +72,37 @@ struct hrafnolt_written hrafnolt_dot_write(const uint8_t *steps, size_t steps_le
  * such text has after the same beginning, or the text's length if it stops early; an output too short is 26 with the bytes needed. */
 struct hrafnolt_written hrafnolt_dot_read(const uint8_t *text, size_t text_len, uint8_t *out, size_t out_len);
 
+/* ---- a year of verdicts in exact fractions (request N11)
+ *
+ * A collection counts results: all of them, the safe ones, the sum of their entries, and of the squares of their entries. All 0 is the
+ * empty one. It goes in and comes back by value. */
+struct hrafnolt_collection {
+    uint64_t results, safe, sum, squares;
+};
+
+/* number 0, and the collection with what was added; or 25, and the collection as it was (of a join, the first). */
+struct hrafnolt_collected {
+    uint64_t number;
+    struct hrafnolt_collection collection;
+};
+
+/* number 0, and a fraction in lowest terms, 0 as 0/1; or 24, if there is no such number, or 25, then 0 and 0. */
+struct hrafnolt_fraction {
+    uint64_t number, numerator, denominator;
+};
+
+/* 25: more than 4,096 results, a safe result of more than 524,288 entries, or a collection that no addition made, as far as its counts
+ * show: more results than 4,096, more safe ones than results, a sum or squares too large for them, or squares too small for the sum. */
+struct hrafnolt_collected hrafnolt_add_safe(struct hrafnolt_collection c, uint64_t entries);
+struct hrafnolt_collected hrafnolt_add_other(struct hrafnolt_collection c);
+struct hrafnolt_collected hrafnolt_join(struct hrafnolt_collection a, struct hrafnolt_collection b);
+
+/* Mean and variance of the entries of the safe results (the variance divides by their number), and the share of safe results among all.
+ * 24: no safe result; for the share, no result at all. 25: as above. */
+struct hrafnolt_fraction hrafnolt_mean(struct hrafnolt_collection c);
+struct hrafnolt_fraction hrafnolt_variance(struct hrafnolt_collection c);
+struct hrafnolt_fraction hrafnolt_share(struct hrafnolt_collection c);
+
 #ifdef __cplusplus
 }
 #endif
