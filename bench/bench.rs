@@ -44,7 +44,7 @@ fn whole_target() -> Vec<u8> {
     };
     let mut entries = Vec::new();
     least(&program, [1, 1, 0, 0], &mut |entry| {
-        entries.push(entry);
+        entries.push(entry.configuration(&program));
         true
     });
     writing::list_file(&program, &entries)
@@ -84,7 +84,7 @@ fn long_reading() -> Vec<u8> {
     let program = rounds(1, 1);
     let mut entries = Vec::new();
     least(&program, [1, 1, 0, 0], &mut |entry| {
-        entries.push(entry);
+        entries.push(entry.configuration(&program));
         true
     });
     let list = writing::list_file(&program, &entries);

@@ -195,14 +195,18 @@ fn cases(name: &str, judges: &mut Judges) {
 
 /// The brute force beside the cubes, where the file is a list of a shape that is tiny enough.
 fn both_algorithms(judges: &mut Judges, what: &str, file: &[u8], area: usize, most: f64) -> bool {
-    let Ok((program, reference::Evidence::List(entries))) = reference::read(file, reference::entries_allowed(area)) else { return false };
+    let Ok((program, reference::Evidence::List(list))) = reference::read(file, reference::entries_allowed(area)) else { return false };
+    if list.len() > 1_000 {
+        return false;
+    }
+    let entries = list.configurations(&program);
     let bounds = brute::bounds(&program, &entries);
     let combinations: f64 = program.states.iter().map(|n| *n as f64).product();
-    if brute::size(&program, &bounds) * combinations > most || entries.len() > 1_000 {
+    if brute::size(&program, &bounds) * combinations > most {
         return false;
     }
     let Some(slow) = brute::judge_list(&program, &entries, &bounds) else { return false };
-    let fast = cubes::judge_list(&program, &entries);
+    let fast = cubes::judge_list(&program, &list);
     if slow != fast {
         judges.fail(what, "the brute force", &fast.to_string(), &slow.to_string(), file, area);
     }

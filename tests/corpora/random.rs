@@ -2,6 +2,7 @@
 
 use crate::search::closed_list;
 use reference::cubes::start_above;
+use reference::entries::Cube;
 use reference::{writing, Configuration, Message, Operation, Program, Step, Transition, FF};
 
 /// SplitMix64.
@@ -221,7 +222,7 @@ pub fn list(r: &mut Random, processes: usize, variables: usize, values: u8, most
         let further: Vec<Configuration> = if given { further_entry(r, &program).into_iter().collect() } else { Vec::new() };
         if let Some(entries) = closed_list(&program, &further, most) {
             let further = entries.iter().any(|entry| !program.targets.contains(&entry.states));
-            if reached_too || (further || targets_only) && !entries.iter().any(|entry| start_above(&program, entry)) {
+            if reached_too || (further || targets_only) && !entries.iter().any(|entry| start_above(&program, &Cube::of(entry))) {
                 return (program, entries);
             }
         }
