@@ -9,9 +9,10 @@
 mod fixed;
 mod random;
 mod search;
+mod seeded;
 
-use random::Random;
 use reference::{brute, cubes, judge, judge_input, writing, Verdict};
+use seeded::Random;
 use std::collections::{BTreeMap, HashMap};
 use std::io::{BufRead, BufReader, Read, Write};
 use std::process::{Child, ChildStdin, ChildStdout, Command, Stdio};
