@@ -138,38 +138,64 @@ fn at_mut(cube: &mut Cube, place: Place) -> &mut u8 {
     }
 }
 
-struct Head {
-    states: [u8; 4],
-    pointers: [u8; 4],
-    lengths: [u8; 16],
-    waiting: u16,
-    messages: u16,
-    first_message: u32,
-    first_value: u32,
-    /// The entry before it whose structure has the same hash.
-    next: u32,
+/// An entry lies in one piece: 4 bytes for the place of the entry before it whose structure has the same hash; its states (4), non-empty
+/// queues (2) and number of messages (2); tag (4) and snapshot (4) of each message; length (1) and values of each non-empty queue.
+const HEAD: usize = 12;
+const MESSAGE: usize = 8;
+/// No entry lies there.
+const NONE: u32 = u32::MAX;
+
+fn word(bytes: &[u8], at: usize) -> u32 {
+    u32::from_le_bytes(bytes[at..at + 4].try_into().unwrap())
 }
 
-const NONE: u32 = u32::MAX;
+#[derive(Clone, Copy)]
+struct Entry<'a> {
+    next: u32,
+    states: [u8; 4],
+    waiting: u16,
+    messages: &'a [u8],
+    queues: &'a [u8],
+}
+
+impl<'a> Entry<'a> {
+    fn messages(self) -> impl Iterator<Item = (Tag, [u8; 4])> + 'a {
+        self.messages.chunks_exact(MESSAGE).map(|bytes| (word(bytes, 0), word(bytes, 4).to_le_bytes()))
+    }
+
+    /// The non-empty queues by number.
+    fn queues(self) -> impl Iterator<Item = (usize, &'a [u8])> {
+        let Entry { mut waiting, mut queues, .. } = self;
+        std::iter::from_fn(move || {
+            if waiting == 0 {
+                return None;
+            }
+            let number = waiting.trailing_zeros() as usize;
+            waiting &= waiting - 1;
+            let (values, rest) = queues[1..].split_at(queues[0] as usize);
+            queues = rest;
+            Some((number, values))
+        })
+    }
+}
 
 pub struct Index<'a> {
     pub program: &'a Program,
-    heads: Vec<Head>,
-    /// Of all entries, one after the other: tags with snapshots, and waiting values.
-    messages: Vec<(Tag, [u8; 4])>,
-    values: Vec<u8>,
-    /// The latest entry of each hash.
+    bytes: Vec<u8>,
+    /// Where each entry lies.
+    places: Vec<u32>,
+    /// Where the latest entry of each hash lies.
     latest: HashMap<u64, u32, ByHash>,
 }
 
 impl<'a> Index<'a> {
     pub fn new(program: &'a Program) -> Index<'a> {
-        Index { program, heads: Vec::new(), messages: Vec::new(), values: Vec::new(), latest: HashMap::default() }
+        Index { program, bytes: Vec::new(), places: Vec::new(), latest: HashMap::default() }
     }
 
     pub fn of(program: &'a Program, list: &List) -> Index<'a> {
         let mut index = Index::new(program);
-        index.heads.reserve(list.len());
+        index.places.reserve(list.len());
         index.latest.reserve(list.len());
         for number in 0..list.len() {
             index.add(&list.entry(number));
@@ -179,157 +205,94 @@ impl<'a> Index<'a> {
 
     pub fn add(&mut self, entry: &Cube) {
         let structure = Structure::of(self.program, entry);
-        let number = self.heads.len() as u32;
-        let next = self.latest.insert(structure.hash(), number).unwrap_or(NONE);
-        self.heads.push(Head {
-            states: entry.states,
-            pointers: entry.pointers,
-            lengths: *entry.lengths(),
-            waiting: structure.waiting,
-            messages: structure.length as u16,
-            first_message: self.messages.len() as u32,
-            first_value: self.values.len() as u32,
-            next,
-        });
-        self.messages.extend(structure.tags().iter().zip(entry.channel()).map(|(tag, message)| (*tag, message.snapshot)));
+        let place = self.bytes.len() as u32;
+        let next = self.latest.insert(structure.hash(), place).unwrap_or(NONE);
+        self.places.push(place);
+        self.bytes.extend(next.to_le_bytes());
+        self.bytes.extend(structure.states);
+        self.bytes.extend(structure.waiting.to_le_bytes());
+        self.bytes.extend((structure.length as u16).to_le_bytes());
+        for (tag, message) in structure.tags().iter().zip(entry.channel()) {
+            self.bytes.extend(tag.to_le_bytes());
+            self.bytes.extend(message.snapshot);
+        }
         for queue in (0..16).filter(|queue| structure.waiting >> queue & 1 == 1) {
-            self.values.extend_from_slice(entry.queue(queue));
+            self.bytes.push(entry.lengths()[queue]);
+            self.bytes.extend_from_slice(entry.queue(queue));
         }
     }
 
     pub fn len(&self) -> usize {
-        self.heads.len()
+        self.places.len()
     }
 
     pub fn is_empty(&self) -> bool {
-        self.heads.is_empty()
+        self.places.is_empty()
+    }
+
+    fn at(&self, place: u32) -> Entry<'_> {
+        let bytes = &self.bytes[place as usize..];
+        let (head, rest) = bytes.split_at(HEAD);
+        let (waiting, messages) = (word(head, 8) as u16, word(head, 8) >> 16);
+        let (messages, queues) = rest.split_at(messages as usize * MESSAGE);
+        Entry { next: word(head, 0), states: word(head, 4).to_le_bytes(), waiting, messages, queues }
     }
 
     pub fn states(&self, number: usize) -> [u8; 4] {
-        self.heads[number].states
-    }
-
-    fn messages_of(&self, head: &Head) -> &[(Tag, [u8; 4])] {
-        &self.messages[head.first_message as usize..][..head.messages as usize]
+        self.at(self.places[number]).states
     }
 
     pub fn entry(&self, number: usize) -> Cube {
-        let head = &self.heads[number];
-        let mut entry = Cube::new(head.states, head.pointers);
-        for (tag, snapshot) in self.messages_of(head) {
-            entry.append(Message { process: (tag >> 2 & 3) as u8, variable: (tag & 3) as u8, snapshot: *snapshot });
-        }
-        let mut at = head.first_value as usize;
-        for queue in (0..16).filter(|queue| head.waiting >> queue & 1 == 1) {
-            for _ in 0..head.lengths[queue] {
-                entry.push_newest(queue, self.values[at]);
-                at += 1;
+        let entry = self.at(self.places[number]);
+        let mut cube = Cube::new(entry.states, [0; 4]);
+        for (tag, snapshot) in entry.messages() {
+            cube.append(Message { process: (tag >> 2 & 3) as u8, variable: (tag & 3) as u8, snapshot });
+            for p in (0..4).filter(|p| tag >> (4 + p) & 1 == 1) {
+                cube.pointers[p] = cube.channel().len() as u8;
             }
         }
-        entry
+        for (queue, values) in entry.queues() {
+            for value in values {
+                cube.push_newest(queue, *value);
+            }
+        }
+        cube
     }
 
     /// The entries of a hash.
-    fn candidates(&self, hash: u64) -> impl Iterator<Item = usize> + '_ {
+    fn candidates(&self, hash: u64) -> impl Iterator<Item = Entry<'_>> {
         let mut next = self.latest.get(&hash).copied().unwrap_or(NONE);
         std::iter::from_fn(move || {
-            let number = next as usize;
-            next = self.heads.get(number)?.next;
-            Some(number)
+            if next == NONE {
+                return None;
+            }
+            let entry = self.at(next);
+            next = entry.next;
+            Some(entry)
         })
-    }
-
-    /// Matches an entry with a cube, messages and values from the oldest on. `split` gets the places where the cube has FF and the entry
-    /// a value; they count only if the match succeeds.
-    #[inline]
-    fn matches(&self, number: usize, relation: Relation, cube: &Cube, structure: &Structure, mut split: impl FnMut(Place)) -> bool {
-        let head = &self.heads[number];
-        if head.states != structure.states || head.waiting != structure.waiting {
-            return false;
-        }
-        let tags = structure.tags();
-        let channel = cube.channel();
-        let mut at = 0;
-        for (tag, snapshot) in self.messages_of(head) {
-            loop {
-                if at == tags.len() {
-                    return false;
-                }
-                let high = &channel[at].snapshot;
-                if *tag == tags[at] && snapshot.iter().zip(high).all(|(low, high)| related(relation, *low, *high)) {
-                    break;
-                }
-                if needed(tags[at]) {
-                    return false; // a needed message is never left out
-                }
-                at += 1;
-            }
-            for v in 0..4 {
-                if snapshot[v] != FF && channel[at].snapshot[v] == FF {
-                    split(snapshot_place(at, v));
-                }
-            }
-            at += 1;
-        }
-        if tags[at..].iter().any(|tag| needed(*tag)) {
-            return false;
-        }
-        let mut first = head.first_value as usize;
-        let mut waiting = structure.waiting;
-        while waiting != 0 {
-            let queue = waiting.trailing_zeros() as usize;
-            waiting &= waiting - 1;
-            let low = &self.values[first..][..head.lengths[queue] as usize];
-            let high = cube.queue(queue);
-            first += low.len();
-            if low.len() > high.len() {
-                return false;
-            }
-            let (last_low, last_high) = (low.len() - 1, high.len() - 1);
-            let mut at = 0;
-            for value in &low[..last_low] {
-                while at < last_high && !related(relation, *value, high[at]) {
-                    at += 1;
-                }
-                if at == last_high {
-                    return false;
-                }
-                if *value != FF && high[at] == FF {
-                    split(waiting_place(queue, at));
-                }
-                at += 1;
-            }
-            if !related(relation, low[last_low], high[last_high]) {
-                return false;
-            }
-            if low[last_low] != FF && high[last_high] == FF {
-                split(waiting_place(queue, last_high));
-            }
-        }
-        true
     }
 
     /// Is every filling of the cube above the list?
     pub fn holds(&self, cube: &Cube) -> bool {
         let structure = Structure::of(self.program, cube);
         let hash = structure.hash();
-        if self.candidates(hash).any(|number| self.matches(number, Relation::Covers, cube, &structure, |_| ())) {
+        if self.candidates(hash).any(|entry| matches(entry, Relation::Covers, cube, &structure, |_| ())) {
             return true;
         }
-        let candidates: Vec<usize> = self.candidates(hash).collect();
+        let candidates: Vec<Entry> = self.candidates(hash).collect();
         !self.gap(&mut cube.clone(), &structure, &candidates)
     }
 
     /// Is some filling of the cube outside the list? Only these entries can have to do with it, and none covers it alone.
     #[cold]
-    fn gap(&self, cube: &mut Cube, structure: &Structure, candidates: &[usize]) -> bool {
+    fn gap(&self, cube: &mut Cube, structure: &Structure, candidates: &[Entry]) -> bool {
         let mut split = Vec::new();
         let mut meeting = Vec::new();
         let mut votes = [0; PLACES];
-        for number in candidates {
+        for entry in candidates {
             split.clear();
-            if self.matches(*number, Relation::Meets, cube, structure, |place| split.push(place)) {
-                meeting.push(*number);
+            if matches(*entry, Relation::Meets, cube, structure, |place| split.push(place)) {
+                meeting.push(*entry);
                 for place in &split {
                     votes[*place] += 1;
                 }
@@ -343,7 +306,7 @@ impl<'a> Index<'a> {
         let mut found = false;
         for value in 0..self.program.values {
             *at_mut(cube, place) = value;
-            let covered = meeting.iter().any(|number| self.matches(*number, Relation::Covers, cube, structure, |_| ()));
+            let covered = meeting.iter().any(|entry| matches(*entry, Relation::Covers, cube, structure, |_| ()));
             if !covered && self.gap(cube, structure, &meeting) {
                 found = true;
                 break;
@@ -352,4 +315,67 @@ impl<'a> Index<'a> {
         *at_mut(cube, place) = FF;
         found
     }
+}
+
+/// Matches an entry with a cube, messages and values from the oldest on. `split` gets the places where the cube has FF and the entry a
+/// value; they count only if the match succeeds.
+#[inline]
+fn matches(entry: Entry, relation: Relation, cube: &Cube, structure: &Structure, mut split: impl FnMut(Place)) -> bool {
+    if entry.states != structure.states || entry.waiting != structure.waiting {
+        return false;
+    }
+    let tags = structure.tags();
+    let channel = cube.channel();
+    let mut at = 0;
+    for (tag, snapshot) in entry.messages() {
+        loop {
+            if at == tags.len() {
+                return false;
+            }
+            let high = &channel[at].snapshot;
+            if tag == tags[at] && snapshot.iter().zip(high).all(|(low, high)| related(relation, *low, *high)) {
+                break;
+            }
+            if needed(tags[at]) {
+                return false; // a needed message is never left out
+            }
+            at += 1;
+        }
+        for v in 0..4 {
+            if snapshot[v] != FF && channel[at].snapshot[v] == FF {
+                split(snapshot_place(at, v));
+            }
+        }
+        at += 1;
+    }
+    if tags[at..].iter().any(|tag| needed(*tag)) {
+        return false;
+    }
+    for (queue, low) in entry.queues() {
+        let high = cube.queue(queue);
+        if low.len() > high.len() {
+            return false;
+        }
+        let (last_low, last_high) = (low.len() - 1, high.len() - 1);
+        let mut at = 0;
+        for value in &low[..last_low] {
+            while at < last_high && !related(relation, *value, high[at]) {
+                at += 1;
+            }
+            if at == last_high {
+                return false;
+            }
+            if *value != FF && high[at] == FF {
+                split(waiting_place(queue, at));
+            }
+            at += 1;
+        }
+        if !related(relation, low[last_low], high[last_high]) {
+            return false;
+        }
+        if low[last_low] != FF && high[last_high] == FF {
+            split(waiting_place(queue, last_high));
+        }
+    }
+    true
 }
