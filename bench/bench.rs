@@ -29,6 +29,9 @@ fn used() -> f64 {
     time.seconds as f64 + time.nanoseconds as f64 / 1e9
 }
 
+/// Each judge repeats an input in each round until it has used so many seconds.
+const ROUND: f64 = 0.02;
+
 /// Work areas as the timer names them.
 #[derive(Clone, Copy)]
 enum Area {
@@ -58,14 +61,14 @@ struct Bench {
 }
 
 impl Bench {
-    /// The least time of so many calls of the exported function, and its line.
-    fn exported(&self, path: &str, area: Area, calls: usize) -> Option<(f64, String)> {
+    /// The least time of the calls of the exported function in one round, and its line.
+    fn exported(&self, path: &str, area: Area) -> Option<(f64, String)> {
         let area = match area {
             Area::Enough => "enough",
             Area::Least => "least",
         };
         let out = Command::new("timeout")
-            .args([&self.limit, self.timer.as_ref()?, path, area, &calls.to_string()])
+            .args([&self.limit, self.timer.as_ref()?, path, area, &(ROUND * 1e3).to_string()])
             .output()
             .expect("timeout starts");
         let text = String::from_utf8_lossy(&out.stdout).trim().to_string();
@@ -78,27 +81,26 @@ impl Bench {
         std::fs::write(&path, file).expect("the folder can be written");
         let mut line = String::new();
         let mut separate = f64::MAX;
-        let mut separately = |calls: usize| {
-            for _ in 0..calls {
+        let mut exported: Option<f64> = None;
+        let mut said = None;
+        let mut round = 0;
+        // Long inputs twice, others some times more.
+        while round < if separate < 0.5 { 5 } else { 2 } {
+            let first = used();
+            loop {
                 let start = used();
                 line = judge(file, usize::MAX).to_string();
                 separate = separate.min(used() - start);
+                if used() - first >= ROUND {
+                    break;
+                }
             }
-            separate
-        };
-        // Short inputs many times, so that no round is over in an instant; long ones a few times.
-        let once = separately(1);
-        let calls = (0.02 / once).clamp(1.0, 2_000.0) as usize;
-        let rounds = if once < 0.5 { 5 } else { 2 };
-        let mut exported: Option<f64> = None;
-        let mut said = None;
-        for round in 0..rounds {
             if round == 0 || exported.is_some() {
-                let taken = self.exported(&path, area, calls);
+                let taken = self.exported(&path, area);
                 exported = taken.as_ref().map(|(time, _)| time.min(exported.unwrap_or(f64::MAX)));
                 said = taken.map(|(_, line)| line);
             }
-            separately(calls);
+            round += 1;
         }
         std::fs::remove_file(&path).expect("the folder can be written");
         if let Some(said) = said {
@@ -126,9 +128,8 @@ impl Bench {
         let line = if ordered.line == shuffled.line { ordered.line.clone() } else { format!("{}; {}", ordered.line, shuffled.line) };
         let count = listing.len();
         let each = |time: Option<f64>| time.map_or("-".to_string(), |time| format!("{:.1}", time * 1e6 / count as f64));
-        let columns = [&ordered, &shuffled].map(|times| {
-            format!("{} | {} | **{}**", self.shown(times.exported, &duration), duration(times.separate), times.ratio())
-        });
+        let columns = [&ordered, &shuffled]
+            .map(|times| format!("{} | {} | **{}**", self.shown(times.exported, &duration), duration(times.separate), times.ratio()));
         let per_entry = format!("{}, {}", each(ordered.exported), each(shuffled.exported));
         println!("| {} {} | {} | {} | {} | {} |", inputs::thousands(count), what, line, columns[0], columns[1], per_entry);
     }
@@ -153,7 +154,11 @@ fn main() {
     let speed = |time: f64| format!("{:.0} MB/s", megabytes / time);
     bench.row(&format!("reading {:.1} MB, refused at the last record", megabytes), &bench.times("reading", &file, Area::Enough), &speed);
     let file = [&[7], &file[..]].concat();
-    bench.row(&format!("{:.1} MB, refused at the first record, least area", megabytes), &bench.times("first", &file, Area::Least), &duration);
+    bench.row(
+        &format!("{:.1} MB, refused at the first record, least area", megabytes),
+        &bench.times("first", &file, Area::Least),
+        &duration,
+    );
     let runs = |time: f64| format!("{:.0} runs/s", 1.0 / time);
     bench.row("run of 1,024 steps, least area", &bench.times("run", &inputs::long_run(), Area::Least), &runs);
     bench.row("empty file, least area", &bench.times("empty", &[], Area::Least), &duration);

@@ -1,5 +1,6 @@
-/* timer FILE AREA CALLS: judges the file that many times through the exported function, with the least work area (`least`) or one that
- * is large enough for the file (`enough`); prints the least processor time of one call in nanoseconds, and the line. */
+/* timer FILE AREA MILLISECONDS: judges the file through the exported function, once or as often as that takes, with the least work area
+ * (`least`) or one that is large enough for the file (`enough`); prints the least processor time of one call in nanoseconds, and the
+ * line. */
 #define _GNU_SOURCE
 #include "hrafnolt.h"
 
@@ -30,15 +31,16 @@ int main(int count, char **words)
     if (file == NULL || work == NULL || fread(file, 1, length, in) != length)
         return 2;
     memset(work, 1, room); /* so that the pages are there before the first call */
-    uint64_t least = UINT64_MAX;
+    uint64_t least = UINT64_MAX, all = 0, enough = strtoull(words[3], NULL, 10) * 1000000u;
     struct hrafnolt_verdict v = {0, 0, 0};
-    for (int i = 0; i < atoi(words[3]); i++) {
+    do {
         uint64_t start = used();
         v = hrafnolt_judge(file, length, work, room);
         uint64_t taken = used() - start;
+        all += taken;
         if (taken < least)
             least = taken;
-    }
+    } while (all < enough);
     static const char *const kinds[] = {"safe", "reachable", "refused"};
     printf("%" PRIu64 " %s %" PRIu64, least, kinds[v.kind], v.first);
     if (v.kind != HRAFNOLT_SAFE)
