@@ -59,8 +59,8 @@ impl Structure {
         &self.tags[..self.length]
     }
 
-    /// Equal for all structures that an entry and a cube above it can have: messages that nobody needs are left out.
-    fn hash(&self) -> u64 {
+    /// The same for an entry and every cube above it: messages that nobody needs are left out.
+    fn fingerprint(&self) -> u64 {
         fn mix(hash: u64, word: u64) -> u64 {
             (hash.rotate_left(25) ^ word).wrapping_mul(0x9e37_79b9_7f4a_7c15)
         }
@@ -81,11 +81,11 @@ impl Structure {
 
 impl std::hash::Hash for Structure {
     fn hash<H: Hasher>(&self, hasher: &mut H) {
-        hasher.write_u64(self.hash());
+        hasher.write_u64(self.fingerprint());
     }
 }
 
-/// The keys are hashes already.
+/// For keys that are fingerprints already.
 #[derive(Default)]
 pub struct Hashed(u64);
 
@@ -206,7 +206,7 @@ impl<'a> Index<'a> {
     pub fn add(&mut self, entry: &Cube) {
         let structure = Structure::of(self.program, entry);
         let place = self.bytes.len() as u32;
-        let next = self.latest.insert(structure.hash(), place).unwrap_or(NONE);
+        let next = self.latest.insert(structure.fingerprint(), place).unwrap_or(NONE);
         self.places.push(place);
         self.bytes.extend(next.to_le_bytes());
         self.bytes.extend(structure.states);
@@ -275,7 +275,7 @@ impl<'a> Index<'a> {
     /// Is every filling of the cube above the list?
     pub fn holds(&self, cube: &Cube) -> bool {
         let structure = Structure::of(self.program, cube);
-        let hash = structure.hash();
+        let hash = structure.fingerprint();
         if self.candidates(hash).any(|entry| matches(entry, Relation::Covers, cube, &structure, |_| ())) {
             return true;
         }
