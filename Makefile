@@ -6,7 +6,7 @@ PREFIX ?= /usr/local
 all: build
 	@examples/judge-all
 
-# The crates below the program and the library; the others (pso, equivalence, ..) are theory on which no verdict rests, and are `make test`'s.
+# The crates below the program and the library; what neither needs is `make test`'s.
 build:
 	@[ -e target/bin/hrafnolt-files ] || echo 'proving the judge, then building it: some minutes, the first time'
 	@.ci/prove hrafnolt exports

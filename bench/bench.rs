@@ -1,109 +1,16 @@
-//! bench FOLDER LIMIT [TIMER]: makes its inputs in the folder and prints the table. TIMER calls the exported function; without it only the
-//! separate judge is timed. All times are processor time, the least of a few calls. A row that the timer does not end within LIMIT seconds
-//! says so.
+//! bench FOLDER LIMIT [TIMER]: makes its inputs in the folder and prints the tables. TIMER calls the exported function; without it only
+//! the separate judge is timed. The two judges take turns at each input. All times are processor time, the least of several calls. A row
+//! that the timer does not end within LIMIT seconds says so.
 
+mod inputs;
 #[path = "../tests/corpora/search.rs"]
 mod search;
+#[path = "../tests/corpora/seeded.rs"]
+mod seeded;
 
-use reference::cubes::least;
-use reference::{judge, writing, Operation, Program, Step, Transition};
+use inputs::Listing;
+use reference::judge;
 use std::process::Command;
-
-/// Two processes, one variable, two values. Process 0 goes round `first` states by nops, process 1 round `second`; neither starts there.
-/// All first * second pairs of local states lead to the target, and a closed list holds the whole of each: 232 entries.
-fn rounds(first: u8, second: u8) -> Program {
-    let mut transitions = Vec::new();
-    for (process, count) in [(0, first), (1, second)] {
-        for state in 0..count {
-            if count > 1 {
-                transitions.push(Transition { process, from: 1 + state, operation: Operation::Nop, to: 1 + (state + 1) % count });
-            }
-        }
-    }
-    Program {
-        processes: 2,
-        variables: 1,
-        values: 2,
-        states: vec![first + 1, second + 1],
-        initial: vec![0, 0],
-        transitions,
-        targets: vec![[1, 1, 0, 0]],
-    }
-}
-
-/// Two processes, two variables, no transition: the whole of one target, 52,288 entries.
-fn whole_target() -> Vec<u8> {
-    let program = Program {
-        processes: 2,
-        variables: 2,
-        values: 2,
-        states: vec![2, 2],
-        initial: vec![0, 0],
-        transitions: Vec::new(),
-        targets: vec![[1, 1, 0, 0]],
-    };
-    let mut entries = Vec::new();
-    least(&program, [1, 1, 0, 0], &mut |entry| {
-        entries.push(entry);
-        true
-    });
-    writing::list_file(&program, &entries)
-}
-
-/// A run of 1,024 steps: two processes write, serialise, update and read in turn.
-fn long_run() -> Vec<u8> {
-    let mut transitions = Vec::new();
-    for process in 0..2 {
-        transitions.push(Transition { process, from: 0, operation: Operation::Write { variable: process, value: 1 }, to: 1 });
-        transitions.push(Transition { process, from: 1, operation: Operation::Read { variable: process, value: 1 }, to: 0 });
-    }
-    let program = Program {
-        processes: 2,
-        variables: 2,
-        values: 2,
-        states: vec![2, 2],
-        initial: vec![0, 0],
-        transitions,
-        targets: vec![[0, 0, 0, 0]],
-    };
-    let round = [
-        Step::Transition(0),
-        Step::Serialise(0, 0),
-        Step::Transition(1),
-        Step::Update(1),
-        Step::Transition(2),
-        Step::Serialise(1, 1),
-        Step::Transition(3),
-        Step::Update(0),
-    ];
-    writing::run_file(&program, &round.repeat(128))
-}
-
-/// Reading alone: as many entries as can be, and a last record that is refused.
-fn long_reading() -> Vec<u8> {
-    let program = rounds(1, 1);
-    let mut entries = Vec::new();
-    least(&program, [1, 1, 0, 0], &mut |entry| {
-        entries.push(entry);
-        true
-    });
-    let list = writing::list_file(&program, &entries);
-    let head = writing::list_file(&program, &[]).len();
-    let mut file = list.clone();
-    for _ in 1..524_288 / entries.len() {
-        file.extend(&list[head..]);
-    }
-    file.extend([0x11, 9, 9, 9, 9, 9, 9]);
-    file
-}
-
-fn thousands(n: usize) -> String {
-    if n < 1_000 {
-        n.to_string()
-    } else {
-        format!("{},{:03}", n / 1_000, n % 1_000)
-    }
-}
 
 #[repr(C)]
 struct Timespec {
@@ -115,18 +22,35 @@ extern "C" {
     fn clock_gettime(clock: i32, time: *mut Timespec) -> i32;
 }
 
-/// Processor time of this process so far, in nanoseconds.
+/// Processor time of this process so far, in seconds.
 fn used() -> f64 {
     let mut time = Timespec { seconds: 0, nanoseconds: 0 };
     unsafe { clock_gettime(2, &mut time) }; // CLOCK_PROCESS_CPUTIME_ID
-    time.seconds as f64 * 1e9 + time.nanoseconds as f64
+    time.seconds as f64 + time.nanoseconds as f64 / 1e9
 }
 
-fn shown(nanoseconds: f64) -> String {
-    match nanoseconds {
-        t if t < 1e6 => format!("{:.1} us", t / 1e3),
-        t if t < 1e9 => format!("{:.1} ms", t / 1e6),
-        t => format!("{:.1} s", t / 1e9),
+/// Each judge repeats an input in each round until it has used so many seconds.
+const ROUND: f64 = 0.02;
+
+/// Work areas as the timer names them.
+#[derive(Clone, Copy)]
+enum Area {
+    /// Room for every entry that the file can have.
+    Enough,
+    /// The least that is not refused with 8.
+    Least,
+}
+
+/// Times in seconds; None if the limit was passed, or nothing is exported.
+struct Times {
+    exported: Option<f64>,
+    separate: f64,
+    line: String,
+}
+
+impl Times {
+    fn ratio(&self) -> String {
+        self.exported.map_or("-".to_string(), |exported| format!("{:.2}", exported / self.separate))
     }
 }
 
@@ -137,78 +61,126 @@ struct Bench {
 }
 
 impl Bench {
-    /// Times of the exported function and of the separate judge, in nanoseconds, and the line.
-    fn times(&self, name: &str, file: &[u8], times: usize) -> (Option<f64>, f64, String) {
-        let area = 16_384 + 4 * 524_288;
-        let mut line = String::new();
-        let mut separate = f64::MAX;
-        for _ in 0..times {
-            let start = used();
-            line = judge(file, area).to_string();
-            separate = separate.min(used() - start);
-        }
-        let path = format!("{}/{}.evidence", self.folder, name);
-        std::fs::write(&path, file).expect("the folder can be written");
-        let proved = self.timer.as_ref().and_then(|timer| {
-            let out = Command::new("timeout").args([&self.limit, timer, &path, &times.to_string()]).output().expect("timeout starts");
-            let text = String::from_utf8_lossy(&out.stdout).trim().to_string();
-            let (time, said) = text.split_once(' ')?;
-            assert_eq!(said, line, "{}: the judges differ", name);
-            time.parse().ok()
-        });
-        (proved, separate, line)
+    /// The least time of the calls of the exported function in one round, and its line.
+    fn exported(&self, path: &str, area: Area) -> Option<(f64, String)> {
+        let area = match area {
+            Area::Enough => "enough",
+            Area::Least => "least",
+        };
+        let out = Command::new("timeout")
+            .args([&self.limit, self.timer.as_ref()?, path, area, &(ROUND * 1e3).to_string()])
+            .output()
+            .expect("timeout starts");
+        let text = String::from_utf8_lossy(&out.stdout).trim().to_string();
+        let (nanoseconds, line) = text.split_once(' ')?;
+        Some((nanoseconds.parse::<f64>().ok()? / 1e9, line.to_string()))
     }
 
-    fn row(&self, what: &str, line: &str, proved: Option<f64>, separate: f64, show: &dyn Fn(f64) -> String, growth: &str) {
-        let proved = match (proved, &self.timer) {
+    fn times(&self, name: &str, file: &[u8], area: Area) -> Times {
+        let path = format!("{}/{}.evidence", self.folder, name);
+        std::fs::write(&path, file).expect("the folder can be written");
+        let mut line = String::new();
+        let mut separate = f64::MAX;
+        let mut exported: Option<f64> = None;
+        let mut said = None;
+        let mut round = 0;
+        // Long inputs twice, others some times more.
+        while round < if separate < 0.5 { 5 } else { 2 } {
+            let first = used();
+            loop {
+                let start = used();
+                line = judge(file, usize::MAX).to_string();
+                separate = separate.min(used() - start);
+                if used() - first >= ROUND {
+                    break;
+                }
+            }
+            if round == 0 || exported.is_some() {
+                let taken = self.exported(&path, area);
+                exported = taken.as_ref().map(|(time, _)| time.min(exported.unwrap_or(f64::MAX)));
+                said = taken.map(|(_, line)| line);
+            }
+            round += 1;
+        }
+        std::fs::remove_file(&path).expect("the folder can be written");
+        if let Some(said) = said {
+            assert_eq!(said, line, "{}: the judges differ", name);
+        }
+        Times { exported, separate, line }
+    }
+
+    fn shown(&self, exported: Option<f64>, show: &dyn Fn(f64) -> String) -> String {
+        match (exported, &self.timer) {
             (Some(time), _) => show(time),
             (None, Some(_)) => format!("over {} s", self.limit),
             (None, None) => "-".to_string(),
-        };
-        println!("| {} | {} | {} | {} | {} |", what, line, proved, show(separate), growth);
+        }
+    }
+
+    fn row(&self, what: &str, times: &Times, show: &dyn Fn(f64) -> String) {
+        println!("| {} | {} | {} | {} | {} |", what, times.line, self.shown(times.exported, show), show(times.separate), times.ratio());
+    }
+
+    /// A list in file order and shuffled.
+    fn list(&self, what: &str, listing: &Listing) {
+        let ordered = self.times("list", &listing.file(), Area::Enough);
+        let shuffled = self.times("list", &listing.shuffled(1).file(), Area::Enough);
+        let line = if ordered.line == shuffled.line { ordered.line.clone() } else { format!("{}; {}", ordered.line, shuffled.line) };
+        let count = listing.len();
+        let each = |time: Option<f64>| time.map_or("-".to_string(), |time| format!("{:.1}", time * 1e6 / count as f64));
+        let columns = [&ordered, &shuffled]
+            .map(|times| format!("{} | {} | **{}**", self.shown(times.exported, &duration), duration(times.separate), times.ratio()));
+        let per_entry = format!("{}, {}", each(ordered.exported), each(shuffled.exported));
+        println!("| {} {} | {} | {} | {} | {} |", inputs::thousands(count), what, line, columns[0], columns[1], per_entry);
+    }
+}
+
+fn duration(seconds: f64) -> String {
+    match seconds {
+        t if t < 1e-3 => format!("{:.1} us", t * 1e6),
+        t if t < 1.0 => format!("{:.1} ms", t * 1e3),
+        t => format!("{:.2} s", t),
     }
 }
 
 fn main() {
     let words: Vec<String> = std::env::args().skip(1).collect();
     let bench = Bench { folder: words[0].clone(), limit: words[1].clone(), timer: words.get(2).cloned() };
-    println!("| input | line | exported function | separate judge | growth |");
+
+    println!("| input | line | exported function | separate judge | ratio of times |");
     println!("|---|---|---|---|---|");
-
-    let file = long_reading();
+    let file = inputs::long_reading();
     let megabytes = file.len() as f64 / 1e6;
-    let (proved, separate, line) = bench.times("reading", &file, 3);
-    let speed = |time: f64| format!("{:.0} MB/s", megabytes / (time / 1e9));
-    bench.row(&format!("reading, {:.1} MB", megabytes), &line, proved, separate, &speed, "");
+    let speed = |time: f64| format!("{:.0} MB/s", megabytes / time);
+    bench.row(&format!("reading {:.1} MB, refused at the last record", megabytes), &bench.times("reading", &file, Area::Enough), &speed);
+    let file = [&[7], &file[..]].concat();
+    bench.row(
+        &format!("{:.1} MB, refused at the first record, least area", megabytes),
+        &bench.times("first", &file, Area::Least),
+        &duration,
+    );
+    let runs = |time: f64| format!("{:.0} runs/s", 1.0 / time);
+    bench.row("run of 1,024 steps, least area", &bench.times("run", &inputs::long_run(), Area::Least), &runs);
+    bench.row("empty file, least area", &bench.times("empty", &[], Area::Least), &duration);
 
-    let file = long_run();
-    let (proved, separate, line) = bench.times("run", &file, 200);
-    let runs = |time: f64| format!("{:.0} runs/s", 1e9 / time);
-    bench.row("runs of 1,024 steps", &line, proved, separate, &runs, "");
-
-    let mut before: Option<(usize, Option<f64>, f64)> = None;
-    let mut list = |what: &str, name: &str, file: Vec<u8>, entries: usize, times: usize| {
-        let (proved, separate, line) = bench.times(name, &file, times);
-        let growth = match before {
-            Some((old_entries, old_proved, old_separate)) => {
-                let ratio = |new: f64, old: f64| format!("{:.1}", new / old);
-                let of_proved = match (proved, old_proved) {
-                    (Some(new), Some(old)) => ratio(new, old),
-                    _ => "-".to_string(),
-                };
-                format!("entries x{}, times x{} and x{}", ratio(entries as f64, old_entries as f64), of_proved, ratio(separate, old_separate))
-            }
-            None => String::new(),
-        };
-        bench.row(what, &line, proved, separate, &shown, &growth);
-        before = Some((entries, proved, separate));
-    };
+    println!();
+    println!("| list (processes, variables; local states) | line | file order: exported | separate | ratio | shuffled: exported | separate | ratio | us an entry |");
+    println!("|---|---|---|---|---|---|---|---|---|");
     for (first, second) in [(1, 1), (2, 1), (5, 1), (5, 2), (5, 4)] {
-        let program = rounds(first, second);
-        let entries = search::closed_list(&program, &[], 524_288).expect("a closed list");
-        let pairs = first as usize * second as usize;
-        let what = format!("list of {} entries ({} local state{})", thousands(entries.len()), pairs, if pairs == 1 { "" } else { "s" });
-        list(&what, &format!("list-{}", entries.len()), writing::list_file(&program, &entries), entries.len(), 3);
+        bench.list(&format!("(2, 1; {})", first * second), &inputs::rounds(first, second));
     }
-    list("list of 52,288 entries (two variables, 1 local state)", "list-52288", whole_target(), 52_288, 1);
+    bench.list("(1, 4; 12)", &inputs::chain(1, 4, 12));
+    bench.list("(3, 1; 1)", &inputs::chain(3, 1, 1));
+    bench.list("(2, 2; 1)", &inputs::chain(2, 2, 1));
+    bench.list("(3, 1; 11)", &inputs::chain(3, 1, 11));
+    let long = inputs::chain(2, 2, 10);
+    bench.list("(2, 2; 10)", &long);
+    bench.list("(2, 2; 10), without the last", &long.without(long.len() - 1));
+    bench.list("(2, 2; 10), without one in the middle", &long.without(long.len() / 2));
+    let targets = inputs::many_targets(2, 2, 10);
+    bench.list("(2, 2), 10 targets, without the last", &targets.without(targets.len() - 1));
+    bench.list("(2, 2), 10 targets, without one in the middle", &targets.without(targets.len() / 2));
+    let found = inputs::found();
+    bench.list("(2, 2; 2), from a backward search", &found);
+    bench.list("(2, 2; 2), its FFs split in every third entry", &inputs::split(&found));
 }

@@ -1,11 +1,13 @@
-/* timer FILE TIMES: judges the file that many times through the exported function; prints the line and the least processor time of
- * one call in nanoseconds. */
+/* timer FILE AREA MILLISECONDS: judges the file through the exported function, once or as often as that takes, with the least work area
+ * (`least`) or one that is large enough for the file (`enough`); prints the least processor time of one call in nanoseconds, and the
+ * line. */
 #define _GNU_SOURCE
 #include "hrafnolt.h"
 
 #include <inttypes.h>
 #include <stdio.h>
 #include <stdlib.h>
+#include <string.h>
 #include <time.h>
 
 static uint64_t used(void)
@@ -17,25 +19,28 @@ static uint64_t used(void)
 
 int main(int count, char **words)
 {
-    if (count != 3)
+    if (count != 4)
         return 2;
     FILE *in = fopen(words[1], "rb");
     if (in == NULL || fseek(in, 0, SEEK_END) != 0)
         return 2;
-    size_t length = (size_t)ftell(in), room = hrafnolt_work_enough(length);
+    size_t length = (size_t)ftell(in);
+    size_t room = strcmp(words[2], "least") == 0 ? HRAFNOLT_WORK_LEAST : hrafnolt_work_enough(length);
     rewind(in);
-    uint8_t *file = malloc(length + 1), *work = calloc(room, 1);
+    uint8_t *file = malloc(length + 1), *work = malloc(room);
     if (file == NULL || work == NULL || fread(file, 1, length, in) != length)
         return 2;
-    uint64_t least = UINT64_MAX;
+    memset(work, 1, room); /* so that the pages are there before the first call */
+    uint64_t least = UINT64_MAX, all = 0, enough = strtoull(words[3], NULL, 10) * 1000000u;
     struct hrafnolt_verdict v = {0, 0, 0};
-    for (int i = 0; i < atoi(words[2]); i++) {
+    do {
         uint64_t start = used();
         v = hrafnolt_judge(file, length, work, room);
         uint64_t taken = used() - start;
+        all += taken;
         if (taken < least)
             least = taken;
-    }
+    } while (all < enough);
     static const char *const kinds[] = {"safe", "reachable", "refused"};
     printf("%" PRIu64 " %s %" PRIu64, least, kinds[v.kind], v.first);
     if (v.kind != HRAFNOLT_SAFE)

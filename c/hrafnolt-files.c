@@ -1,4 +1,6 @@
-/* hrafnolt-files FILE..: judges each file, of any size, and prints `NAME: LINE`.
+/* hrafnolt-files [-s] FILE..: judges each file, of any size, and prints `NAME: LINE`.
+ * With -s it prints at the end, over the files that it judged, the mean and the variance of entries per safe file and the share of safe
+ * among all, as `mean 5/2 (2.500000)`, or as `mean refused 24`; beyond 4,096 files all three are `refused 25`.
  * Exit status: 0 if all were accepted (safe or reachable), 1 if any was refused, 2 if a file can't be read. */
 #include "hrafnolt.h"
 
@@ -44,16 +46,37 @@ static const uint8_t *map_file(const char *name, size_t *length)
     return bytes == MAP_FAILED ? NULL : bytes;
 }
 
+static struct hrafnolt_collection judged;
+static uint64_t uncounted; /* 25 once a result could not be added */
+
+static void add_result(struct hrafnolt_verdict v)
+{
+    struct hrafnolt_collected c = v.kind == HRAFNOLT_SAFE ? hrafnolt_add_safe(judged, v.first) : hrafnolt_add_other(judged);
+    judged = c.collection;
+    if (c.number != 0)
+        uncounted = c.number;
+}
+
+static void print_figure(const char *name, struct hrafnolt_fraction f)
+{
+    uint64_t number = uncounted != 0 ? uncounted : f.number;
+    if (number != 0)
+        printf("%s refused %" PRIu64 "\n", name, number);
+    else
+        printf("%s %" PRIu64 "/%" PRIu64 " (%.6f)\n", name, f.numerator, f.denominator, (double)f.numerator / (double)f.denominator);
+}
+
 int main(int count, char **names)
 {
     int refused = 0, unread = 0;
+    int figures = count > 1 && strcmp(names[1], "-s") == 0;
     uint8_t *work = NULL;
     size_t room = 0;
-    if (count < 2) {
-        fprintf(stderr, "usage: hrafnolt-files FILE..\n");
+    if (count < 2 + figures) {
+        fprintf(stderr, "usage: hrafnolt-files [-s] FILE..\n");
         return 2;
     }
-    for (int i = 1; i < count; i++) {
+    for (int i = 1 + figures; i < count; i++) {
         size_t length;
         const uint8_t *file = map_file(names[i], &length);
         if (file == NULL) {
@@ -73,6 +96,7 @@ int main(int count, char **names)
             }
         }
         struct hrafnolt_verdict v = hrafnolt_judge(file, length, work, needed);
+        add_result(v);
         switch (v.kind) {
         case HRAFNOLT_SAFE:
             printf("%s: safe %" PRIu64 "\n", names[i], v.first);
@@ -88,6 +112,11 @@ int main(int count, char **names)
             munmap((void *)file, length);
     }
     free(work);
+    if (figures) {
+        print_figure("mean", hrafnolt_mean(judged));
+        print_figure("variance", hrafnolt_variance(judged));
+        print_figure("share", hrafnolt_share(judged));
+    }
     if (fflush(stdout) != 0 || ferror(stdout))
         return 2;
     return unread ? 2 : refused ? 1 : 0;

@@ -50,6 +50,59 @@ static inline size_t hrafnolt_work_enough(size_t file_len)
  * the rest is as it was; after refusal 8 all of it is as it was. The file is only read. */
 struct hrafnolt_verdict hrafnolt_judge(const uint8_t *file, size_t file_len, uint8_t *work, size_t work_len);
 
+/* ---- runs as drawings (request N12)
+ *
+ * number 0: value bytes were written, at the start of out. Else the number of a refusal, and its place: nothing was written.
+ * Bytes of out past those written are never touched. */
+struct hrafnolt_written {
+    uint64_t number, value;
+};
+
+/* Output that is long enough for each drawing, and for the step records of each. */
+#define HRAFNOLT_DOT_MOST ((size_t)33560)
+#define HRAFNOLT_STEPS_MOST ((size_t)(3 * 1024))
+
+/* Step records (20, 21, 22) to DOT text. Bad records are 2, 1, 5 or 4 with the record's offset, as the judge says for a program of four
+ * processes, four variables and 256 transitions; an output too short is 26 with the bytes needed.
+ * The pointers are not null, each names as many bytes as its length says (at most PTRDIFF_MAX), those of out set to something, and the two
+ * don't overlap. */
+struct hrafnolt_written hrafnolt_dot_write(const uint8_t *steps, size_t steps_len, uint8_t *out, size_t out_len);
+
+/* DOT text, exactly as hrafnolt_dot_write makes it, back to step records. Any other text is 27 with the offset of the first byte that no
+ * such text has after the same beginning, or the text's length if it stops early; an output too short is 26 with the bytes needed. */
+struct hrafnolt_written hrafnolt_dot_read(const uint8_t *text, size_t text_len, uint8_t *out, size_t out_len);
+
+/* ---- a year of verdicts in exact fractions (request N11)
+ *
+ * A collection counts results: all of them, the safe ones, the sum of their entries, and of the squares of their entries. All 0 is the
+ * empty one. It goes in and comes back by value. */
+struct hrafnolt_collection {
+    uint64_t results, safe, sum, squares;
+};
+
+/* number 0, and the collection with what was added; or 25, and the collection as it was (of a join, the first). */
+struct hrafnolt_collected {
+    uint64_t number;
+    struct hrafnolt_collection collection;
+};
+
+/* number 0, and a fraction in lowest terms, 0 as 0/1; or 24, if there is no such number, or 25, then 0 and 0. */
+struct hrafnolt_fraction {
+    uint64_t number, numerator, denominator;
+};
+
+/* 25: more than 4,096 results, a safe result of more than 524,288 entries, or a collection that no addition made, as far as its counts
+ * show: more results than 4,096, more safe ones than results, a sum or squares too large for them, or squares too small for the sum. */
+struct hrafnolt_collected hrafnolt_add_safe(struct hrafnolt_collection c, uint64_t entries);
+struct hrafnolt_collected hrafnolt_add_other(struct hrafnolt_collection c);
+struct hrafnolt_collected hrafnolt_join(struct hrafnolt_collection a, struct hrafnolt_collection b);
+
+/* Mean and variance of the entries of the safe results (the variance divides by their number), and the share of safe results among all.
+ * 24: no safe result; for the share, no result at all. 25: as above. */
+struct hrafnolt_fraction hrafnolt_mean(struct hrafnolt_collection c);
+struct hrafnolt_fraction hrafnolt_variance(struct hrafnolt_collection c);
+struct hrafnolt_fraction hrafnolt_share(struct hrafnolt_collection c);
+
 #ifdef __cplusplus
 }
 #endif

@@ -44,9 +44,22 @@ static void make_room(struct region *region, size_t room)
     region->room = room;
 }
 
-static uint8_t pattern(size_t at)
+/* What a work area is filled with, and what it must be after the call where it is zeroed. */
+static uint8_t *pattern, *zeros;
+static size_t pattern_room;
+
+static void make_pattern(size_t room)
 {
-    return (uint8_t)(at * 37 % 251 + 1);
+    if (room <= pattern_room)
+        return;
+    pattern = realloc(pattern, room);
+    zeros = realloc(zeros, room);
+    need(pattern != NULL && zeros != NULL, "realloc");
+    for (size_t i = pattern_room; i < room; i++) {
+        pattern[i] = (uint8_t)(i * 37 % 251 + 1);
+        zeros[i] = 0;
+    }
+    pattern_room = room;
 }
 
 static size_t entries_allowed(size_t work_len)
@@ -80,8 +93,8 @@ int main(void)
         need(get(file, file_len), "standard input");
         if (file_len > 0)
             memcpy(copy, file, file_len);
-        for (size_t i = 0; i < work_len; i++)
-            work[i] = pattern(i);
+        make_pattern(work_len + 1);
+        memcpy(work, pattern, work_len);
         memset(work - page, 0xA5, page);
 
         size_t touched = (file_len + page) / page * page;
@@ -98,12 +111,10 @@ int main(void)
                 fault = "a byte before the work area was changed";
         if (zeroed > work_len)
             fault = "accepted a work area that is too small";
-        for (size_t i = 0; i < work_len && fault == NULL; i++) {
-            if (i < zeroed && work[i] != 0)
-                fault = "the work area is not 0 where it must be";
-            if (i >= zeroed && work[i] != pattern(i))
-                fault = "the work area was touched where it must not be";
-        }
+        else if (memcmp(work, zeros, zeroed) != 0)
+            fault = "the work area is not 0 where it must be";
+        else if (memcmp(work + zeroed, pattern + zeroed, work_len - zeroed) != 0)
+            fault = "the work area was touched where it must not be";
         if (fault != NULL)
             printf("fault: %s\n", fault);
         else if (v.kind == HRAFNOLT_SAFE)

@@ -7,11 +7,13 @@
 //! Every line is compared with the separate judge's. Exit status 0 if all agree.
 
 mod fixed;
+mod groups;
 mod random;
 mod search;
+mod seeded;
 
-use random::Random;
-use reference::{brute, cubes, judge, judge_input, writing, Verdict};
+use reference::{brute, cubes, judge, judge_input, writing, Configuration, Program, Verdict};
+use seeded::Random;
 use std::collections::{BTreeMap, HashMap};
 use std::io::{BufRead, BufReader, Read, Write};
 use std::process::{Child, ChildStdin, ChildStdout, Command, Stdio};
@@ -111,6 +113,30 @@ impl Judges {
         }
     }
 
+    /// Judges a list as it is and shuffled; gives its file.
+    fn in_any_order(
+        &mut self,
+        what: &str,
+        program: &Program,
+        entries: &[Configuration],
+        area: usize,
+        r: &mut Random,
+        program_too: bool,
+    ) -> Vec<u8> {
+        let file = writing::list_file(program, entries);
+        let line = judge(&file, area);
+        self.compare(what, &file, area, line, program_too);
+        let mut entries = entries.to_vec();
+        r.shuffle(&mut entries);
+        let shuffled = writing::list_file(program, &entries);
+        let line_shuffled = judge(&shuffled, area);
+        if !same_in_any_order(line, line_shuffled) {
+            self.fail(what, "the separate judge of the list shuffled", &line.to_string(), &line_shuffled.to_string(), &shuffled, area);
+        }
+        self.compare(&format!("{}, shuffled", what), &shuffled, area, line_shuffled, program_too);
+        file
+    }
+
     fn end(&self, what: &str) -> i32 {
         let spread: Vec<String> = self.lines.iter().map(|(kind, n)| format!("{}: {}", kind.trim(), n)).collect();
         println!("{}: {} files, {} differ ({})", what, self.judged, self.failed, spread.join(", "));
@@ -155,6 +181,7 @@ fn cases(name: &str, judges: &mut Judges) {
         }
     }
     let mut names = HashMap::new();
+    let mut r = Random(1);
     for line in &logical {
         if let Some((name, text)) = line.split_once(":=") {
             let value = bytes(text, &names);
@@ -189,20 +216,27 @@ fn cases(name: &str, judges: &mut Judges) {
         } else {
             judges.compare(line, &file, area, verdict, area == 32_768);
             both_algorithms(judges, line, &file, area, 50_000.0);
+            if let Ok((program, reference::Evidence::List(list))) = reference::read(&file, reference::entries_allowed(area)) {
+                judges.in_any_order(line, &program, &list.configurations(&program), area, &mut r, false);
+            }
         }
     }
 }
 
 /// The brute force beside the cubes, where the file is a list of a shape that is tiny enough.
 fn both_algorithms(judges: &mut Judges, what: &str, file: &[u8], area: usize, most: f64) -> bool {
-    let Ok((program, reference::Evidence::List(entries))) = reference::read(file, reference::entries_allowed(area)) else { return false };
+    let Ok((program, reference::Evidence::List(list))) = reference::read(file, reference::entries_allowed(area)) else { return false };
+    if list.len() > 1_000 {
+        return false;
+    }
+    let entries = list.configurations(&program);
     let bounds = brute::bounds(&program, &entries);
     let combinations: f64 = program.states.iter().map(|n| *n as f64).product();
-    if brute::size(&program, &bounds) * combinations > most || entries.len() > 1_000 {
+    if brute::size(&program, &bounds) * combinations > most {
         return false;
     }
     let Some(slow) = brute::judge_list(&program, &entries, &bounds) else { return false };
-    let fast = cubes::judge_list(&program, &entries);
+    let fast = cubes::judge_list(&program, &list);
     if slow != fast {
         judges.fail(what, "the brute force", &fast.to_string(), &slow.to_string(), file, area);
     }
@@ -271,7 +305,7 @@ fn reach(seed: u64, judges: &mut Judges) {
                     if !matches!(line, Verdict::Refused(10, _)) {
                         judges.fail("a list beside a run", "the separate judge", "refused 10", &line.to_string(), &list, area);
                     }
-                    judges.compare("a list beside a run", &list, area, line, false);
+                    judges.in_any_order("a list beside a run", &program, &entries, area, &mut r, false);
                 }
                 Err(_) => {
                     let wanted = Verdict::Safe(entries.len() as u64);
@@ -279,7 +313,7 @@ fn reach(seed: u64, judges: &mut Judges) {
                         judges.fail("a list, no run", "the separate judge", &wanted.to_string(), &line.to_string(), &list, area);
                     }
                     if short {
-                        judges.compare("a list, no run", &list, area, wanted, false);
+                        judges.in_any_order("a list, no run", &program, &entries, area, &mut r, false);
                     }
                 }
             }
@@ -321,14 +355,26 @@ fn corpora(seed: u64, judges: &mut Judges) {
     }
     let mut s = Random(seed ^ 0x5eed);
     random::lists(&mut r, &mut |program, entries| {
-        let file = writing::list_file(program, entries);
         let area = *s.pick(&areas);
-        judges.compare("list", &file, area, judge(&file, area), sample());
+        let file = judges.in_any_order("list", program, entries, area, &mut s, sample());
         if s.one_in(4) {
             let file = random::damaged_bytes(&mut s, &file);
             judges.compare("damaged list", &file, area, judge(&file, area), sample());
         }
     });
+    groups::lists(&mut r, &mut |what, program, entries| {
+        judges.in_any_order(what, program, entries, 65_536, &mut s, sample());
+    });
+}
+
+/// The order of a list decides only which entry is the lowest, in numbers 10 and 11, and what is read first of a list that is refused in
+/// its records.
+fn same_in_any_order(one: Verdict, other: Verdict) -> bool {
+    match (one, other) {
+        (Verdict::Refused(10 | 11, _), _) => matches!((one, other), (Verdict::Refused(a, _), Verdict::Refused(b, _)) if a == b),
+        (Verdict::Refused(1..=8, _), Verdict::Refused(1..=8, _)) => true,
+        _ => one == other,
+    }
 }
 
 fn main() {

@@ -1,33 +1,10 @@
 //! Seeded random programs, runs and lists, and their damaged variants.
 
 use crate::search::closed_list;
+use crate::seeded::Random;
 use reference::cubes::start_above;
+use reference::entries::Cube;
 use reference::{writing, Configuration, Message, Operation, Program, Step, Transition, FF};
-
-/// SplitMix64.
-pub struct Random(pub u64);
-
-impl Random {
-    pub fn next(&mut self) -> u64 {
-        self.0 = self.0.wrapping_add(0x9e37_79b9_7f4a_7c15);
-        let mut z = self.0;
-        z = (z ^ (z >> 30)).wrapping_mul(0xbf58_476d_1ce4_e5b9);
-        z = (z ^ (z >> 27)).wrapping_mul(0x94d0_49bb_1331_11eb);
-        z ^ (z >> 31)
-    }
-
-    pub fn below(&mut self, n: usize) -> usize {
-        (self.next() % n as u64) as usize
-    }
-
-    pub fn one_in(&mut self, n: usize) -> bool {
-        self.below(n) == 0
-    }
-
-    pub fn pick<'a, T>(&mut self, things: &'a [T]) -> &'a T {
-        &things[self.below(things.len())]
-    }
-}
 
 pub fn operation(r: &mut Random, variables: usize, values: u8) -> Operation {
     let variable = r.below(variables);
@@ -221,7 +198,7 @@ pub fn list(r: &mut Random, processes: usize, variables: usize, values: u8, most
         let further: Vec<Configuration> = if given { further_entry(r, &program).into_iter().collect() } else { Vec::new() };
         if let Some(entries) = closed_list(&program, &further, most) {
             let further = entries.iter().any(|entry| !program.targets.contains(&entry.states));
-            if reached_too || (further || targets_only) && !entries.iter().any(|entry| start_above(&program, entry)) {
+            if reached_too || (further || targets_only) && !entries.iter().any(|entry| start_above(&program, &Cube::of(entry))) {
                 return (program, entries);
             }
         }
@@ -238,12 +215,6 @@ fn value_places(entry: &mut Configuration, variables: usize) -> Vec<&mut u8> {
         places.extend(queue.iter_mut());
     }
     places
-}
-
-pub fn shuffle<T>(r: &mut Random, things: &mut [T]) {
-    for at in (1..things.len()).rev() {
-        things.swap(at, r.below(at + 1));
-    }
 }
 
 fn random_value(r: &mut Random, program: &Program) -> u8 {
@@ -296,7 +267,7 @@ fn split_often(r: &mut Random, program: &Program, entries: &[Configuration]) -> 
         let left_out = r.below(program.values as usize) as u8;
         split(r, program, &mut entries, at, left_out);
     }
-    shuffle(r, &mut entries);
+    r.shuffle(&mut entries);
     entries
 }
 
@@ -369,7 +340,7 @@ pub fn spoilt_list(r: &mut Random, program: &Program, entries: &[Configuration])
                 }
                 entries.insert(r.below(entries.len() + 1), more);
             }
-            9 => shuffle(r, &mut entries),
+            9 => r.shuffle(&mut entries),
             10 => match r.below(5) {
                 0 => {
                     let process = r.below(program.processes);
@@ -468,7 +439,7 @@ pub fn lists(r: &mut Random, each: &mut dyn FnMut(&Program, &[Configuration])) {
         };
         let further: Vec<usize> = (0..fewer.len()).filter(|n| fewer[*n].states[0] == 0 && small(&fewer[*n])).collect();
         fewer.remove(further[number / 3 % further.len()]);
-        shuffle(r, &mut fewer);
+        r.shuffle(&mut fewer);
         each(&program, &fewer);
     }
 }

@@ -1,7 +1,9 @@
 //! Searches for evidence, backward and forward. They serve tests, examples and the benchmark only: the judge never searches.
 #![allow(dead_code)]
 
-use reference::cubes::{least, predecessors, Index};
+use reference::cubes::{least, predecessors};
+use reference::entries::Cube;
+use reference::index::Index;
 use reference::{Configuration, Program, Step};
 use std::collections::{HashMap, VecDeque};
 
@@ -21,26 +23,33 @@ pub fn closed_list(program: &Program, given: &[Configuration], most: usize) -> O
         }
     }
     for entry in given {
-        if !index.holds(entry) {
-            index.add(entry.clone());
+        let entry = Cube::of(entry);
+        if !index.holds(&entry) {
+            index.add(&entry);
         }
     }
     let steps = program.all_steps();
     let mut next = 0;
     while next < index.len() {
+        let entry = index.entry(next);
         for step in &steps {
-            for cube in predecessors(program, index.entry(next), *step) {
-                if !index.holds(&cube) {
-                    if index.len() == most || cube.channel.len() > 16 || cube.queues.iter().any(|q| q.len() > 8) {
-                        return None;
-                    }
+            let within = predecessors(program, &entry, *step, |cube| {
+                if index.holds(cube) {
+                    return true;
+                }
+                let fits = index.len() < most && cube.channel().len() <= 16 && cube.lengths().iter().all(|length| *length <= 8);
+                if fits {
                     index.add(cube);
                 }
+                fits
+            });
+            if !within {
+                return None;
             }
         }
         next += 1;
     }
-    Some((0..index.len()).map(|n| index.entry(n).clone()).collect())
+    Some((0..index.len()).map(|number| index.entry(number).configuration(program)).collect())
 }
 
 /// A shortest run to a target that keeps at most `waiting` waiting values per process; else the number of configurations that there are

@@ -1,9 +1,12 @@
 //! A judge written separately, from document 01 alone, to be compared with the proved one.
-//! It shares no code, no order of work and no layout with it: records are read into owned values, a channel is a vector with its oldest
-//! message first, lists are answered over an index, and a second algorithm (`brute`) knows only the machine and the order.
+//! It shares no code, no order of work and no layout with it: records are read into owned values, a channel has its oldest message first,
+//! lists are answered over a hash index by structure, and a second algorithm (`brute`) knows only the machine and the order. It is written
+//! to be fast, as a judge without proofs would be: times of the proved one are given as ratios to it (bench/run).
 
 pub mod brute;
 pub mod cubes;
+pub mod entries;
+pub mod index;
 pub mod machine;
 pub mod reading;
 pub mod writing;
@@ -44,7 +47,7 @@ pub fn judge(file: &[u8], area: usize) -> Verdict {
     match read(file, entries_allowed(area)) {
         Err((number, place)) => Verdict::Refused(number, place as u64),
         Ok((program, Evidence::Run(steps))) => replay(&program, &steps),
-        Ok((program, Evidence::List(entries))) => cubes::judge_list(&program, &entries),
+        Ok((program, Evidence::List(list))) => cubes::judge_list(&program, &list),
     }
 }
 

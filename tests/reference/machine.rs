@@ -38,11 +38,22 @@ pub struct Program {
     pub targets: Vec<[u8; 4]>,
 }
 
-#[derive(Clone, Copy, PartialEq, Eq, Hash, Debug)]
+#[derive(Clone, Copy, PartialEq, Eq, Hash, Debug, Default)]
 pub struct Message {
     pub process: u8,
     pub variable: u8,
     pub snapshot: [u8; 4],
+}
+
+impl Message {
+    pub fn is_labelled(&self, process: usize, variable: usize) -> bool {
+        self.process as usize == process && self.variable as usize == variable
+    }
+}
+
+/// The largest message number that is the pointer or carries the label.
+pub fn last_write(channel: &[Message], pointer: usize, process: usize, variable: usize) -> usize {
+    (pointer + 1..=channel.len()).rev().find(|number| channel[number - 1].is_labelled(process, variable)).unwrap_or(pointer)
 }
 
 /// A configuration, or an entry: then a value may be FF.
@@ -93,15 +104,8 @@ impl Configuration {
         }
     }
 
-    /// The largest message number that is p's pointer or carries the label (p, v).
     pub fn last_write(&self, process: usize, variable: usize) -> usize {
-        let mut last = self.pointers[process];
-        for (at, message) in self.channel.iter().enumerate() {
-            if message.process as usize == process && message.variable as usize == variable {
-                last = last.max(at + 1);
-            }
-        }
-        last
+        last_write(&self.channel, self.pointers[process], process, variable)
     }
 
     fn queues_empty(&self, program: &Program, process: usize) -> bool {

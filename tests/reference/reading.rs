@@ -1,10 +1,11 @@
 //! Document 01, "Records" and the refusal table: bytes to program and evidence, or a number and a place.
 
-use crate::machine::{Configuration, Message, Operation, Program, Step, Transition};
+use crate::entries::{Cube, List};
+use crate::machine::{Message, Operation, Program, Step, Transition};
 use crate::FF;
 
 pub enum Evidence {
-    List(Vec<Configuration>),
+    List(List),
     Run(Vec<Step>),
 }
 
@@ -31,9 +32,11 @@ struct Reader {
     shape: bool,
     program: Program,
     claim: Option<u8>,
-    entries: Vec<Configuration>,
+    /// All entries but the latest.
+    list: List,
+    latest: Option<Cube>,
     /// Offset of the latest entry's 10.
-    entry_at: usize,
+    latest_at: usize,
     steps: Vec<Step>,
 }
 
@@ -48,30 +51,37 @@ impl Reader {
             (0x04, None) => all_states,
             (0x0f, None) => all_states && !no_target,
             (0x10, Some(0)) => true,
-            (0x11 | 0x12, Some(0)) => !self.entries.is_empty(),
+            (0x11 | 0x12, Some(0)) => self.latest.is_some(),
             (0x20 | 0x21 | 0x22, Some(1)) => true,
             _ => false,
         }
     }
 
+    fn end_entry(&mut self) {
+        if let Some(entry) = self.latest.take() {
+            self.list.push(&entry);
+        }
+    }
+
     /// Number 7, of the latest entry.
     fn entry_faulty(&self) -> bool {
-        let Some(entry) = self.entries.last() else { return false };
+        let Some(entry) = &self.latest else { return false };
         let pointers = &entry.pointers[..self.program.processes];
-        entry.channel.is_empty() || pointers.iter().any(|z| *z < 1 || *z > entry.channel.len()) || !pointers.contains(&1)
+        let messages = entry.channel().len();
+        messages == 0 || pointers.iter().any(|z| *z < 1 || *z as usize > messages) || !pointers.contains(&1)
     }
 
     fn one_too_many(&self, kind: u8, body: &[u8], entries_allowed: usize) -> bool {
         match kind {
             0x03 => self.program.transitions.len() == 256,
             0x04 => self.program.targets.len() == 16,
-            0x10 => self.entries.len() == entries_allowed,
-            0x11 => self.entries[self.entries.len() - 1].channel.len() == 16,
+            0x10 => self.list.len() + self.latest.is_some() as usize == entries_allowed,
+            0x11 => self.latest.as_ref().is_some_and(|entry| entry.channel().len() == 16),
             0x12 => {
                 let (p, v) = (body[0] as usize, body[1] as usize);
                 p < self.program.processes
                     && v < self.program.variables
-                    && self.entries[self.entries.len() - 1].queues[self.program.queue(p, v)].len() == 8
+                    && self.latest.as_ref().is_some_and(|entry| entry.queue(self.program.queue(p, v)).len() == 8)
             }
             0x20..=0x22 => self.steps.len() == 1_024,
             _ => false,
@@ -169,9 +179,10 @@ impl Reader {
                     if p >= processes {
                         zero(body[4 + p])?;
                     }
-                    pointers[p] = body[4 + p] as usize;
+                    pointers[p] = body[4 + p];
                 }
-                self.entries.push(Configuration { states, queues: vec![Vec::new(); processes * variables], channel: Vec::new(), pointers });
+                self.end_entry();
+                self.latest = Some(Cube::new(states, pointers));
             }
             0x11 => {
                 process(body[0])?;
@@ -182,14 +193,14 @@ impl Reader {
                     }
                 }
                 let message = Message { process: body[0], variable: body[1], snapshot: [body[2], body[3], body[4], body[5]] };
-                self.entries.last_mut()?.channel.push(message);
+                self.latest.as_mut()?.append(message);
             }
             0x12 => {
                 let queue = self.program.queue(process(body[0])?, variable(body[1])?);
                 if !self.value_or_any(body[2]) {
                     return None;
                 }
-                self.entries.last_mut()?.queues[queue].push(body[2]);
+                self.latest.as_mut()?.push_newest(queue, body[2]);
             }
             0x20 => {
                 if body[0] as usize >= self.program.transitions.len() {
@@ -217,7 +228,7 @@ pub fn read(file: &[u8], entries_allowed: usize) -> Result<(Program, Evidence), 
     while at < file.len() {
         let kind = file[at];
         if kind == 0x10 && reader.entry_faulty() {
-            return Err((7, reader.entry_at));
+            return Err((7, reader.latest_at));
         }
         if !reader.allowed_here(kind) {
             return Err((2, at));
@@ -234,16 +245,17 @@ pub fn read(file: &[u8], entries_allowed: usize) -> Result<(Program, Evidence), 
             return Err((4, at));
         }
         if kind == 0x10 {
-            reader.entry_at = at;
+            reader.latest_at = at;
         }
         at += 1 + length;
     }
     if reader.entry_faulty() {
-        return Err((7, reader.entry_at));
+        return Err((7, reader.latest_at));
     }
+    reader.end_entry();
     match reader.claim {
         None => Err((6, file.len())),
-        Some(0) => Ok((reader.program, Evidence::List(reader.entries))),
+        Some(0) => Ok((reader.program, Evidence::List(reader.list))),
         Some(_) => Ok((reader.program, Evidence::Run(reader.steps))),
     }
 }

@@ -1,17 +1,23 @@
--- Conjecture 1 of the report (5.2), as two statements: for every program in range, every starting memory and every sequence of steps
--- that one machine takes, of any length, the other takes a sequence from the same memory to equal local states.
+-- Conjecture 1 of the report (5.2): for every program in range and every starting memory the two machines reach the same targets
+-- (`SameReachability`). Two statements carry it: for every sequence of steps that one machine takes, of any length, the other takes a
+-- sequence from the same memory to equal local states (`PwsToPso`, `PsoToPws`).
 use Prim.Native.Nat.{ℕ, _<_}
 use mathlib.Core.Path.{_≡_}
+use mathlib.Core.Logic.{_↔_}
 use mathlib.Core.List.{List, []}
 use lib.ListN.{length}
 use Rattle.pws.specs.declared.Step.{Step}
 use Rattle.pws.specs.Program.{Program, ProgramInRange}
 use Rattle.pws.specs.Machine.{Configuration, message}
-use Rattle.pws.specs.Configurations.{ConfigurationOf}
+use Rattle.pws.specs.Configurations.{ConfigurationOf, InTarget}
 use Rattle.pws.specs.Sequences.{Takes}
 use Rattle.pso.specs.declared.PsoStep.{PsoStep}
 use Rattle.pso.specs.Machine.{PsoConfiguration}
-use Rattle.pso.specs.Runs.{MemoryOf, PsoStart, PsoTakes}
+use Rattle.pso.specs.Runs.{PsoStart, PsoTakes, PsoReachable}
+
+-- the memory that a start of the PWS machine has: the snapshot of its one message
+abbrev pub startingMemory : Configuration → List ℕ
+startingMemory c = message (c .memory .channel) 1 .snapshot
 
 -- a start of the PWS machine with this memory: initial local states, empty queues, one message of any existing label, all pointers 1
 -- (report, 5.1)
@@ -20,7 +26,7 @@ pub record PwsStart (P : Program) (memory : List ℕ) (c : Configuration) : Type
   pub states : (p : ℕ) → p < P .shape .processes → c .state p ≡ P .initial p
   pub queues : (p v : ℕ) → p < P .shape .processes → v < P .shape .variables → c .queue p v ≡ []
   pub one : length (c .memory .channel) ≡ 1
-  pub starts : message (c .memory .channel) 1 .snapshot ≡ memory
+  pub starts : startingMemory c ≡ memory
   pub pointers : (p : ℕ) → p < P .shape .processes → c .memory .pointer p ≡ 1
 
 -- the local states of the two configurations are equal
@@ -52,3 +58,17 @@ abbrev pub PsoToPws : Type 0
 PsoToPws =
     (P : Program) → ProgramInRange P → (memory : List ℕ) (c₀ : Configuration) (d₀ : PsoConfiguration) → PwsStart P memory c₀
     → PsoStart P memory d₀ → (us : List PsoStep) (d : PsoConfiguration) → PsoTakes P d₀ us d → PwsReaches P c₀ d
+
+-- ---- the conjecture
+
+-- a run of any length of the PWS machine from a start with this memory to the target (report, 5.2: Reachable(PWS))
+pub record PwsReachable (P : Program) (memory : List ℕ) (target : ℕ → ℕ) : Type 0 where
+  pub first : Configuration
+  pub starts : PwsStart P memory first
+  pub steps : List Step
+  pub last : Configuration
+  pub takes : Takes P first steps last
+  pub reached : InTarget (P .shape) target last
+
+abbrev pub SameReachability : Type 0
+SameReachability = (P : Program) → ProgramInRange P → (memory : List ℕ) (target : ℕ → ℕ) → PwsReachable P memory target ↔ PsoReachable P memory target

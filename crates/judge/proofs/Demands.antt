@@ -126,7 +126,7 @@ module _ (f : List ℕ) (area : ℕ) where
     file-list-judged =
         verdict-judged P list-range es (λ k l. read .entries k l .of) ts (λ k l. read .part .targets k l) (λ k l. read .entries k l .first)
 
-  run-range : (P : Program) (ts : List (ℕ → ℕ)) (ss : List Step) → Reads (reading.run P ts ss) → ProgramInRange P
+  pub run-range : (P : Program) (ts : List (ℕ → ℕ)) (ss : List Step) → Reads (reading.run P ts ss) → ProgramInRange P
   run-range P ts ss q = run-read f area q .part .program
 
   file-judged : (r : reading.FileRead) → Reads r → FileJudged r (ofFile r) × ((v : Verdict) → FileJudged r v → v ≡ ofFile r)

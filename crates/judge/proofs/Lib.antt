@@ -1,6 +1,7 @@
 pub mod Numbers
 pub mod Runs
 pub mod Demands
+pub mod PsoDemands
 pub mod Cases
 pub mod AreaLaws
 pub mod LowestLaws

@@ -1,5 +1,6 @@
 -- The demands, as statements about the verdict of a file. The theorems are in proofs/Demands, under the same names in small letters. A
 -- configuration, a step and a sequence of steps are the machine's (pws/specs), with no bound of any kind; `area` is the length of any work area.
+-- What the answers say of the PSO machine stands in specs/PsoDemands.
 use Prim.Native.Nat.{ℕ, _<_, _≤_}
 use mathlib.Core.Path.{_≡_}
 use mathlib.Core.Logic.{_↔_}

@@ -1,5 +1,6 @@
 pub mod Judge
 pub mod Demands
+pub mod PsoDemands
 pub mod Cases
 pub mod Answers
 pub mod Ready

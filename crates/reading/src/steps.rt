@@ -103,7 +103,7 @@ pub fn step_at(file: &[u8], at: usize) -> Step
 }
 
 // The steps, to the file's end.
-pub(crate) fn steps_from(file: &[u8], at: usize, shape: Shape, transitions: usize) -> Counted
+pub fn steps_from(file: &[u8], at: usize, shape: Shape, transitions: usize) -> Counted
     ensures { λ r. ⌜ r ≡ stepsFrom shape transitions (now (file .entry)) at ⌝ }
 {
     let mut k = at;

@@ -81,7 +81,7 @@ steps-past f (suc n) x y a b =
     ap₂ (λ (s : Step) (ss : List Step). s ∷ ss) (step-past f x y a b)
     (steps-past f n (x + (1 + stepBody f x)) (y + (1 + stepBody f y)) (omega arith) (omega arith))
 
-steps-next : (f : List ℕ) (n at : ℕ) → stepsOf f (at + (1 + stepBody f at)) n ≡ stepsOf f (nextStep f at) n
+pub steps-next : (f : List ℕ) (n at : ℕ) → stepsOf f (at + (1 + stepBody f at)) n ≡ stepsOf f (nextStep f at) n
 unfolding nextStep
 steps-next f n at = elim (decLe (length f) at) [
   | yes l ↦ rw (le-leb (length f) at l) (steps-past f n (at + (1 + stepBody f at)) at (omega arith) l)
@@ -127,7 +127,7 @@ module _ (f : List ℕ) (p : Program) (few : p .shape .processes ≤ 4) (states 
       ∙ ⊎-elim (λ e. ap (λ (x : ℕ). inTarget (shapeOf (p .shape)) (stateAt f x) c) e)
       (λ e. ap (λ (t : ℕ → ℕ). inTarget (shapeOf (p .shape)) t c) (fun-ext (λ q. state-past at place q (e .0) (e .1)))) w
 
-  targets-last : (steps n at i : ℕ) → Near f at (p .targets .at + 5 * i)
+  pub targets-last : (steps n at i : ℕ) → Near f at (p .targets .at + 5 * i)
       → lastFrom f (p .shape) states steps at i n ≡ lastAnswer steps (run.lowestMet (shapeOf (p .shape)) i (tableFrom (λ j. stateAt f (p .targets .at + 5 * j)) i n) c)
   unfolding lastFrom
   targets-last steps zero at i w = refl
@@ -148,7 +148,7 @@ module _ (f : List ℕ) (p : Program) (few : p .shape .processes ≤ 4) (states 
 
 -- ---- the start
 
-zeros-at : (n i : ℕ) → _≡_ {A = ℕ} (getD (replicate n 0) i 0) 0
+pub zeros-at : (n i : ℕ) → _≡_ {A = ℕ} (getD (replicate n 0) i 0) 0
 zeros-at zero i = refl
 zeros-at (suc n) zero = refl
 zeros-at (suc n) (suc i) = zeros-at n i

@@ -190,10 +190,10 @@ table-at g i (suc n) zero d l = ap g (omega arith)
 table-at g i (suc n) (suc k) d l = table-at g (suc i) n k d (omega arith) ∙ ap g (omega arith)
 
 module _ (f : List ℕ) (p : Program) where
-  transition-count : length (programOf f p .transitions) ≡ p .transitions .count
+  pub transition-count : length (programOf f p .transitions) ≡ p .transitions .count
   transition-count = table-length (λ i. transitionAt f (p .transitions .at + 8 * i)) 0 (p .transitions .count)
 
-  transition-is : (n : ℕ) → n < p .transitions .count → pws.transition (programOf f p) n ≡ transitionAt f (p .transitions .at + 8 * n)
+  pub transition-is : (n : ℕ) → n < p .transitions .count → pws.transition (programOf f p) n ≡ transitionAt f (p .transitions .at + 8 * n)
   transition-is n l =
       table-at (λ i. transitionAt f (p .transitions .at + 8 * i)) 0 (p .transitions .count) n pws.noTransition l
       ∙ ap (λ (i : ℕ). transitionAt f (p .transitions .at + 8 * i)) (omega arith)
@@ -204,10 +204,10 @@ module _ (f : List ℕ) (p : Program) where
   move-absent : (n : ℕ) → p .transitions .count ≤ n → moveOf f (p .transitions) (step.Take n) ≡ Absent
   move-absent n l = rw (le-leb (p .transitions .count) n l)
 
-  exists-is : (n : ℕ) → n < p .transitions .count → ltb n (length (programOf f p .transitions)) ≡ true
+  pub exists-is : (n : ℕ) → n < p .transitions .count → ltb n (length (programOf f p .transitions)) ≡ true
   exists-is n l = lt-ltb n (length (programOf f p .transitions)) (omega (arith, transition-count))
 
-  exists-not : (n : ℕ) → p .transitions .count ≤ n → ltb n (length (programOf f p .transitions)) ≡ false
+  pub exists-not : (n : ℕ) → p .transitions .count ≤ n → ltb n (length (programOf f p .transitions)) ≡ false
   exists-not n l = le-ltb n (length (programOf f p .transitions)) (omega (arith, transition-count))
 
   module _ (R : pws.ProgramInRange (programOf f p)) (k : ℕ) (run : Run) (rows : List (List ℕ)) (a : List ℕ) (c : Configuration)

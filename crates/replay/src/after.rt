@@ -57,7 +57,7 @@ fn messages_after(messages: u16, step: Move) -> u16
     }
 }
 
-fn advanced(xs: [u16; 16], p: usize, v: usize) -> [u16; 16]
+pub fn advanced(xs: [u16; 16], p: usize, v: usize) -> [u16; 16]
     ensures { λ r. ⌜ r ≡ advanced xs p v ⌝ }
 {
     let q = queue_number(p, v);

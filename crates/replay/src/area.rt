@@ -10,14 +10,14 @@ ghost use Rattle.replay.specs.Layout.{queueNumber, snapshotAt, putSnapsh
 use records::bytes::byte_at;
 use records::bytes::wide;
 
-fn widen(x: u16) -> usize
+pub fn widen(x: u16) -> usize
     ensures { λ r. ⌜ r ≡ x ⌝ }
 {
     x as usize
 }
 
 // One more; there is no number past 65,535.
-pub(crate) fn next_number(x: u16) -> u16
+pub fn next_number(x: u16) -> u16
     ensures { λ r. ⌜ r ≡ nextNumber x ⌝ }
 {
     if x < 65535 {
@@ -27,7 +27,7 @@ pub(crate) fn next_number(x: u16) -> u16
 }
 
 // The queue of process p and variable v; 16 where there is none.
-pub(crate) fn queue_number(p: usize, v: usize) -> u8
+pub fn queue_number(p: usize, v: usize) -> u8
     ensures { λ r. ⌜ r ≡ queueNumber p v ⌝ }
 {
     if 4 <= p {
@@ -40,7 +40,7 @@ pub(crate) fn queue_number(p: usize, v: usize) -> u8
 }
 
 // A snapshot with one value changed.
-pub(crate) fn with_value(snapshot: [u8; 4], v: usize, x: u8) -> [u8; 4]
+pub fn with_value(snapshot: [u8; 4], v: usize, x: u8) -> [u8; 4]
     ensures { λ r. ⌜ r ≡ set snapshot v x ⌝ }
 {
     let mut next = snapshot;

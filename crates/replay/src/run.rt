@@ -64,7 +64,7 @@ fn next_target(file: &[u8], at: usize) -> usize
     at + 5
 }
 
-fn next_step(file: &[u8], at: usize) -> usize
+pub fn next_step(file: &[u8], at: usize) -> usize
     ensures { λ r. ⌜ r ≡ nextStep (now (file .entry)) at ⌝ }
 {
     if file.len() <= at {
@@ -73,7 +73,13 @@ fn next_step(file: &[u8], at: usize) -> usize
     at + (1 + step_body(file, at))
 }
 
-fn last_answer(file: &[u8], targets: Row, shape: Shape, states: [u8; 4], steps: usize) -> RunAnswer
+pub fn last_answer(
+    file: &[u8],
+    targets: Row,
+    shape: Shape,
+    states: [u8; 4],
+    steps: usize,
+) -> RunAnswer
     ensures { λ r. ⌜ r ≡ lastIn (now (file .entry)) targets shape states steps ⌝ }
 {
     let mut k = targets.at;
@@ -91,7 +97,7 @@ fn last_answer(file: &[u8], targets: Row, shape: Shape, states: [u8; 4], steps: 
 
 // ---- the replay
 
-fn stopped_by(step: usize, answer: Answer) -> RunAnswer
+pub fn stopped_by(step: usize, answer: Answer) -> RunAnswer
     ensures { λ r. ⌜ r ≡ stoppedBy step answer ⌝ }
 {
     match answer {

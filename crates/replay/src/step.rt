@@ -65,7 +65,7 @@ pub fn cause_number(cause: Cause) -> u8
 // ---- the step's transition
 
 // The transition of number n, in a row of 03s.
-fn transition_in(file: &[u8], row: Row, n: usize) -> Transition
+pub fn transition_in(file: &[u8], row: Row, n: usize) -> Transition
     ensures { λ r. ⌜ r ≡ transitionIn (now (file .entry)) row n ⌝ }
 {
     let none = Transition {
@@ -103,7 +103,7 @@ pub(crate) fn move_of(file: &[u8], transitions: Row, step: Step) -> Move
 
 // ---- arrays
 
-pub(crate) fn of_queues(xs: [u16; 16], q: u8) -> u16
+pub fn of_queues(xs: [u16; 16], q: u8) -> u16
     ensures { λ r. ⌜ r ≡ getD xs q 0 ⌝ }
 {
     let at = wide(q);
@@ -113,7 +113,7 @@ pub(crate) fn of_queues(xs: [u16; 16], q: u8) -> u16
     0
 }
 
-pub(crate) fn put_queue(xs: [u16; 16], q: u8, x: u16) -> [u16; 16]
+pub fn put_queue(xs: [u16; 16], q: u8, x: u16) -> [u16; 16]
     ensures { λ r. ⌜ r ≡ set xs q x ⌝ }
 {
     let at = wide(q);
@@ -242,7 +242,7 @@ fn value_fits(run: Run, rows: [[u16; 5]; 4], lower: &[u8], p: usize, operation: 
 }
 
 // The first cause that applies: each argument says that one of them does not.
-fn first_cause(state: bool, queue: bool, pointer: bool, value: bool, some: bool) -> Answer
+pub fn first_cause(state: bool, queue: bool, pointer: bool, value: bool, some: bool) -> Answer
     ensures { λ r. ⌜ r ≡ firstCause state queue pointer value some ⌝ }
 {
     if !state {

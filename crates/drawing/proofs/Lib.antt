@@ -1,0 +1,16 @@
+pub mod NumberLaws
+pub mod PutLaws
+pub mod LineLaws
+pub mod RowLaws
+pub mod StepLaws
+pub mod WriteLaws
+pub mod WordLaws
+pub mod LabelLaws
+pub mod EdgeLaws
+pub mod NodeLaws
+pub mod ReadLaws
+pub mod ScanLaws
+pub mod DotLaws
+pub mod TripLaws
+pub mod Cases
+pub mod ShownLaws

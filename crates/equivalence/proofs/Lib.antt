@@ -1,0 +1,16 @@
+pub mod Pso
+pub mod Buffers
+pub mod BackwardPending
+pub mod BackwardBuffers
+pub mod BackwardDelayed
+pub mod BackwardDoing
+pub mod BackwardFollowing
+pub mod BackwardStrong
+pub mod Backward
+pub mod ForwardThreads
+pub mod ForwardMerge
+pub mod ForwardAhead
+pub mod ForwardOwn
+pub mod ForwardOperations
+pub mod Forward
+pub mod Reachability

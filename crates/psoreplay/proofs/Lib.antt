@@ -1,0 +1,11 @@
+pub mod AreaLaws
+pub mod LoopLaws
+pub mod Items
+pub mod Holding
+pub mod Answering
+pub mod Stepping
+pub mod CauseLaws
+pub mod Alike
+pub mod Accepted
+pub mod Replaying
+pub mod Cases

@@ -1,0 +1,14 @@
+use Rattle.psoreplay.specs.Layout.{mayRemoveIn}
+use borrow.Author.Needs.{needs}
+use Rattle.psoreplay.proofs.step.may_remove.Statement.{statement}
+use Rattle.psoreplay.proofs.step.may_remove.Tie as tie
+
+pub may-remove-spec : {M : Type 1} → statement M
+unfolding mayRemoveIn
+may-remove-spec = tie.close (tie.spec
+    -- all-marked-requires
+    (λ c κs. search needs)
+    -- both-requires
+    (λ c κs. search needs)
+    -- returns
+    (λ c. rw (c .both .ensures, c .before .all-marked .ensures)))

@@ -1,0 +1,29 @@
+-- The replay as the code makes it, over the bytes and arrays of Layout. No statement rests on these definitions: `replay-right` says that they
+-- give the answer of the machine.
+use Prim.Native.Nat.{ℕ, zero, suc, _+_}
+use mathlib.Core.List.{List}
+use lib.ListN.{replicate}
+use Rattle.records.specs.declared.program.Shape.{Shape}
+use Rattle.records.specs.declared.program.Row.{Row}
+use Rattle.records.specs.declared.program.Program.{Program}
+use Rattle.records.specs.Records.{stepAt}
+use Rattle.replay.specs.declared.run.RunAnswer.{RunAnswer}
+use Rattle.replay.specs.Answers.{answerThen}
+use Rattle.replay.specs.Loop.{nextStep, lastIn}
+use Rattle.psoreplay.specs.declared.step.PsoRun.{PsoRun}
+use Rattle.psoreplay.specs.Layout.{psoMoveOf, answerIn, runAfter, areaAfter}
+
+abbrev pub firstRun : List ℕ → List ℕ → PsoRun
+firstRun states memory = record { states = states; memory = memory; heads = replicate 16 0; tails = replicate 16 0; lasts = replicate 16 0 }
+
+-- the steps from number k on, which stands at `at`; n of `steps` are left
+unfoldable pub runFrom : List ℕ → Shape → Row → Row → ℕ → ℕ → ℕ → PsoRun → List ℕ → ℕ → RunAnswer
+runFrom f s transitions targets steps k at run a zero = lastIn f targets s (run .states) steps
+runFrom f s transitions targets steps k at run a (suc n) =
+    let m = psoMoveOf f transitions (stepAt f at) in
+    answerThen (answerIn run a s m) k (λ _.
+    runFrom f s transitions targets steps (k + 1) (nextStep f at) (runAfter run a s m) (areaAfter a (run .tails) s m) n)
+
+abbrev pub replayIn : List ℕ → Program → List ℕ → ℕ → ℕ → List ℕ → RunAnswer
+replayIn f p memory at count a =
+    runFrom f (p .shape) (p .transitions) (p .targets) count 0 at (firstRun (p .initial) memory) a count

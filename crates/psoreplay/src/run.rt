@@ -1,0 +1,77 @@
+// The replay of a run's steps in the PSO machine.
+ghost use mathlib.Core.Path.{_≡_};
+ghost use Prim.Native.Nat.{_≤_};
+ghost use lib.ListN.{length, replicate};
+ghost use Rattle.pws.specs.Program.{ProgramInRange};
+ghost use Rattle.records.specs.ProgramPart.{programOf, targetsOf};
+ghost use Rattle.reading.specs.EvidencePart.{stepsOf};
+ghost use Rattle.psoreplay.specs.Answers.{psoSteps, psoRunAnswer};
+ghost use Rattle.psoreplay.specs.Loop.{firstRun, replayIn};
+use crate::after::run_after;
+use crate::after::store;
+use crate::step::PsoRun;
+use crate::step::pso_move;
+use crate::step::step_answer;
+use reading::steps::step_at;
+use records::program::Program;
+use replay::area::clear;
+use replay::run::RunAnswer;
+use replay::run::last_answer;
+use replay::run::next_step;
+use replay::run::stopped_by;
+use replay::step::Answer;
+
+// Initial local states, empty buffers, and this memory.
+fn first_run(states: [u8; 4], memory: [u8; 4]) -> PsoRun
+    ensures { λ r. ⌜ r ≡ firstRun states memory ⌝ }
+{
+    let none = [0u16; 16];
+    PsoRun {
+        states: states,
+        memory: memory,
+        heads: none,
+        tails: none,
+        lasts: none,
+    }
+}
+
+// `count` steps from `at` on, from a start with this memory; afterwards the lower part is 0.
+pub fn replay_steps(
+    file: &[u8],
+    program: Program,
+    memory: [u8; 4],
+    at: usize,
+    count: usize,
+    lower: &mut [u8],
+) -> RunAnswer
+    ensures { λ r. ⌜ r ≡ replayIn (now (file .entry)) program memory at count (now (lower .entry)) ⌝ }
+    ensures { λ r. ⌜ now (lower .exit) ≡ replicate (length (now (lower .entry))) 0 ⌝ }
+    ensures { λ r. ⌜ (ProgramInRange (programOf (now (file .entry)) program) → count ≤ 1024 → length (now (lower .entry)) ≡ 16384 → r ≡ psoRunAnswer (programOf (now (file .entry)) program) memory (targetsOf (now (file .entry)) program) (psoSteps (stepsOf (now (file .entry)) at count))) ⌝ }
+{
+    let shape = program.shape;
+    let transitions = program.transitions;
+    let targets = program.targets;
+    let states = program.initial;
+    let mut run = first_run(states, memory);
+    let mut k = at;
+    let mut i = 0;
+    let verdict = loop {
+        if count <= i {
+            let last = run.states;
+            break last_answer(file, targets, shape, last, count);
+        }
+        let step = pso_move(file, transitions, step_at(file, k));
+        let answer = step_answer(run, &lower[..], shape, step);
+        let Answer::Permitted = answer else {
+            break stopped_by(i, answer);
+        };
+        let tails = run.tails;
+        let next = run_after(run, &lower[..], shape, step);
+        store(lower, tails, shape, step);
+        run = next;
+        k = next_step(file, k);
+        i += 1;
+    };
+    clear(lower);
+    verdict
+}
