@@ -122,6 +122,12 @@ evidence-kept n (entries r) w l h =
     rest-kept 16384 (4 * n) w (wroteFrom 0 (r .offsets) (drop 16384 w)) l (drop-wrote (r .offsets) (drop 16384 w) 0 (4 * n) (omega arith))
 evidence-kept n (steps m) w l h = refl
 
+-- what is the same past a place is the same past a later one
+drop-more : (a b : ℕ) (x y : List ℕ) → a ≤ b → drop a x ≡ drop a y → drop b x ≡ drop b y
+drop-more a b x y l e =
+    let j : a + (b - a) ≡ b = omega arith in
+    ap (λ (i : ℕ). drop i x) (sym j) ∙ sym (drop-drop (b - a) a x) ∙ ap (drop (b - a)) e ∙ drop-drop (b - a) a y ∙ ap (λ (i : ℕ). drop i y) j
+
 pub reading-kept : (f w : List ℕ) → 65536 ≤ length w → drop (usedOf (length w)) (reading.areaRead (partsOf f (length w)) w) ≡ drop (usedOf (length w)) w
 unfolding usedOf
 reading-kept f w l = go (programFrom f 0 .answer) refl
@@ -130,18 +136,25 @@ reading-kept f w l = go (programFrom f 0 .answer) refl
     p = programFrom f 0 .program
 
     go : (x : Checked) → programFrom f 0 .answer ≡ x
-        → drop (16384 + 4 * entriesAllowed (length w)) (reading.areaRead (partsOf f (length w)) w) ≡ drop (16384 + 4 * entriesAllowed (length w)) w
+        → drop (16384 + 12 * entriesAllowed (length w)) (reading.areaRead (partsOf f (length w)) w) ≡ drop (16384 + 12 * entriesAllowed (length w)) w
     go Fine e =
-        ap (λ (y : Parts). drop (16384 + 4 * entriesAllowed (length w)) (reading.areaRead y w)) (parts-both f (length w) l e)
-        ∙ evidence-kept (entriesAllowed (length w)) (evidenceFrom f (p .claim) p (length w)) w (omega arith) (evidence-few f (p .claim) p (length w))
-    go (Refused r) e = ap (λ (y : Parts). drop (16384 + 4 * entriesAllowed (length w)) (reading.areaRead y w)) (parts-refused f (length w) r l e)
+        ap (λ (y : Parts). drop (16384 + 12 * entriesAllowed (length w)) (reading.areaRead y w)) (parts-both f (length w) l e)
+        ∙ drop-more (16384 + 4 * entriesAllowed (length w)) (16384 + 12 * entriesAllowed (length w)) _ w (omega arith)
+        (evidence-kept (entriesAllowed (length w)) (evidenceFrom f (p .claim) p (length w)) w (omega arith) (evidence-few f (p .claim) p (length w)))
+    go (Refused r) e = ap (λ (y : Parts). drop (16384 + 12 * entriesAllowed (length w)) (reading.areaRead y w)) (parts-refused f (length w) r l e)
 
 -- the replay's part came back, and the judgement's part is more than that
 pub replay-kept : (n : ℕ) (w v a : List ℕ) → drop (usedOf n) w ≡ drop (usedOf n) v → 16384 ≤ length w → a ≡ replicate (length (take 16384 w)) 0
     → drop (usedOf n) (a ++ drop 16384 w) ≡ drop (usedOf n) v
 unfolding usedOf
 replay-kept n w v a e l q =
-    front-kept 16384 (4 * entriesAllowed n) a w (ap length q ∙ length-replicate (length (take 16384 w)) 0 ∙ length-take-le 16384 w l) ∙ e
+    front-kept 16384 (12 * entriesAllowed n) a w (ap length q ∙ length-replicate (length (take 16384 w)) 0 ∙ length-take-le 16384 w l) ∙ e
+
+-- the upper part came back with all past the offsets and the slots as it was
+pub list-kept : (n : ℕ) (w v b : List ℕ) → drop (usedOf n) w ≡ drop (usedOf n) v → 16384 ≤ length w → drop (12 * entriesAllowed n) b ≡ drop (12 * entriesAllowed n) (drop 16384 w)
+    → drop (usedOf n) (take 16384 w ++ b) ≡ drop (usedOf n) v
+unfolding usedOf
+list-kept n w v b e l q = rest-kept 16384 (12 * entriesAllowed n) w b l q ∙ e
 
 -- ---- the whole
 

@@ -1,9 +1,9 @@
 -- From what the reading hands on to the verdict of the file.
-use Prim.Native.Nat.{ℕ, _<_, _≤_}
+use Prim.Native.Nat.{ℕ, _*_, _-_, _<_, _≤_}
 use mathlib.Core.Path.{_≡_, refl, sym, ap, subst, _∙_}
-use mathlib.Core.List.{List}
+use mathlib.Core.List.{List, [], _++_, append-nil}
 use native.Mathlib.Omega.{arith}
-use lib.ListN.{length, drop}
+use lib.ListN.{length, take, drop, length-drop, drop-of-length-le}
 use Rattle.pws.specs.Program as pws
 use Rattle.records.specs.declared.program.Refusal.{Refusal}
 use Rattle.records.specs.declared.program.Checked.the-variants.{Fine, Refused}
@@ -26,10 +26,12 @@ use Rattle.replay.specs.Answers.{verdictOfRun, RunOf}
 use Rattle.judge.specs.declared.answer.Answer.{Answer}
 use Rattle.judge.specs.declared.answer.Answer.the-variants.{Unread}
 use Rattle.judge.specs.declared.answer.Verdict as declared
-use Rattle.judge.specs.Judge.{Verdict, refused, ofRun, ofFile, judged}
+use Rattle.judge.specs.Judge.{Verdict, refused, ofRun, ofFile, judged, usedOf}
 use Rattle.judge.specs.Answers.{verdictIn, inC, Answered}
-use Rattle.judge.specs.Ready.{Ready, listSaid}
-use Rattle.judge.proofs.AreaLaws.{few}
+use Rattle.judge.specs.Ready.{Listed, ListReady, slotsCleared, listSaid}
+use Rattle.judge.proofs.AreaLaws.{few, list-kept}
+use Rattle.judge.proofs.SummaryLaws.{listed-taken, said-taken, done-kept}
+use Rattle.summary.specs.Groups.{summarised}
 use Rattle.judge.proofs.Numbers.{short-file}
 use Rattle.judge.proofs.Demands.{one-answer}
 
@@ -68,20 +70,46 @@ module _ (f w : List ℕ) (R : Reading) (r : R ≡ reading.readingOf (reading.pa
       entries-length : length (entriesOf f (drop 16384 work) n) ≡ n
       entries-length = table-length (λ i. configurationOf (cubeAt f (drop 16384 work) i)) 0 n
 
-      pub ready : Ready f list n p
-      ready =
-          subst (λ (l : List ℕ). Ready f l n p) (sym d)
-          (let L = list-read f (length w) (reading-list f w R r q work e c) in
+      listed : Listed f (drop 16384 work) n p
+      listed =
+          let L = list-read f (length w) (reading-list f w R r q work e c) in
           record {
             sizes = reading-sizes f w R r q;
             part = L .part;
             count = omega (arith, reading-count f w R r q work e c, few (entriesAllowed (length w)) (length w) refl);
             entries = λ k l. L .entries k (omega (arith, entries-length));
             cubes = reading-cube f w R r q work e c;
-          })
+          }
 
-      pub list-said : (v : Verdict) → v ≡ listSaid f list n p → v ≡ judged f (length w)
-      list-said v h = h ∙ ap (λ (l : List ℕ). listSaid f l n p) d ∙ judged-of _ (reading-list f w R r q work e c)
+      -- there is room for the offsets of the entries allowed, and for their slots behind them
+      module _ (at : ℕ) (a : at ≡ 4 * entriesAllowed (length w)) (large : 65536 ≤ length w) (same : length work ≡ length w) where
+        many : n ≤ entriesAllowed (length w)
+        many = reading-count f w R r q work e c
+
+        pub ready : ListReady f list at n p
+        unfolding entriesAllowed
+        ready =
+            rw d
+            (record {
+              offsets = omega (arith, many);
+              room = omega (arith, length-drop 16384 work);
+              slots = omega (arith, many, length-drop 16384 work);
+              listed = listed-taken f (drop 16384 work) at n p (omega (arith, many)) listed;
+            })
+
+        pub list-said : (v : Verdict) → v ≡ listSaid f (take at list) n p → v ≡ judged f (length w)
+        list-said v h =
+            h ∙ ap (λ (l : List ℕ). listSaid f (take at l) n p) d ∙ said-taken f (drop 16384 work) at n p (omega (arith, many)) ∙ judged-of _ (reading-list f w R r q work e c)
+
+        -- past the bytes that belong to the judgement all is as the reading left it
+        pub list-area : {last : List ℕ} → last ≡ summarised f (p .shape) at n (slotsCleared list at n) → drop (usedOf (length w)) work ≡ drop (usedOf (length w)) w
+            → drop (usedOf (length w)) (take 16384 work ++ (last ++ drop (length work - 16384) (drop 16384 work))) ≡ drop (usedOf (length w)) w
+        list-area {last} x y =
+            let none : drop (length work - 16384) (drop 16384 work) ≡ [] = drop-of-length-le (drop 16384 work) {i = length work - 16384} (omega (arith, length-drop 16384 work)) in
+            let k : drop (12 * entriesAllowed (length w)) last ≡ drop (12 * entriesAllowed (length w)) (drop 16384 work) =
+            ap (drop (12 * entriesAllowed (length w))) x ∙ done-kept f list at n p ready (12 * entriesAllowed (length w)) (omega (arith, many)) ∙ ap (drop (12 * entriesAllowed (length w))) d in
+            list-kept (length w) work w (last ++ drop (length work - 16384) (drop 16384 work)) y (omega arith)
+            (ap (λ (t : List ℕ). drop (12 * entriesAllowed (length w)) (last ++ t)) none ∙ ap (drop (12 * entriesAllowed (length w))) (append-nil last) ∙ k)
 
     pub run-said : (R .contents .claim ≡ 0 → ⊥) → (x : RunAnswer) (lower : ℕ) → lower ≡ 16384
         → (pws.ProgramInRange (programOf f p) → n ≤ 1024 → lower ≡ 16384 → RunOf x (programOf f p) (targetsOf f p) (stepsOf f (R .contents .evidence .at) n))

@@ -5,5 +5,6 @@ pub mod PsoDemands
 pub mod Cases
 pub mod AreaLaws
 pub mod LowestLaws
+pub mod SummaryLaws
 pub mod ListLaws
 pub mod JudgeLaws

@@ -48,7 +48,7 @@ by-closed x y z n k e d h = ap₂ (λ (o u : Option ℕ). said o u z n) e d ∙ 
 by-all : (x y z : Option ℕ) (n : ℕ) → x ≡ none → y ≡ none → z ≡ none → said x y z n ≡ safe n
 by-all x y z n e d h = ap₂ (λ (o u : Option ℕ). said o u z n) e d ∙ ap (λ (o : Option ℕ). said none none o n) h
 
-module _ (f list : List ℕ) (n : ℕ) (p : Program) where
+module _ (f list sum : List ℕ) (n : ℕ) (p : Program) where
   abbrev P : pws.Program
   P = programOf f p
 
@@ -69,13 +69,14 @@ module _ (f list : List ℕ) (n : ℕ) (p : Program) where
 
   -- ---- what the units ask for
 
-  module _ (R : Ready f list n p) where
-    pub searches : Searches f list n (p .shape)
+  module _ (R : Ready f list sum n p) where
+    pub searches : Searches f list sum n (p .shape)
     searches =
         record {
           count = R .count;
           shape = R .part .program .shape;
           entries = λ k l. subst (Fits (ValueOrFF (shapeOf (p .shape))) (shapeOf (p .shape))) (entry-is k l) (R .entries k l .of .fits);
+          summed = R .summed;
         }
 
     pub small : Small (p .shape)
@@ -83,25 +84,25 @@ module _ (f list : List ℕ) (n : ℕ) (p : Program) where
 
   -- ---- what they say
 
-  pub held-by : Ready f list n p → (k : ℕ) → k < p .targets .count → (states : List ℕ) (r : Bool) → states ≡ targetOf f p k
-      → ((Q : pws.Program) → Q .shape ≡ shapeOf (p .shape) → Searches f list n (p .shape) → r ≡ targetHeld Q es (λ q. getD states q 0))
+  pub held-by : Ready f list sum n p → (k : ℕ) → k < p .targets .count → (states : List ℕ) (r : Bool) → states ≡ targetOf f p k
+      → ((Q : pws.Program) → Q .shape ≡ shapeOf (p .shape) → Searches f list sum n (p .shape) → r ≡ targetHeld Q es (λ q. getD states q 0))
       → r ≡ heldTest f list n p k
   held-by R k l states r e h =
       h P refl (searches R)
       ∙ ap (λ (s : List ℕ). targetHeld P es (λ q. getD s q 0)) e
       ∙ ap (targetHeld P es) (sym (target-again f p k l))
 
-  pub start-by : Ready f list n p → (k : ℕ) → k < n → (cube : Cube) (r : Bool) → cube ≡ cubeAt f list k
+  pub start-by : Ready f list sum n p → (k : ℕ) → k < n → (cube : Cube) (r : Bool) → cube ≡ cubeAt f list k
       → (Small (p .shape) → r ≡ looksStarted (startsOf (p .shape) (p .initial)) (configurationOf cube))
       → not r ≡ startTest f list n p k
   start-by R k l cube r e h =
       ap not (h (small R) ∙ ap (λ (c : Cube). looksStarted P (configurationOf c)) e ∙ ap (looksStarted P) (sym (entry-is k l)))
 
-  pub closed-by : Ready f list n p → (k : ℕ) → k < n → (r : Bool) → (Walkable f list n p (cubeAt f list k) → r ≡ closed P es (configurationOf (cubeAt f list k)))
+  pub closed-by : Ready f list sum n p → (k : ℕ) → k < n → (r : Bool) → (Walkable f list sum n p (cubeAt f list k) → r ≡ closed P es (configurationOf (cubeAt f list k)))
       → r ≡ closedTest f list n p k
   closed-by R k l r h =
-      h (walkable f list n p (cubeAt f list k) (R .count) (R .sizes .transitions) (R .part .program) (searches R .entries)
-      (subst (EntryOf P) (entry-is k l) (R .entries k l .of)) (R .cubes k l))
+      h (walkable f list sum n p (cubeAt f list k) (R .count) (R .sizes .transitions) (R .part .program) (searches R .entries)
+      (subst (EntryOf P) (entry-is k l) (R .entries k l .of)) (R .cubes k l) (R .summed))
       ∙ ap (closed P es) (sym (entry-is k l))
 
   -- ---- the verdict

@@ -56,9 +56,9 @@ judged f area = ofFile (reading.readFile f area)
 
 -- ---- the work area afterwards
 
--- the first 16,384 bytes, and four for each entry allowed
+-- the first 16,384 bytes, and twelve for each entry allowed
 unfoldable pub usedOf : ℕ → ℕ
-usedOf area = 16384 + 4 * entriesAllowed area
+usedOf area = 16384 + 12 * entriesAllowed area
 
 -- these are 0 and the rest is untouched; after 8 all of it is
 unfoldable pub areaAfter : List ℕ → List ℕ

@@ -1,8 +1,9 @@
 -- What the code knows of a file that was read. No statement rests on these definitions.
-use Prim.Native.Nat.{ℕ, _<_, _≤_}
+use Prim.Native.Nat.{ℕ, _+_, _*_, _-_, _<_, _≤_}
 use mathlib.Core.Path.{_≡_}
 use mathlib.Core.Bool.{Bool, true, false, not}
-use mathlib.Core.List.{List}
+use mathlib.Core.List.{List, _++_}
+use lib.ListN.{length, take, drop, replicate}
 use Rattle.pws.specs.Entries.{entry}
 use Rattle.lists.specs.Verdict.{target}
 use Rattle.lists.specs.Decision.{targetHeld, looksStarted, closed, verdictOf}
@@ -10,6 +11,7 @@ use Rattle.records.specs.declared.program.Program.{Program}
 use Rattle.records.specs.ProgramPart.{programOf, targetsOf}
 use Rattle.contents.specs.Again.{cubeAt, entriesOf}
 use Rattle.contents.specs.Contents.{ProgramPartRead, EntryRange, ProgramSizes, CubeRange}
+use Rattle.summary.specs.Summary.{Summed}
 use Rattle.judge.specs.Judge.{Verdict, ofList}
 
 -- the lowest number below n at which the test fails, or n
@@ -18,8 +20,28 @@ pub record LowestFailing (test : ℕ → Bool) (n r : ℕ) : Type 0 where
   pub lower : (j : ℕ) → j < r → test j ≡ true
   pub fails : r < n → test r ≡ false
 
--- a list of n entries
-pub record Ready (f list : List ℕ) (n : ℕ) (p : Program) : Type 0 where
+-- a list of n entries, as it was read
+pub record Listed (f list : List ℕ) (n : ℕ) (p : Program) : Type 0 where
+  pub sizes : ProgramSizes p
+  pub part : ProgramPartRead (programOf f p) (targetsOf f p)
+  pub count : n ≤ 524288
+  pub entries : (k : ℕ) → k < n → EntryRange (programOf f p) (entry (entriesOf f list n) k)
+  pub cubes : (k : ℕ) → k < n → CubeRange (cubeAt f list k)
+
+-- in the upper part of a work area, with its offsets below `at` and room for its summary from there on
+pub record ListReady (f upper : List ℕ) (at n : ℕ) (p : Program) : Type 0 where
+  pub offsets : 4 * n ≤ at
+  pub room : at ≤ length upper
+  pub slots : 8 * n ≤ length upper - at
+  pub listed : Listed f (take at upper) n p
+
+-- the slots of n entries from `at` on are 0
+unfoldable pub slotsCleared : List ℕ → ℕ → ℕ → List ℕ
+slotsCleared upper at n = take at upper ++ (replicate (8 * n) 0 ++ drop (at + 8 * n) upper)
+
+-- a list of n entries with its summary
+pub record Ready (f list sum : List ℕ) (n : ℕ) (p : Program) : Type 0 where
+  pub summed : Summed f list sum n (p .shape)
   pub sizes : ProgramSizes p
   pub part : ProgramPartRead (programOf f p) (targetsOf f p)
   pub count : n ≤ 524288

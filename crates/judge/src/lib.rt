@@ -1,10 +1,12 @@
 // The whole judgement (document 01). What it says stands in specs/Judge.antt; the demands, as theorems about it, in specs/Demands.antt.
 ghost use mathlib.Core.Path.{_≡_};
 ghost use mathlib.Core.List.{_++_};
-ghost use Prim.Native.Nat.{_≤_};
-ghost use lib.ListN.{length, drop, replicate};
+ghost use Prim.Native.Nat.{_*_, _-_, _≤_};
+ghost use lib.ListN.{length, take, drop, replicate};
+ghost use Rattle.summary.specs.Groups.{summarised};
 ghost use Rattle.judge.specs.Judge.{judged, usedOf, areaAfter};
 ghost use Rattle.judge.specs.Answers.{verdictIn, inC, Answered};
+ghost use Rattle.judge.specs.Ready.{Ready, ListReady, slotsCleared, listSaid};
 use crate::answer::Answer;
 use crate::answer::Verdict;
 use crate::answer::run_answer;
@@ -13,19 +15,21 @@ use crate::list::list_answer;
 use reading::evidence::entries_allowed;
 use reading::evidence::read;
 use records::program::Checked;
+use records::program::Program;
 use records::program::Refusal;
 use records::program::refusal_of;
 use replay::area::clear;
 use replay::run::replay;
+use summary::summarise;
 
 pub mod answer;
 mod list;
 
-// The bytes of a work area that belong to the judgement: the first 16,384, and four for each entry allowed.
+// The bytes of a work area that belong to the judgement: the first 16,384, and twelve for each entry allowed.
 fn used_of(area: usize) -> usize
     ensures { λ r. ⌜ r ≡ usedOf area ⌝ }
 {
-    16384 + 4 * entries_allowed(area)
+    16384 + 12 * entries_allowed(area)
 }
 
 // The first n bytes 0; the rest is untouched.
@@ -34,6 +38,35 @@ fn clear_used(work: &mut [u8], n: usize)
     ensures { λ _. ⌜ now (work .exit) ≡ replicate n 0 ++ drop n (now (work .entry)) ⌝ }
 {
     clear(&mut work[..n]);
+}
+
+// The bytes of n slots from `at` on 0; the rest is untouched.
+fn clear_slots(upper: &mut [u8], at: usize, n: usize)
+    requires { ⌜ (at ≤ length (now upper)) × (n ≤ 524288) × (8 * n ≤ length (now upper) - at) ⌝ }
+    ensures { λ _. ⌜ now (upper .exit) ≡ slotsCleared (now (upper .entry)) at n ⌝ }
+{
+    let end = at + 8 * n;
+    clear(&mut upper[at..end]);
+}
+
+// The units over a list and its summary.
+fn summed_answer(file: &[u8], upper: &[u8], at: usize, n: usize, program: Program) -> Answer
+    requires { ⌜ (at ≤ length (now upper)) × Ready (now file) (take at (now upper)) (drop at (now upper)) n program ⌝ }
+    ensures { λ r. ⌜ verdictIn r ≡ listSaid (now (file .entry)) (take at (now (upper .entry))) n program ⌝ }
+{
+    list_answer(file, &upper[..at], &upper[at..], n, program)
+}
+
+// A list: its summary is made behind its offsets, which stand below `at`, and then it is judged.
+fn list_judged(file: &[u8], upper: &mut [u8], at: usize, n: usize, program: Program) -> Answer
+    requires { ⌜ ListReady (now file) (now upper) at n program ⌝ }
+    ensures { λ r. ⌜ verdictIn r ≡ listSaid (now (file .entry)) (take at (now (upper .entry))) n program ⌝ }
+    ensures { λ r. ⌜ now (upper .exit) ≡ summarised (now (file .entry)) (program .shape) at n (slotsCleared (now (upper .entry)) at n) ⌝ }
+{
+    clear_slots(upper, at, n);
+    let shape = program.shape;
+    summarise(file, upper, at, n, shape);
+    summed_answer(file, upper, at, n, program)
 }
 
 // The judgement in an area that is large enough. The part of it that the judgement does not use is untouched.
@@ -51,12 +84,13 @@ fn judge_file(file: &[u8], work: &mut [u8]) -> Answer
     if contents.claim == 0 {
         let program = contents.program;
         let entries = contents.evidence;
-        return list_answer(file, &work[16384..], entries.count, program);
+        let most = entries_allowed(work.len());
+        return list_judged(file, &mut work[16384..], 4 * most, entries.count, program);
     }
     run_answer(replay(file, contents, &mut work[..16384]))
 }
 
-// The answer for a file. Afterwards the first 16,384 bytes of the work area and four for each entry allowed are 0, and the rest is untouched;
+// The answer for a file. Afterwards the first 16,384 bytes of the work area and twelve for each entry allowed are 0, and the rest is untouched;
 // after 8 all of it is.
 fn judge_and_clear(file: &[u8], work: &mut [u8]) -> Answer
     ensures { λ r. ⌜ verdictIn r ≡ judged (now (file .entry)) (length (now (work .entry))) ⌝ }

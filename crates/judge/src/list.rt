@@ -12,8 +12,8 @@ use targets::looks_started;
 use targets::target_held;
 
 // The lowest target that is not held, or the number of targets.
-fn lowest_unheld(file: &[u8], list: &[u8], n: usize, program: Program) -> usize
-    requires { ⌜ Ready (now file) (now list) n program ⌝ }
+fn lowest_unheld(file: &[u8], list: &[u8], sum: &[u8], n: usize, program: Program) -> usize
+    requires { ⌜ Ready (now file) (now list) (now sum) n program ⌝ }
     ensures { λ r. ⌜ LowestFailing (heldTest (now (file .entry)) (now (list .entry)) n program) (program .targets .count) r ⌝ }
 {
     let shape = program.shape;
@@ -21,7 +21,7 @@ fn lowest_unheld(file: &[u8], list: &[u8], n: usize, program: Program) -> usize
     let count = targets.count;
     for k in 0..count {
         let states = target_of(file, program, k);
-        if !target_held(file, list, n, shape, states) {
+        if !target_held(file, list, sum, n, shape, states) {
             return k;
         }
     }
@@ -29,8 +29,8 @@ fn lowest_unheld(file: &[u8], list: &[u8], n: usize, program: Program) -> usize
 }
 
 // The lowest entry that a start is above, or the number of entries.
-fn lowest_started(file: &[u8], list: &[u8], n: usize, program: Program) -> usize
-    requires { ⌜ Ready (now file) (now list) n program ⌝ }
+fn lowest_started(file: &[u8], list: &[u8], sum: &[u8], n: usize, program: Program) -> usize
+    requires { ⌜ Ready (now file) (now list) (now sum) n program ⌝ }
     ensures { λ r. ⌜ LowestFailing (startTest (now (file .entry)) (now (list .entry)) n program) n r ⌝ }
 {
     let shape = program.shape;
@@ -45,37 +45,33 @@ fn lowest_started(file: &[u8], list: &[u8], n: usize, program: Program) -> usize
 }
 
 // The lowest entry with a way in from outside the list, or the number of entries.
-fn lowest_entered(file: &[u8], list: &[u8], n: usize, program: Program) -> usize
-    requires { ⌜ Ready (now file) (now list) n program ⌝ }
+fn lowest_entered(file: &[u8], list: &[u8], sum: &[u8], n: usize, program: Program) -> usize
+    requires { ⌜ Ready (now file) (now list) (now sum) n program ⌝ }
     ensures { λ r. ⌜ LowestFailing (closedTest (now (file .entry)) (now (list .entry)) n program) n r ⌝ }
 {
-    let mut near = [0usize; 256];
     for k in 0..n {
-        let found = entry_closed(file, list, n, program, k, near);
-        if !found.held {
+        if !entry_closed(file, list, sum, n, program, k) {
             return k;
         }
-        let next = found.near;
-        near = next;
     }
     n
 }
 
 // The numbers are tested in this order.
-pub(crate) fn list_answer(file: &[u8], list: &[u8], n: usize, program: Program) -> Answer
-    requires { ⌜ Ready (now file) (now list) n program ⌝ }
+pub(crate) fn list_answer(file: &[u8], list: &[u8], sum: &[u8], n: usize, program: Program) -> Answer
+    requires { ⌜ Ready (now file) (now list) (now sum) n program ⌝ }
     ensures { λ r. ⌜ verdictIn r ≡ listSaid (now (file .entry)) (now (list .entry)) n program ⌝ }
 {
     let targets = program.targets;
-    let unheld = lowest_unheld(file, list, n, program);
+    let unheld = lowest_unheld(file, list, sum, n, program);
     if unheld < targets.count {
         return Answer::Unheld { target: unheld };
     }
-    let started = lowest_started(file, list, n, program);
+    let started = lowest_started(file, list, sum, n, program);
     if started < n {
         return Answer::Started { entry: started };
     }
-    let entered = lowest_entered(file, list, n, program);
+    let entered = lowest_entered(file, list, sum, n, program);
     if entered < n {
         return Answer::Entered { entry: entered };
     }

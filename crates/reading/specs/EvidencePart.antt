@@ -145,7 +145,7 @@ entriesFrom (suc left) s states f at offsets es =
     (λ _. headThen (checked (entryNumber s states f at false) at) offsets es (λ _.
     entryThen (entryRead s f at) offsets es (λ e next. entriesFrom left s states f next (offsets ++ (at ∷ [])) (es ++ (e ∷ [])))))
 
--- entries allowed: a quarter of the work area's bytes past the first 16,384, rounded down, and never over 524,288
+-- entries allowed: a twelfth of the work area's bytes past the first 16,384, rounded down, and never over 524,288
 unfoldable pub entriesAllowed : ℕ → ℕ
 entriesAllowed area = min 524288 ((area - 16384) / 12)
 

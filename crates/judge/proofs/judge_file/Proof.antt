@@ -1,49 +1,125 @@
+use Prim.Native.Nat.{ℕ, _*_}
+use Rattle.reading.specs.EvidencePart.{entriesAllowed}
 use mathlib.Core.Path.{sym, ap, _∙_}
 use native.Mathlib.Omega.{arith}
 use lib.ListN.{length, drop}
 use lib.Seq.{length-take-le}
-use borrow.Author.Needs.{needs}
 use Rattle.judge.specs.Judge.{usedOf}
-use Rattle.judge.proofs.AreaLaws.{reading-kept, replay-kept, upper-part}
-use Rattle.judge.proofs.JudgeLaws.{unread-said, ready, list-said, run-said}
+use Rattle.judge.proofs.AreaLaws.{few, reading-kept, replay-kept, upper-part}
+use Rattle.judge.proofs.JudgeLaws.{unread-said, ready, list-said, list-area, run-said}
+use native.Mathlib.Omega.{arith}
+use borrow.Author.Needs.{needs}
 use Rattle.judge.proofs.judge_file.Statement.{statement}
 use Rattle.judge.proofs.judge_file.Tie as tie
+use Rattle.judge.proofs.judge_file.Reads as reads
+use Rattle.judge.proofs.judge_file.Lts as lts
+use Rattle.judge.proofs.answer.run_answer.Reads as run-answer-reads
+use Rattle.judge.proofs.list_judged.Reads as list-judged-reads
+use Rattle.reading.proofs.evidence.entries_allowed.Reads as entries-allowed-reads
+use Rattle.reading.proofs.evidence.read.Reads as read-reads
+use Rattle.records.proofs.program.refusal_of.Reads as refusal-of-reads
+use Rattle.replay.proofs.run.replay.Reads as replay-reads
+
+-- src/lib.rt:78:9
+read-requires : tie.Need-read-requires
+read-requires c κs = search needs
+
+enum-told : tie.Need-enum-told
+enum-told c = search needs
+
+-- src/lib.rt:81:31
+enum-told-2 : tie.Need-enum-told-2
+enum-told-2 c = search needs
+
+-- src/lib.rt:81:31
+refusal-of-requires : tie.Need-refusal-of-requires
+refusal-of-requires c κs = search needs
+
+-- src/lib.rt:81:9
+same-length : tie.Need-same-length
+same-length c = search needs
+
+-- src/lib.rt:81:9
+returns : tie.Need-returns
+returns c = (unread-said (c .before .before .before .before .before .before .before .before .before .args .file .now) (c .before .before .before .before .before .before .before .before .before .args .work .now) (c .before .before .before .before .before .read .result) (c .before .before .before .before .before .read .ensures .0) (c .before .enum-told2 .given .0 .0) _ (c .before .enum-told2 .given .1) (c .refusal-of .ensures), (ap (drop (usedOf (length (c .before .before .before .before .before .before .before .before .before .args .work .now)))) (c .before .before .before .before .before .read .ensures .1) ∙ reading-kept (c .before .before .before .before .before .before .before .before .before .args .file .now) (c .before .before .before .before .before .before .before .before .before .args .work .now) (c .before .before .before .before .before .before .before .before .before .pre)))
+
+-- src/lib.rt:87:13
+entries-allowed-requires : tie.Need-entries-allowed-requires
+entries-allowed-requires c κs = search needs
+
+-- src/lib.rt:88:34
+sub-list-judged : tie.Need-sub-list-judged
+sub-list-judged c = search needs
+
+-- src/lib.rt:88:34
+part-list-judged-start : tie.Need-part-list-judged-start
+part-list-judged-start c = search needs
+
+-- src/lib.rt:88:34
+part-list-judged-end : tie.Need-part-list-judged-end
+part-list-judged-end c = search needs
+
+-- src/lib.rt:88:54
+mul-list-judged : tie.Need-mul-list-judged
+mul-list-judged c = omega (arith, few _ _ (c .before .entries-allowed .ensures))
+
+-- src/lib.rt:88:9
+list-judged-requires : tie.Need-list-judged-requires
+list-judged-requires c κs = ready (c .before .before .before .before .before .before .before .before .before .before .before .before .before .before .before .args .file .now) (c .before .before .before .before .before .before .before .before .before .before .before .before .before .before .before .args .work .now) (c .before .before .before .before .before .before .before .before .before .before .before .read .result) (c .before .before .before .before .before .before .before .before .before .before .before .read .ensures .0) (c .before .before .before .before .before .before .before .enum-told .given .1) _ (c .before .before .before .before .before .before .before .before .before .before .before .read .ensures .1) (c .before .before .before .before .if1 .taken) _ (upper-part 16384 (c .before .before .before .before .before .before .before .before .before .before .before .read .last .1 .0)) _ (ap (λ (x : ℕ). 4 * x) (c .before .entries-allowed .ensures ∙ ap entriesAllowed (omega arith))) (c .before .before .before .before .before .before .before .before .before .before .before .before .before .before .before .pre) (omega arith)
+
+-- src/lib.rt:88:9
+same-length-2 : tie.Need-same-length-2
+same-length-2 c = search needs
+
+-- src/lib.rt:88:9
+returns-2 : tie.Need-returns-2
+returns-2 c = (list-said (c .before .before .before .before .before .before .before .before .before .before .before .before .before .before .before .before .before .before .args .file .now) (c .before .before .before .before .before .before .before .before .before .before .before .before .before .before .before .before .before .before .args .work .now) (c .before .before .before .before .before .before .before .before .before .before .before .before .before .before .read .result) (c .before .before .before .before .before .before .before .before .before .before .before .before .before .before .read .ensures .0) (c .before .before .before .before .before .before .before .before .before .before .enum-told .given .1) _ (c .before .before .before .before .before .before .before .before .before .before .before .before .before .before .read .ensures .1) (c .before .before .before .before .before .before .before .if1 .taken) _ (upper-part 16384 (c .before .before .before .before .before .before .before .before .before .before .before .before .before .before .read .last .1 .0)) _ (ap (λ (x : ℕ). 4 * x) (c .before .before .before .before .entries-allowed .ensures ∙ ap entriesAllowed (omega arith))) (c .before .before .before .before .before .before .before .before .before .before .before .before .before .before .before .before .before .before .pre) (omega arith) _ (c .before .before .list-judged .ensures .0), list-area (c .before .before .before .before .before .before .before .before .before .before .before .before .before .before .before .before .before .before .args .file .now) (c .before .before .before .before .before .before .before .before .before .before .before .before .before .before .before .before .before .before .args .work .now) (c .before .before .before .before .before .before .before .before .before .before .before .before .before .before .read .result) (c .before .before .before .before .before .before .before .before .before .before .before .before .before .before .read .ensures .0) (c .before .before .before .before .before .before .before .before .before .before .enum-told .given .1) _ (c .before .before .before .before .before .before .before .before .before .before .before .before .before .before .read .ensures .1) (c .before .before .before .before .before .before .before .if1 .taken) _ (upper-part 16384 (c .before .before .before .before .before .before .before .before .before .before .before .before .before .before .read .last .1 .0)) _ (ap (λ (x : ℕ). 4 * x) (c .before .before .before .before .entries-allowed .ensures ∙ ap entriesAllowed (omega arith))) (c .before .before .before .before .before .before .before .before .before .before .before .before .before .before .before .before .before .before .pre) (omega arith) (c .before .before .list-judged .ensures .1) (ap (drop (usedOf (length (c .before .before .before .before .before .before .before .before .before .before .before .before .before .before .before .before .before .before .args .work .now)))) (c .before .before .before .before .before .before .before .before .before .before .before .before .before .before .read .ensures .1) ∙ reading-kept (c .before .before .before .before .before .before .before .before .before .before .before .before .before .before .before .before .before .before .args .file .now) (c .before .before .before .before .before .before .before .before .before .before .before .before .before .before .before .before .before .before .args .work .now) (c .before .before .before .before .before .before .before .before .before .before .before .before .before .before .before .before .before .before .pre)))
+
+-- src/lib.rt:90:39
+slice-relend-prefix-replay : tie.Need-slice-relend-prefix-replay
+slice-relend-prefix-replay c = search needs
+
+-- src/lib.rt:90:39
+slice-aggregate-replay : tie.Need-slice-aggregate-replay
+slice-aggregate-replay c = sym (length-take-le 16384 (c .before .before .before .before .before .before .before .before .read .last .1 .0) (omega (arith, c .before .before .before .before .before .before .before .before .before .before .before .before .pre)))
+
+-- src/lib.rt:90:16
+replay-requires : tie.Need-replay-requires
+replay-requires c κs = search needs
+
+-- src/lib.rt:90:5
+run-answer-requires : tie.Need-run-answer-requires
+run-answer-requires c κs = search needs
+
+-- src/lib.rt:73:1
+same-length-3 : tie.Need-same-length-3
+same-length-3 c = search needs
+
+-- src/lib.rt:73:1
+returns-3 : tie.Need-returns-3
+returns-3 c = (run-said (c .before .before .before .before .before .before .before .before .before .before .before .before .before .before .before .before .args .file .now) (c .before .before .before .before .before .before .before .before .before .before .before .before .before .before .before .before .args .work .now) (c .before .before .before .before .before .before .before .before .before .before .before .before .read .result) (c .before .before .before .before .before .before .before .before .before .before .before .before .read .ensures .0) (c .before .before .before .before .before .before .before .before .enum-told .given .1) (c .before .before .before .before .before .if1 .left) (c .before .before .before .replay .result) _ (length-take-le 16384 (c .before .before .before .before .before .before .before .before .before .before .before .before .read .last .1 .0) (omega (arith, c .before .before .before .before .before .before .before .before .before .before .before .before .before .before .before .before .pre))) (c .before .before .before .replay .ensures .1 .1) _ (c .run-answer .ensures), replay-kept (length (c .before .before .before .before .before .before .before .before .before .before .before .before .before .before .before .before .args .work .now)) (c .before .before .before .before .before .before .before .before .before .before .before .before .read .last .1 .0) (c .before .before .before .before .before .before .before .before .before .before .before .before .before .before .before .before .args .work .now) _ (ap (drop (usedOf (length (c .before .before .before .before .before .before .before .before .before .before .before .before .before .before .before .before .args .work .now)))) (c .before .before .before .before .before .before .before .before .before .before .before .before .read .ensures .1) ∙ reading-kept (c .before .before .before .before .before .before .before .before .before .before .before .before .before .before .before .before .args .file .now) (c .before .before .before .before .before .before .before .before .before .before .before .before .before .before .before .before .args .work .now) (c .before .before .before .before .before .before .before .before .before .before .before .before .before .before .before .before .pre)) (omega (arith, c .before .before .before .before .before .before .before .before .before .before .before .before .before .before .before .before .pre)) (c .before .before .before .replay .ensures .1 .0))
 
 pub judge-file-spec : {M : Type 1} → statement M
-judge-file-spec = tie.close (tie.spec
-    -- read-requires 45:9
-    (λ c κs. search needs)
-    -- enum-told 0:0
-    (λ c. search needs)
-    -- enum-told-2 48:31
-    (λ c. search needs)
-    -- refusal-of-requires 48:31
-    (λ c κs. search needs)
-    -- same-length 48:9
-    (λ c. search needs)
-    -- returns 48:9
-    (λ c. (unread-said (c .before .before .before .before .before .before .before .before .before .args .file .now) (c .before .before .before .before .before .before .before .before .before .args .work .now) (c .before .before .before .before .before .read .result) (c .before .before .before .before .before .read .ensures .0) (c .before .enum-told2 .given .0 .0) _ (c .before .enum-told2 .given .1) (c .refusal-of .ensures), ap (drop (usedOf (length (c .before .before .before .before .before .before .before .before .before .args .work .now)))) (c .before .before .before .before .before .read .ensures .1) ∙ reading-kept (c .before .before .before .before .before .before .before .before .before .args .file .now) (c .before .before .before .before .before .before .before .before .before .args .work .now) (c .before .before .before .before .before .before .before .before .before .pre)))
-    -- sub-list-answer 54:34
-    (λ c. search needs)
-    -- part-list-answer-start 54:34
-    (λ c. search needs)
-    -- part-list-answer-end 54:34
-    (λ c. search needs)
-    -- list-answer-requires 54:9
-    (λ c κs. ready (c .before .before .before .before .before .before .before .before .before .before .before .before .before .before .before .args .file .now) (c .before .before .before .before .before .before .before .before .before .before .before .before .before .before .before .args .work .now) (c .before .before .before .before .before .before .before .before .before .before .before .read .result) (c .before .before .before .before .before .before .before .before .before .before .before .read .ensures .0) (c .before .before .before .before .before .before .before .enum-told .given .1) _ (c .before .before .before .before .before .before .before .before .before .before .before .read .ensures .1) (c .before .before .before .before .if1 .taken) _ (upper-part 16384 (c .before .before .before .before .before .before .before .before .before .before .before .read .last .1 .0)))
-    -- same-length-2 54:9
-    (λ c. search needs)
-    -- returns-2 54:9
-    (λ c. (list-said (c .before .before .before .before .before .before .before .before .before .before .before .before .before .before .before .before .args .file .now) (c .before .before .before .before .before .before .before .before .before .before .before .before .before .before .before .before .args .work .now) (c .before .before .before .before .before .before .before .before .before .before .before .before .read .result) (c .before .before .before .before .before .before .before .before .before .before .before .before .read .ensures .0) (c .before .before .before .before .before .before .before .before .enum-told .given .1) _ (c .before .before .before .before .before .before .before .before .before .before .before .before .read .ensures .1) (c .before .before .before .before .before .if1 .taken) _ (upper-part 16384 (c .before .before .before .before .before .before .before .before .before .before .before .before .read .last .1 .0)) _ (c .list-answer .ensures), ap (drop (usedOf (length (c .before .before .before .before .before .before .before .before .before .before .before .before .before .before .before .before .args .work .now)))) (c .before .before .before .before .before .before .before .before .before .before .before .before .read .ensures .1) ∙ reading-kept (c .before .before .before .before .before .before .before .before .before .before .before .before .before .before .before .before .args .file .now) (c .before .before .before .before .before .before .before .before .before .before .before .before .before .before .before .before .args .work .now) (c .before .before .before .before .before .before .before .before .before .before .before .before .before .before .before .before .pre)))
-    -- slice-relend-prefix-replay 56:39
-    (λ c. search needs)
-    -- slice-aggregate-replay 56:39
-    (λ c. sym (length-take-le 16384 (c .before .before .before .before .before .before .before .before .read .last .1 .0) (omega (arith, c .before .before .before .before .before .before .before .before .before .before .before .before .pre))))
-    -- replay-requires 56:16
-    (λ c κs. search needs)
-    -- run-answer-requires 56:5
-    (λ c κs. search needs)
-    -- same-length-3 40:1
-    (λ c. search needs)
-    -- returns-3 40:1
-    (λ c. (run-said (c .before .before .before .before .before .before .before .before .before .before .before .before .before .before .before .before .args .file .now) (c .before .before .before .before .before .before .before .before .before .before .before .before .before .before .before .before .args .work .now) (c .before .before .before .before .before .before .before .before .before .before .before .before .read .result) (c .before .before .before .before .before .before .before .before .before .before .before .before .read .ensures .0) (c .before .before .before .before .before .before .before .before .enum-told .given .1) (c .before .before .before .before .before .if1 .left) (c .before .before .before .replay .result) _ (length-take-le 16384 (c .before .before .before .before .before .before .before .before .before .before .before .before .read .last .1 .0) (omega (arith, c .before .before .before .before .before .before .before .before .before .before .before .before .before .before .before .before .pre))) (c .before .before .before .replay .ensures .1 .1) _ (c .run-answer .ensures), replay-kept (length (c .before .before .before .before .before .before .before .before .before .before .before .before .before .before .before .before .args .work .now)) (c .before .before .before .before .before .before .before .before .before .before .before .before .read .last .1 .0) (c .before .before .before .before .before .before .before .before .before .before .before .before .before .before .before .before .args .work .now) _ (ap (drop (usedOf (length (c .before .before .before .before .before .before .before .before .before .before .before .before .before .before .before .before .args .work .now)))) (c .before .before .before .before .before .before .before .before .before .before .before .before .read .ensures .1) ∙ reading-kept (c .before .before .before .before .before .before .before .before .before .before .before .before .before .before .before .before .args .file .now) (c .before .before .before .before .before .before .before .before .before .before .before .before .before .before .before .before .args .work .now) (c .before .before .before .before .before .before .before .before .before .before .before .before .before .before .before .before .pre)) (omega (arith, c .before .before .before .before .before .before .before .before .before .before .before .before .before .before .before .before .pre)) (c .before .before .before .replay .ensures .1 .0))))
+judge-file-spec =
+    tie.close
+    (tie.spec
+    read-requires
+    enum-told
+    enum-told-2
+    refusal-of-requires
+    same-length
+    returns
+    entries-allowed-requires
+    sub-list-judged
+    part-list-judged-start
+    part-list-judged-end
+    mul-list-judged
+    list-judged-requires
+    same-length-2
+    returns-2
+    slice-relend-prefix-replay
+    slice-aggregate-replay
+    replay-requires
+    run-answer-requires
+    same-length-3
+    returns-3)

@@ -8,9 +8,9 @@ use Rattle.judge.proofs.AreaLaws.{few}
 use Rattle.judge.proofs.used_of.Statement.{statement}
 use Rattle.judge.proofs.used_of.Tie as tie
 
-used : (r area : ℕ) → r ≡ entriesAllowed area → 16384 + 4 * r ≡ usedOf area
+used : (r area : ℕ) → r ≡ entriesAllowed area → 16384 + 12 * r ≡ usedOf area
 unfolding usedOf
-used r area e = ap (λ (n : ℕ). 16384 + 4 * n) e
+used r area e = ap (λ (n : ℕ). 16384 + 12 * n) e
 
 pub used-of-spec : {M : Type 1} → statement M
 used-of-spec = tie.close (tie.spec

@@ -10,10 +10,10 @@ use Rattle.judge.proofs.list.lowest_entered.Statement.{statement}
 use Rattle.judge.proofs.list.lowest_entered.Tie as tie
 
 abbrev Inv-loop : tie.InvT-loop
-Inv-loop file list n program near₀ k₀ near k = SoFar (closedTest file list n program) n k
+Inv-loop file list sum n program k₀ k = SoFar (closedTest file list n program) n k
 
 abbrev μ-loop : tie.MeasureT-loop
-μ-loop file list n program near₀ k₀ near k = n - k
+μ-loop file list sum n program k₀ k = n - k
 
 pub lowest-entered-spec : {M : Type 1} → statement M
 lowest-entered-spec = tie.close (tie.spec
@@ -23,13 +23,13 @@ lowest-entered-spec = tie.close (tie.spec
     (λ c. so-far-begin _ _)
     -- entry-closed-requires 55:13
     (λ c κs. search needs)
-    -- returns 57:13
-    (λ c. so-far-fails (c .before .before .before .before .loop .inv) (c .before .before .before .loop-test .taken) (sym (closed-by (c .before .before .before .before .before .before .before .args .file .now) (c .before .before .before .before .before .before .before .args .list .now) (c .before .before .before .before .before .before .before .args .n) (c .before .before .before .before .before .before .before .args .program) (c .before .before .before .before .before .before .before .pre) (c .before .before .before .before .loop .k) (c .before .before .before .loop-test .taken) _ (c .before .before .entry-closed .ensures)) ∙ not-true _ (c .if1 .taken)))
-    -- add-k 54:9
+    -- returns
+    (λ c. so-far-fails (c .before .before .before .loop .inv) (c .before .before .loop-test .taken) (sym (closed-by (c .before .before .before .before .before .before .before .args .file .now) (c .before .before .before .before .before .before .before .args .list .now) (c .before .before .before .before .before .before .before .args .sum .now) (c .before .before .before .before .before .before .before .args .n) (c .before .before .before .before .before .before .before .args .program) (c .before .before .before .before .before .before .before .pre) (c .before .before .before .loop .k) (c .before .before .loop-test .taken) _ (c .before .entry-closed .ensures)) ∙ not-true _ (c .if1 .taken)))
+    -- add-k
     (λ c. search needs)
-    -- loop-less 54:5
+    -- loop-less
     (λ c. search needs)
-    -- loop-again 54:5
-    (λ c. so-far-next (c .before .before .before .before .before .loop .inv) (c .before .before .before .before .loop-test .taken) (sym (closed-by (c .before .before .before .before .before .before .before .before .args .file .now) (c .before .before .before .before .before .before .before .before .args .list .now) (c .before .before .before .before .before .before .before .before .args .n) (c .before .before .before .before .before .before .before .before .args .program) (c .before .before .before .before .before .before .before .before .pre) (c .before .before .before .before .before .loop .k) (c .before .before .before .before .loop-test .taken) _ (c .before .before .before .entry-closed .ensures)) ∙ not-false _ (c .before .if1 .left)))
-    -- returns-2 49:1
+    -- loop-again
+    (λ c. so-far-next (c .before .before .before .loop .inv) (c .before .before .loop-test .taken) (sym (closed-by (c .before .before .before .before .before .before .before .args .file .now) (c .before .before .before .before .before .before .before .args .list .now) (c .before .before .before .before .before .before .before .args .sum .now) (c .before .before .before .before .before .before .before .args .n) (c .before .before .before .before .before .before .before .args .program) (c .before .before .before .before .before .before .before .pre) (c .before .before .before .loop .k) (c .before .before .loop-test .taken) _ (c .before .entry-closed .ensures)) ∙ not-false _ (c .if1 .left)))
+    -- returns-2
     (λ c. so-far-all (c .before .loop .inv) (omega (arith, c .loop-test .left))))
