@@ -108,7 +108,7 @@ module _ {f list sum : List ℕ} {n : ℕ} {s : Shape} {c : Cube} (Z : Searchabl
   same-of exact a e =
       at-same s (a .states) (c .states)
       (λ p l. eqb-true (getD (a .states) p 0) (getD (c .states) p 0)
-        (all-at (s .processes) (λ p. eqb (getD (a .states) p 0) (getD (c .states) p 0)) (both-left _ _ (both-left _ _ e)) p (omega arith)))
+      (all-at (s .processes) (λ p. eqb (getD (a .states) p 0) (getD (c .states) p 0)) (both-left _ _ (both-left _ _ e)) p (omega arith)))
 
   pub all-unmatched : (exact : Bool)
       → ((k : ℕ) → Start f list sum n s (c .states) (numberOf s c) k → matches (shapeOf s) (relation exact) (configurationOf (cubeAt f list k)) (configurationOf c) ≡ false)

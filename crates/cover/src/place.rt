@@ -46,7 +46,13 @@ pub(crate) fn is_whole(place: Place) -> bool
 }
 
 // With x there.
-pub(crate) fn with_waiting(cube: Cube, process: usize, variable: usize, number: usize, x: u8) -> Cube
+pub(crate) fn with_waiting(
+    cube: Cube,
+    process: usize,
+    variable: usize,
+    number: usize,
+    x: u8,
+) -> Cube
     ensures { λ r. ⌜ r ≡ withWaiting cube process variable number x ⌝ }
 {
     if !both(process < 4, both(variable < 4, number < 9)) {
@@ -98,7 +104,13 @@ pub(crate) fn value_free(queue: Queue, number: usize) -> bool
     queue.values[number] == 255
 }
 
-pub(crate) fn waits_free(shape: Shape, cube: Cube, process: usize, variable: usize, number: usize) -> bool
+pub(crate) fn waits_free(
+    shape: Shape,
+    cube: Cube,
+    process: usize,
+    variable: usize,
+    number: usize,
+) -> bool
     ensures { λ r. ⌜ r ≡ waitsFree shape cube process variable number ⌝ }
 {
     if !both(

@@ -112,8 +112,10 @@ module _ (f list : List ℕ) (s : Shape) where
     where
       leader : ℕ
       leader = leaderFrom f list s sum (statesAt f list s k) (suc n) n (headLink sum (homeOf (statesNumber s (statesAt f list s k)) n))
+
       most : leader ≤ n
       most = leader-most sum (statesAt f list s k) n (suc n) n (headLink sum (homeOf (statesNumber s (statesAt f list s k)) n)) (omega arith)
+
       go : (b : Bool) → eqb leader 0 ≡ b
           → drop (8 * n) (choose b (λ _. counted (hung sum (homeOf (statesNumber s (statesAt f list s k)) n) k (markOf (statesNumber s (statesAt f list s k)))) k 1)
           (λ _. hung (counted sum (leader - 1) (countAt sum (leader - 1) + 1)) (homeOf (numberOf s (cubeAt f list k)) n) k (markOf (numberOf s (cubeAt f list k))))) ≡ drop (8 * n) sum

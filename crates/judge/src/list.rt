@@ -58,7 +58,13 @@ fn lowest_entered(file: &[u8], list: &[u8], sum: &[u8], n: usize, program: Progr
 }
 
 // The numbers are tested in this order.
-pub(crate) fn list_answer(file: &[u8], list: &[u8], sum: &[u8], n: usize, program: Program) -> Answer
+pub(crate) fn list_answer(
+    file: &[u8],
+    list: &[u8],
+    sum: &[u8],
+    n: usize,
+    program: Program,
+) -> Answer
     requires { ⌜ Ready (now file) (now list) (now sum) n program ⌝ }
     ensures { λ r. ⌜ verdictIn r ≡ listSaid (now (file .entry)) (now (list .entry)) n program ⌝ }
 {

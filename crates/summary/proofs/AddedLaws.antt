@@ -188,9 +188,9 @@ module _ {f list sum : List ℕ} {n : ℕ} {s : Shape} {m : ℕ} (G : Grouped f 
         grouped-more joined key j
         (hung-length counts n join-room (homeOf key n) m (markOf key) key-home l (omega arith) (omega arith) ∙ counted-length sum n (G .room) j (countAt sum j + 1) (omega (arith, jm)) fits) (omega (arith, jm))
         (λ i. hung-head counts n join-room (homeOf key n) m (markOf key) key-home l (omega arith) (omega arith) i
-          ∙ put-ext (headLink counts) (headLink sum) (homeOf key n) (linkTo m (markOf key)) (linkTo m (markOf key)) i refl (head i))
+        ∙ put-ext (headLink counts) (headLink sum) (homeOf key n) (linkTo m (markOf key)) (linkTo m (markOf key)) i refl (head i))
         (λ i. hung-next counts n join-room (homeOf key n) m (markOf key) key-home l (omega arith) (omega arith) i
-          ∙ put-ext (nextLink counts) (nextLink sum) m (headLink counts (homeOf key n)) (headLink sum (homeOf key n)) i (head (homeOf key n)) (next i)) join-numbers
+        ∙ put-ext (nextLink counts) (nextLink sum) m (headLink counts (homeOf key n)) (headLink sum (homeOf key n)) i (head (homeOf key n)) (next i)) join-numbers
         (λ k x. elim (ℕ-discrete k j) [
           | yes d ↦ rw d (join-numbers j ∙ put-is (countAt sum) j (countAt sum j + 1) ∙ rw (lt-ltb j (suc m) (omega (arith, jm)), j-leads)
               (omega (arith, j-number, in-more f list s m (st j) (same-sym s (st j) (st m) j-same))))

@@ -22,6 +22,7 @@ home-below number n l = first (ltb n 2) (ltb y n) refl (ltb (y - n) n) refl
   where
     y : ℕ
     y = number / 2 ^ leadingZeros 64 (n - 1)
+
     first : (a b : Bool) → ltb y n ≡ b → (c : Bool) → ltb (y - n) n ≡ c → choose a (λ _. 0) (λ _. choose b (λ _. y) (λ _. choose c (λ _. y - n) (λ _. 0))) < n
     first true b e c d = omega arith
     first false true e c d = ltb-true y n e

@@ -89,9 +89,9 @@ module _ (f list : List ℕ) (s : Shape) where
   leader-before zero k l = absurd (omega arith)
   leader-before (suc fuel) k l = ⊎-elim
       (λ r.
-        let c = leader-before fuel (r .0) (omega (arith, r .1)) in
-        let e : sameStates s (st (r .0)) (st k) ≡ true = not-no (sameStates s (st (r .0)) (st k)) (r .2) in
-        (c .0, omega (arith, c .1, r .1), c .2, same-trans s (st (c .0)) (st (r .0)) (st k) (c .3) e))
+      let c = leader-before fuel (r .0) (omega (arith, r .1)) in
+      let e : sameStates s (st (r .0)) (st k) ≡ true = not-no (sameStates s (st (r .0)) (st k)) (r .2) in
+      (c .0, omega (arith, c .1, r .1), c .2, same-trans s (st (c .0)) (st (r .0)) (st k) (c .3) e))
       (λ g. (k, omega arith, all-true k (λ j. not (sameStates s (st j) (st k))) g, same-refl s (st k)))
       (fails-or k (λ j. not (sameStates s (st j) (st k))))
     where

@@ -85,7 +85,6 @@ module _ (f list sum : List ℕ) (n : ℕ) (s : Shape) (states : List ℕ) (numb
 -- a test that only entries with this number and these local states pass
 module _ {f list sum : List ℕ} {n : ℕ} {s : Shape} (Z : Summed f list sum n s) (states : List ℕ) (number : ℕ) (test : ℕ → Bool)
     (only : (k : ℕ) → k < n → test k ≡ true → (numberOf s (cubeAt f list k) ≡ number) × (sameStates s (statesAt f list s k) states ≡ true)) where
-
   pub all-walked : ((k : ℕ) → Left f list sum n s states number n (headLink sum (homeOf number n)) false k → test k ≡ false) → (k : ℕ) → k < n → test k ≡ false
   all-walked g k l = go (test k) refl (leads f list s k) refl
     where

@@ -148,8 +148,10 @@ added-length f list s sum n k = go (eqb (leaderOf f list s sum n (statesAt f lis
   where
     a : List ℕ
     a = counted (hung sum (homeOf (statesNumber s (statesAt f list s k)) n) k (markOf (statesNumber s (statesAt f list s k)))) k 1
+
     j : ℕ
     j = leaderOf f list s sum n (statesAt f list s k) - 1
+
     go : (b : Bool) → length (choose b (λ _. a) (λ _. hung (counted sum j (countAt sum j + 1)) (homeOf (numberOf s (cubeAt f list k)) n) k (markOf (numberOf s (cubeAt f list k))))) ≡ length sum
     go true = simp (counted-same, hung-same)
     go false = simp (hung-same, counted-same)

@@ -38,14 +38,7 @@ fn states_at(file: &[u8], list: &[u8], shape: Shape, k: usize) -> [u8; 4]
 }
 
 // Entry j leads a group with these local states.
-fn leads_at(
-    file: &[u8],
-    list: &[u8],
-    sum: &[u8],
-    shape: Shape,
-    states: [u8; 4],
-    j: usize,
-) -> bool
+fn leads_at(file: &[u8], list: &[u8], sum: &[u8], shape: Shape, states: [u8; 4], j: usize) -> bool
     ensures { λ r. ⌜ r ≡ (not (eqb (countAt (now (sum .entry)) j) 0) && sameStates shape (statesAt (now (file .entry)) (now (list .entry)) shape j) states) ⌝ }
 {
     if count_at(sum, j) == 0 {

@@ -109,11 +109,7 @@ pub(crate) fn count(sum: &mut [u8], k: usize, x: usize)
     let low = word_at(sum, 2 * k);
     put_word(sum, 2 * k, low % 4194304 + 4194304 * (x % 1024));
     let high = word_at(sum, 2 * k + 1);
-    put_word(
-        sum,
-        2 * k + 1,
-        high % 4194304 + 4194304 * (x / 1024 % 1024),
-    );
+    put_word(sum, 2 * k + 1, high % 4194304 + 4194304 * (x / 1024 % 1024));
 }
 
 // ---- chains

@@ -399,18 +399,7 @@ fn choices_held(
         let message = any_message(shape, p, v);
         let mut longer = messages;
         longer[d] = message;
-        return outlines_held(
-            file,
-            list,
-            sum,
-            n,
-            shape,
-            states,
-            most,
-            longer,
-            d + 1,
-            new,
-        );
+        return outlines_held(file, list, sum, n, shape, states, most, longer, d + 1, new);
     }
     let unplaced = choices_held(
         file,

@@ -1,7 +1,6 @@
 use Prim.Native.Nat.{_+_, _*_, _-_}
 use native.Mathlib.Omega.{arith}
 use Rattle.judge.proofs.SummaryLaws.{slots-cleared}
-
 use native.Mathlib.Omega.{arith}
 use borrow.Author.Needs.{needs}
 use Rattle.judge.proofs.clear_slots.Statement.{statement}

@@ -1,4 +1,3 @@
-
 use Rattle.summary.proofs.ChainLaws.{home-below}
 use native.Mathlib.Omega.{arith}
 use borrow.Author.Needs.{needs}

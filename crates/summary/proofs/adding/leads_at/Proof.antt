@@ -6,7 +6,6 @@ use lib.Dec.{eqb}
 use Rattle.pws.specs.Machine.{allBelow}
 use Rattle.summary.specs.Groups.{sameStates}
 use Rattle.summary.proofs.WalkLaws.{leads-no, leads-yes}
-
 use native.Mathlib.Omega.{arith}
 use borrow.Author.Needs.{needs}
 use Rattle.summary.proofs.adding.leads_at.Statement.{statement}
