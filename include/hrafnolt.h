@@ -24,8 +24,8 @@ struct hrafnolt_verdict {
 enum { HRAFNOLT_SAFE = 0, HRAFNOLT_REACHABLE = 1, HRAFNOLT_REFUSED = 2 };
 
 /* Bytes of a work area: the least that is not refused with 8, and the most that is ever used (524,288 entries). */
-#define HRAFNOLT_WORK_LEAST ((size_t)32768)
-#define HRAFNOLT_WORK_MOST ((size_t)(16384 + 4 * 524288))
+#define HRAFNOLT_WORK_LEAST ((size_t)65536)
+#define HRAFNOLT_WORK_MOST ((size_t)(16384 + 12 * 524288))
 
 /* A work area that holds every entry that a file of this length can have. */
 static inline size_t hrafnolt_work_enough(size_t file_len)
@@ -33,7 +33,7 @@ static inline size_t hrafnolt_work_enough(size_t file_len)
     size_t entries = file_len / 9; /* an entry has at least nine bytes */
     if (entries > 524288)
         entries = 524288;
-    size_t bytes = 16384 + 4 * entries;
+    size_t bytes = 16384 + 12 * entries;
     return bytes < HRAFNOLT_WORK_LEAST ? HRAFNOLT_WORK_LEAST : bytes;
 }
 
@@ -46,7 +46,7 @@ static inline size_t hrafnolt_work_enough(size_t file_len)
  * - the two don't overlap, and nobody else writes to either, or reads work, during the call;
  * - each length is at most PTRDIFF_MAX.
  *
- * The contents of work do not matter when it is lent. Afterwards its first 16,384 bytes and four more for each entry allowed are 0 and
+ * The contents of work do not matter when it is lent. Afterwards its first 16,384 bytes and twelve more for each entry allowed are 0 and
  * the rest is as it was; after refusal 8 all of it is as it was. The file is only read. */
 struct hrafnolt_verdict hrafnolt_judge(const uint8_t *file, size_t file_len, uint8_t *work, size_t work_len);
 

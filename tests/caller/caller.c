@@ -64,7 +64,7 @@ static void make_pattern(size_t room)
 
 static size_t entries_allowed(size_t work_len)
 {
-    size_t entries = (work_len - 16384) / 4;
+    size_t entries = (work_len - 16384) / 12;
     return entries > 524288 ? 524288 : entries;
 }
 
@@ -102,7 +102,7 @@ int main(void)
         struct hrafnolt_verdict v = hrafnolt_judge(file, file_len, work, work_len);
         need(mprotect(files.end - touched, touched, PROT_READ | PROT_WRITE) == 0, "mprotect");
 
-        size_t zeroed = v.kind == HRAFNOLT_REFUSED && v.first == 8 ? 0 : 16384 + 4 * entries_allowed(work_len);
+        size_t zeroed = v.kind == HRAFNOLT_REFUSED && v.first == 8 ? 0 : 16384 + 12 * entries_allowed(work_len);
         const char *fault = NULL;
         if (file_len > 0 && memcmp(file, copy, file_len) != 0)
             fault = "the file was changed";

@@ -2,6 +2,7 @@
 //! files at every count limit and just past it.
 
 use reference::reading::body_length;
+use reference::{AREA_LEAST, AREA_MOST};
 
 /// A named full file.
 pub struct Full {
@@ -100,7 +101,7 @@ pub fn limits(each: &mut dyn FnMut(&str, Vec<u8>, usize)) {
     let nop = hex("03 00 00 00 00 00 00 00");
     let all = [&e[..], &m, &e, &m, &w, &e, &m, &m, &e, &m, &m, &w].concat();
     let head = [&p11[..], &target, &claim0].concat();
-    let small = 32_768;
+    let small = AREA_LEAST;
     for count in [0, 1, 255, 256, 257, 258] {
         for end in [&[][..], &target, &[0x03], &[0x07]] {
             let file = [&p11[..], &nop.repeat(count), end].concat();
@@ -158,7 +159,7 @@ pub fn limits(each: &mut dyn FnMut(&str, Vec<u8>, usize)) {
     each("341 three times", [&writes[..], &hex("20 00").repeat(341), &hex("21 00 00").repeat(341), &hex("22 00").repeat(342)].concat(), small);
     each("1,024 arw", [&writes[..], &hex("20 01").repeat(1_024)].concat(), small);
     // Entries: as many as an area allows, one more, and the work areas around.
-    for area in [0, 1, 16_383, 16_384, 16_388, 32_767, small, 32_769, 32_771, 32_772, 32_773, 40_000, 65_536] {
+    for area in [0, 1, 16_383, 16_384, 16_396, 32_768, 65_535, small, 65_537, 65_547, 65_548, 65_559, 65_560, 80_000, 131_072] {
         let allowed = reference::entries_allowed(area);
         for count in [0, 1, allowed.saturating_sub(1), allowed, allowed + 1] {
             let four = [&head[..], &all.repeat(count / 4), &[&e[..], &m].concat().repeat(count % 4)].concat();
@@ -167,8 +168,18 @@ pub fn limits(each: &mut dyn FnMut(&str, Vec<u8>, usize)) {
         each(&format!("{} entries and half a 10, area {}", allowed, area), [&head[..], &[&e[..], &m].concat().repeat(allowed), &[0x10]].concat(), area);
         each(&format!("{} entries, a bad one, a 10, area {}", allowed, area), [&head[..], &[&e[..], &m].concat().repeat(allowed.saturating_sub(1)), &e, &e].concat(), area);
     }
-    let most = 16_384 + 4 * 524_288;
-    for (count, area) in [(524_288, most), (524_287, most - 4), (524_288, most - 1), (524_289, most), (524_289, most + 4_000), (524_288, most + 1)] {
+    let most = AREA_MOST;
+    for (count, area) in [
+        (524_288, most),
+        (524_287, most - 12),
+        (524_287, most - 13),
+        (524_287, most - 1),
+        (524_288, most - 1),
+        (524_289, most),
+        (524_289, most + 12_000),
+        (524_288, most + 1),
+        (524_288, most + 12),
+    ] {
         let file = [&head[..], &all.repeat(count / 4), &[&e[..], &m].concat().repeat(count % 4)].concat();
         each(&format!("{} entries, area {}", count, area), file, area);
     }

@@ -3,6 +3,7 @@
 use crate::random;
 use crate::search::closed_list;
 use crate::seeded::Random;
+use reference::brute::fillings;
 use reference::{Configuration, Message, Operation, Program, Transition, FF};
 
 fn idle(processes: usize, variables: usize, values: u8, states: &[u8]) -> Program {
@@ -46,6 +47,18 @@ pub fn many_groups(first: u8, second: u8) -> (Program, Vec<Configuration>) {
         }
     }
     let entries = closed_list(&program, &given, 524_288).expect("a closed list");
+    (program, entries)
+}
+
+/// Three processes: the whole of the target, and thousands of groups of one entry each, which are not closed.
+fn thousands_of_groups() -> (Program, Vec<Configuration>) {
+    let mut program = idle(3, 1, 2, &[2; 3]);
+    let mut entries = closed_list(&program, &[], 524_288).expect("a closed list");
+    program.states = vec![32; 3];
+    for number in 0..5_000u16 {
+        let states = [2 + (number % 30) as u8, (number / 30 % 32) as u8, (number / 960) as u8, 0];
+        entries.push(all_waiting(&program, states));
+    }
     (program, entries)
 }
 
@@ -126,10 +139,22 @@ pub fn lists(r: &mut Random, each: &mut dyn FnMut(&str, &Program, &[Configuratio
         each("groups of one entry", &program, &entries);
     }
     // Closed groups, and one entry missing from one of them.
-    for (first, second) in [(3, 2), (6, 5)] {
+    for (first, second) in [(3, 2), (6, 5), (32, 32)] {
         let (program, mut entries) = many_groups(first, second);
         each("many groups", &program, &entries);
         entries.remove(r.below(entries.len()));
         each("many groups without an entry", &program, &entries);
     }
+    // No FF at all: many entries of one structure, and every cube with an FF is covered by several.
+    for (processes, variables, values) in [(1, 1, 4), (1, 2, 2), (2, 1, 2)] {
+        let program = idle(processes, variables, values, &vec![2; processes]);
+        let entries = closed_list(&program, &[], 10_000).expect("a closed list");
+        let mut filled: Vec<Configuration> =
+            entries.iter().flat_map(|entry| fillings(&program, entry, 4_096).expect("few fillings")).collect();
+        each("every FF filled in", &program, &filled);
+        filled.remove(r.below(filled.len()));
+        each("every FF filled in, but one", &program, &filled);
+    }
+    let (program, entries) = thousands_of_groups();
+    each("thousands of groups", &program, &entries);
 }

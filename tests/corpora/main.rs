@@ -12,7 +12,7 @@ mod random;
 mod search;
 mod seeded;
 
-use reference::{brute, cubes, judge, judge_input, writing, Configuration, Program, Verdict};
+use reference::{brute, cubes, judge, judge_input, writing, Configuration, Program, Verdict, AREA_LEAST, AREA_MOST};
 use seeded::Random;
 use std::collections::{BTreeMap, HashMap};
 use std::io::{BufRead, BufReader, Read, Write};
@@ -108,7 +108,7 @@ impl Judges {
             let wanted = judge_input(file).to_string();
             let got = program_line(self.program.as_ref().unwrap(), file);
             if got != wanted {
-                self.fail(what, "the program", &wanted, &got, file, 32_768);
+                self.fail(what, "the program", &wanted, &got, file, AREA_LEAST);
             }
         }
     }
@@ -191,7 +191,7 @@ fn cases(name: &str, judges: &mut Judges) {
         let (wanted, text) = line.split_once("<-").expect("LINE <- BYTES");
         let file = bytes(text, &names);
         let mut wanted = wanted.trim();
-        let mut area = 32_768;
+        let mut area = AREA_LEAST;
         let mut program_only = false;
         if let Some((before, rest)) = wanted.split_once(':') {
             match before.strip_prefix("area ") {
@@ -210,11 +210,11 @@ fn cases(name: &str, judges: &mut Judges) {
                 judges.by_program += 1;
                 let got = program_line(&program, &file);
                 if got != wanted {
-                    judges.fail(line, "the program", wanted, &got, &file, 32_768);
+                    judges.fail(line, "the program", wanted, &got, &file, AREA_LEAST);
                 }
             }
         } else {
-            judges.compare(line, &file, area, verdict, area == 32_768);
+            judges.compare(line, &file, area, verdict, area == AREA_LEAST);
             both_algorithms(judges, line, &file, area, 50_000.0);
             if let Ok((program, reference::Evidence::List(list))) = reference::read(&file, reference::entries_allowed(area)) {
                 judges.in_any_order(line, &program, &list.configurations(&program), area, &mut r, false);
@@ -260,7 +260,7 @@ fn brute_force(seed: u64, count: usize, judges: &mut Judges) {
             let (program, entries) =
                 if variant == 0 { (program.clone(), entries.clone()) } else { random::spoilt_list(&mut r, &program, &entries) };
             let file = writing::list_file(&program, &entries);
-            let area = 16_384 + 4 * 524_288;
+            let area = AREA_MOST;
             let most = if processes == 2 { 150_000.0 } else { 40_000.0 };
             if both_algorithms(judges, "random list", &file, area, most) {
                 judges.compare("random list", &file, area, judge(&file, area), false);
@@ -277,7 +277,6 @@ fn brute_force(seed: u64, count: usize, judges: &mut Judges) {
 /// and a start is above the closed list; or there is none, and the closed list is safe.
 fn reach(seed: u64, judges: &mut Judges) {
     let mut r = Random(seed);
-    let area = 16_384 + 4 * 524_288;
     for (processes, variables, programs, most) in [(1, 1, 300, 400), (1, 2, 200, 600), (2, 1, 60, 2_500), (1, 3, 15, 2_500)] {
         let (mut reached, mut safe) = (0, 0);
         while reached + safe < programs {
@@ -291,6 +290,7 @@ fn reach(seed: u64, judges: &mut Judges) {
             let Some(entries) = search::closed_list(&program, &[], most) else { continue };
             *if run.is_ok() { &mut reached } else { &mut safe } += 1;
             let list = writing::list_file(&program, &entries);
+            let area = enough(entries.len());
             let line = judge(&list, area);
             // Long lists that are safe take the judges long; the search has been made for them all.
             let short = entries.len() <= 600;
@@ -323,8 +323,8 @@ fn reach(seed: u64, judges: &mut Judges) {
 
 fn corpora(seed: u64, judges: &mut Judges) {
     let mut r = Random(seed);
-    let areas = [32_768, 32_768, 32_768, 32_768, 32_769, 32_770, 32_772, 33_000, 65_536, 100_001];
-    let odd_areas = [0, 1, 16_384, 32_767];
+    let areas = [65_536, 65_536, 65_536, 65_536, 65_537, 65_547, 65_548, 66_000, 100_001, 150_000];
+    let odd_areas = [0, 1, 16_384, 32_768, 65_535];
     let mut counter = 0usize;
     let mut sample = move || {
         counter += 1;
@@ -340,7 +340,7 @@ fn corpora(seed: u64, judges: &mut Judges) {
         }
     }
     fixed::limits(&mut |what, file, area| {
-        judges.compare(what, &file, area, judge(&file, area), area == 32_768);
+        judges.compare(what, &file, area, judge(&file, area), area == AREA_LEAST);
     });
     for _ in 0..2_000 {
         let (program, run) = random::walk(&mut r);
@@ -363,8 +363,13 @@ fn corpora(seed: u64, judges: &mut Judges) {
         }
     });
     groups::lists(&mut r, &mut |what, program, entries| {
-        judges.in_any_order(what, program, entries, 65_536, &mut s, sample());
+        judges.in_any_order(what, program, entries, enough(entries.len()), &mut s, sample());
     });
+}
+
+/// The least area that so many entries fit into.
+fn enough(entries: usize) -> usize {
+    AREA_LEAST.max(16_384 + 12 * entries)
 }
 
 /// The order of a list decides only which entry is the lowest, in numbers 10 and 11, and what is read first of a list that is refused in

@@ -34,14 +34,18 @@ impl std::fmt::Display for Verdict {
     }
 }
 
-/// Document 01, "Records": entries allowed by a work area of `area` bytes.
+/// Bytes of a work area: the least that is not refused with 8, and the most that is ever used.
+pub const AREA_LEAST: usize = 65_536;
+pub const AREA_MOST: usize = 16_384 + 12 * 524_288;
+
+/// Document 01, "Records", with twelve bytes an entry (request N2): entries allowed by a work area of `area` bytes.
 pub fn entries_allowed(area: usize) -> usize {
-    (area.saturating_sub(16_384) / 4).min(524_288)
+    (area.saturating_sub(16_384) / 12).min(524_288)
 }
 
 /// The whole judgement of a file with a work area of `area` bytes.
 pub fn judge(file: &[u8], area: usize) -> Verdict {
-    if area < 32_768 {
+    if area < AREA_LEAST {
         return Verdict::Refused(8, 0);
     }
     match read(file, entries_allowed(area)) {
@@ -51,12 +55,12 @@ pub fn judge(file: &[u8], area: usize) -> Verdict {
     }
 }
 
-/// What the program answers to a file on standard input: its area has 32,768 bytes, and number 14 comes first.
+/// What the program answers to a file on standard input: its area has 65,536 bytes, and number 14 comes first.
 pub fn judge_input(file: &[u8]) -> Verdict {
     if file.len() > 65_536 {
         return Verdict::Refused(14, 65_536);
     }
-    judge(file, 32_768)
+    judge(file, AREA_LEAST)
 }
 
 /// Claim 1: every step in turn, then the lowest target that the last local states meet.

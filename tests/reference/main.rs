@@ -1,6 +1,6 @@
 //! The separate judge as a program.
-//!   judge [--area BYTES] [FILE]   one file, or standard input, judged with a work area of that size (default 2,113,536 bytes)
-//!   judge --input                 standard input as the proved program judges it (number 14, area of 32,768 bytes)
+//!   judge [--area BYTES] [FILE]   one file, or standard input, judged with a work area of that size (default 6,307,840 bytes)
+//!   judge --input                 standard input as the proved program judges it (number 14, area of 65,536 bytes)
 //!   judge --serve                 answers files in the protocol of tests/caller, for trying edits of this judge
 
 use reference::{judge, judge_input};
@@ -21,7 +21,7 @@ fn serve() -> std::io::Result<()> {
 }
 
 fn main() -> std::io::Result<()> {
-    let mut area = 16_384 + 4 * 524_288;
+    let mut area = reference::AREA_MOST;
     let mut name = None;
     let mut program = false;
     let mut words = std::env::args().skip(1);
