@@ -8,3 +8,4 @@ pub mod LowestLaws
 pub mod SummaryLaws
 pub mod ListLaws
 pub mod JudgeLaws
+pub mod GroupLaws

@@ -4,3 +4,4 @@ pub mod PsoDemands
 pub mod Cases
 pub mod Answers
 pub mod Ready
+pub mod Groups
