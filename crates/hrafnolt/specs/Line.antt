@@ -49,6 +49,6 @@ wordOf kind = cond (eqb kind 0) wordSafe (cond (eqb kind 1) wordReachable wordRe
 
 -- ---- what the program says of its input
 
--- 14 before all others: over 65,536 bytes; else the verdict in a work area of 32,768 bytes
+-- 14 before all others: over 65,536 bytes; else the verdict in a work area of 65,536 bytes
 unfoldable pub said : List ℕ → Verdict
 said input = choose (ltb 65536 (length input)) (λ _. refused 14 65536) (λ _. judged input 65536)
