@@ -16,7 +16,8 @@ extern "C" {
 
 /* kind HRAFNOLT_SAFE:      first = number of entries; line `safe FIRST`
  * kind HRAFNOLT_REACHABLE: first = number of steps, second = lowest target met; line `reachable FIRST SECOND`
- * kind HRAFNOLT_REFUSED:   first = number of the refusal table, second = place; line `refused FIRST SECOND` */
+ * kind HRAFNOLT_REFUSED:   first = number of the refusal table, second = place; line `refused FIRST SECOND`.
+ *     A step that the machine can't take is 12, 15, 16, 17 or 18 by its cause, and the place is the step's number. */
 struct hrafnolt_verdict {
     uint64_t kind, first, second;
 };

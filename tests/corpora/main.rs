@@ -321,6 +321,24 @@ fn reach(seed: u64, judges: &mut Judges) {
     }
 }
 
+/// Every cause of a refused step at random depths, and every two causes of a transition at once: the first in the order 12, 16, 17, 15 is said.
+fn refused_steps(r: &mut Random, judges: &mut Judges) {
+    let mut met: BTreeMap<Vec<u64>, usize> = BTreeMap::new();
+    for _ in 0..600 {
+        random::refused_steps(r, &mut |causes, depth, file| {
+            *met.entry(causes.to_vec()).or_insert(0) += 1;
+            let wanted = Verdict::Refused(causes[0], depth as u64);
+            if judge(file, 32_768) != wanted {
+                judges.fail("a refused step", "the separate judge", &wanted.to_string(), &judge(file, 32_768).to_string(), file, 32_768);
+            }
+            judges.compare("a refused step", file, 32_768, wanted, depth % 100 == 7);
+        });
+    }
+    for wanted in [&[12][..], &[16], &[17], &[15], &[18], &[12, 16], &[12, 17], &[12, 15], &[16, 17], &[16, 15], &[17, 15], &[12, 16, 17, 15]] {
+        assert!(met.get(wanted).is_some_and(|n| *n >= 10), "causes {:?} are met too seldom: {:?}", wanted, met);
+    }
+}
+
 fn corpora(seed: u64, judges: &mut Judges) {
     let mut r = Random(seed);
     let areas = [65_536, 65_536, 65_536, 65_536, 65_537, 65_547, 65_548, 66_000, 100_001, 150_000];
@@ -353,6 +371,7 @@ fn corpora(seed: u64, judges: &mut Judges) {
             judges.compare("damaged run", &file, area, judge(&file, area), sample());
         }
     }
+    refused_steps(&mut Random(seed ^ 0xca05e), judges);
     let mut s = Random(seed ^ 0x5eed);
     random::lists(&mut r, &mut |program, entries| {
         let area = *s.pick(&areas);

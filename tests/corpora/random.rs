@@ -120,6 +120,71 @@ pub fn damaged_run(r: &mut Random, program: &Program, run: &[Step]) -> Vec<u8> {
     writing::run_file(&program, &run)
 }
 
+/// The causes, of 12, 16, 17 and 15, for which a transition is refused from c, each asked by itself.
+fn causes(program: &Program, c: &Configuration, t: &Transition) -> Vec<u64> {
+    let waits = |v: usize| !c.queues[program.queue(t.process, v)].is_empty();
+    let behind = c.pointers[t.process] < c.channel.len();
+    let newest = c.channel[c.channel.len() - 1].snapshot;
+    let (queue, pointer, value) = match t.operation {
+        Operation::Nop | Operation::Write { .. } => (false, false, false),
+        Operation::Read { variable, value } => {
+            let seen = c.queues[program.queue(t.process, variable)].last().copied();
+            (false, false, seen.unwrap_or(c.channel[c.last_write(t.process, variable) - 1].snapshot[variable]) != value)
+        }
+        Operation::Sfence => ((0..program.variables).any(waits), false, false),
+        Operation::Mfence => ((0..program.variables).any(waits), behind, false),
+        Operation::Arw { variable, old, .. } => (waits(variable), behind, newest[variable] != old),
+    };
+    let each = [(12, c.states[t.process] != t.from), (16, queue), (17, pointer), (15, value)];
+    each.iter().filter(|(_, applies)| *applies).map(|(number, _)| *number).collect()
+}
+
+/// A walk that ends in a step that is refused: for every set of causes that some transition meets at that depth one such file, with the
+/// transition added to the program; and one for a serialise or an update. Each comes with its causes and the step's number.
+pub fn refused_steps(r: &mut Random, each: &mut dyn FnMut(&[u64], usize, &[u8])) {
+    let (program, run) = walk(r);
+    let depth = r.below(run.len().min(1_023) + 1);
+    let mut c = Configuration::start(&program);
+    for step in &run[..depth] {
+        c.take(&program, *step);
+    }
+    let mut run = run[..depth].to_vec();
+    let still: Vec<Step> = program.all_steps().into_iter().filter(|step| !matches!(step, Step::Transition(_)) && c.refusal(&program, *step).is_some()).collect();
+    if !still.is_empty() {
+        run.push(*r.pick(&still));
+        each(&[18], depth, &writing::run_file(&program, &run));
+        run.pop();
+    }
+    let mut seen: Vec<Vec<u64>> = Vec::new();
+    for _ in 0..200 {
+        let process = r.below(program.processes);
+        let from = if r.one_in(2) { c.states[process] } else { r.below(program.states[process] as usize) as u8 };
+        let t = Transition { process, from, operation: operation(r, program.variables, program.values), to: from };
+        let met = causes(&program, &c, &t);
+        if met.is_empty() || seen.contains(&met) || program.transitions.is_empty() {
+            continue;
+        }
+        // In the place of a transition that the walk has not taken.
+        let free = (0..program.transitions.len()).find(|n| !run.contains(&Step::Transition(*n)));
+        let mut with = program.clone();
+        let number = match free {
+            Some(n) => {
+                with.transitions[n] = t;
+                n
+            }
+            None if with.transitions.len() < 256 => {
+                with.transitions.push(t);
+                with.transitions.len() - 1
+            }
+            None => continue,
+        };
+        run.push(Step::Transition(number));
+        each(&met, depth, &writing::run_file(&with, &run));
+        run.pop();
+        seen.push(met);
+    }
+}
+
 /// Bytes changed, dropped, doubled or cut.
 pub fn damaged_bytes(r: &mut Random, file: &[u8]) -> Vec<u8> {
     let mut file = file.to_vec();

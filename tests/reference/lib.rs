@@ -67,9 +67,10 @@ pub fn judge_input(file: &[u8]) -> Verdict {
 pub fn replay(program: &Program, steps: &[Step]) -> Verdict {
     let mut configuration = Configuration::start(program);
     for (number, step) in steps.iter().enumerate() {
-        if !configuration.take(program, *step) {
-            return Verdict::Refused(12, number as u64);
+        if let Some(cause) = configuration.refusal(program, *step) {
+            return Verdict::Refused(cause, number as u64);
         }
+        configuration.take(program, *step);
     }
     match program.targets.iter().position(|target| *target == configuration.states) {
         Some(target) => Verdict::Reachable(steps.len() as u64, target as u64),

@@ -118,67 +118,74 @@ impl Configuration {
         self.channel.push(Message { process: process as u8, variable: variable as u8, snapshot });
     }
 
+    /// What process p finds in variable v: its newest waiting value, or else the one at its LastWrite.
+    fn found(&self, program: &Program, p: usize, v: usize) -> u8 {
+        match self.queues[program.queue(p, v)].last() {
+            Some(waiting) => *waiting,
+            None => self.channel[self.last_write(p, v) - 1].snapshot[v],
+        }
+    }
+
+    /// The number of the first cause for which the machine cannot take the step (document 02, N1), or None if it can: for a transition 12
+    /// the local state, 16 a queue that must be empty, 17 the pointer, 15 the value; for the others 18.
+    pub fn refusal(&self, program: &Program, step: Step) -> Option<u64> {
+        let number = match step {
+            Step::Update(p) => return if self.pointers[p] < self.channel.len() { None } else { Some(18) },
+            Step::Serialise(p, v) => return if self.queues[program.queue(p, v)].is_empty() { Some(18) } else { None },
+            Step::Transition(number) => number,
+        };
+        let Transition { process: p, from, operation, .. } = program.transitions[number];
+        if self.states[p] != from {
+            return Some(12);
+        }
+        let newest = self.channel.len();
+        let queues = match operation {
+            Operation::Mfence | Operation::Sfence => self.queues_empty(program, p),
+            Operation::Arw { variable, .. } => self.queues[program.queue(p, variable)].is_empty(),
+            _ => true,
+        };
+        if !queues {
+            return Some(16);
+        }
+        if matches!(operation, Operation::Mfence | Operation::Arw { .. }) && self.pointers[p] != newest {
+            return Some(17);
+        }
+        let value = match operation {
+            Operation::Read { variable, value } => self.found(program, p, variable) == value,
+            Operation::Arw { variable, old, .. } => self.channel[newest - 1].snapshot[variable] == old,
+            _ => true,
+        };
+        if value {
+            None
+        } else {
+            Some(15)
+        }
+    }
+
     /// Takes the step if the machine permits it, and says so; else nothing changes.
     pub fn take(&mut self, program: &Program, step: Step) -> bool {
+        if self.refusal(program, step).is_some() {
+            return false;
+        }
         match step {
-            Step::Update(p) => {
-                if self.pointers[p] >= self.channel.len() {
-                    return false;
-                }
-                self.pointers[p] += 1;
-                true
-            }
+            Step::Update(p) => self.pointers[p] += 1,
             Step::Serialise(p, v) => {
-                let queue = &mut self.queues[program.queue(p, v)];
-                if queue.is_empty() {
-                    return false;
-                }
-                let value = queue.remove(0);
+                let value = self.queues[program.queue(p, v)].remove(0);
                 self.append(p, v, value);
-                true
             }
             Step::Transition(number) => {
-                let Transition { process: p, from, operation, to } = program.transitions[number];
-                if self.states[p] != from {
-                    return false;
-                }
-                let newest = self.channel.len();
+                let Transition { process: p, operation, to, .. } = program.transitions[number];
                 match operation {
-                    Operation::Nop => {}
                     Operation::Write { variable, value } => self.queues[program.queue(p, variable)].push(value),
-                    Operation::Read { variable, value } => {
-                        let found = match self.queues[program.queue(p, variable)].last() {
-                            Some(waiting) => *waiting,
-                            None => self.channel[self.last_write(p, variable) - 1].snapshot[variable],
-                        };
-                        if found != value {
-                            return false;
-                        }
-                    }
-                    Operation::Sfence => {
-                        if !self.queues_empty(program, p) {
-                            return false;
-                        }
-                    }
-                    Operation::Mfence => {
-                        if !self.queues_empty(program, p) || self.pointers[p] != newest {
-                            return false;
-                        }
-                    }
-                    Operation::Arw { variable, old, new } => {
-                        if !self.queues[program.queue(p, variable)].is_empty()
-                            || self.pointers[p] != newest
-                            || self.channel[newest - 1].snapshot[variable] != old
-                        {
-                            return false;
-                        }
+                    Operation::Arw { variable, new, .. } => {
                         self.append(p, variable, new);
-                        self.pointers[p] = newest + 1;
+                        self.pointers[p] = self.channel.len();
                     }
+                    Operation::Nop | Operation::Read { .. } | Operation::Mfence | Operation::Sfence => {}
                 }
                 self.states[p] = to;
-                true
             }
         }
+        true
     }
 }

@@ -61,6 +61,7 @@ use Rattle.reading.specs.EvidencePart.{
   entriesAllowed,
 }
 use Rattle.reading.specs.Reading.{Evidence, entries, steps, claimThen, evidenceFrom, programThen, partsOf, partsRead, readFile}
+use Rattle.replay.specs.Causes.{firstCause}
 use Rattle.judge.specs.Judge.{Verdict, ofFile, judged}
 use Rattle.judge.specs.Cases.{Row, file, below, notBelow, Holds, caseA, Each, no-row, row, cases}
 
@@ -107,9 +108,9 @@ K-not-below : QueueBelow (1 ∷ []) (1 ∷ 0 ∷ []) → ⊥
 K-not-below q = let e = q .end in let z : _≡_ {A = ℕ} 0 1 = cc in omega arith
 
 rows-computed : (k : ℕ) → AllRight k cases
-unfolding firstNumber checked isKind inRange shapeNumber statesNumber valueExists allZero operationNames operationOf transitionNames transitionNumber stateName stateNames targetNumber claimNumber stepBody stepNames stepNumber stepAt pointerName pointerNames entryNumber valueName valueNames messageNames waitingNames messageNumber waitingNumber unlessEnd statesFrom rowFrom transitionsFrom atClaim targetsFrom rowsFrom restFrom programFrom stepsFrom stepsOf extended bodySize bodyNumber pointerInside pointsFirst pointersFit someFirst complete atBoundary finished entryFrom entryRead entriesFrom cut
+unfolding firstCause firstNumber checked isKind inRange shapeNumber statesNumber valueExists allZero operationNames operationOf transitionNames transitionNumber stateName stateNames targetNumber claimNumber stepBody stepNames stepNumber stepAt pointerName pointerNames entryNumber valueName valueNames messageNames waitingNames messageNumber waitingNumber unlessEnd statesFrom rowFrom transitionsFrom atClaim targetsFrom rowsFrom restFrom programFrom stepsFrom stepsOf extended bodySize bodyNumber pointerInside pointsFirst pointersFit someFirst complete atBoundary finished entryFrom entryRead entriesFrom cut
 rows-computed k =
-    (refl, (refl, (refl, (refl, (refl, (refl, (refl, (refl, (refl, (refl, (refl, (refl, (refl, (refl, (refl, (K-below, (K-not-below, (refl, (refl, (refl, (refl, (refl, (refl, (refl, (refl, (refl, tt))))))))))))))))))))))))))
+    (refl, (refl, (refl, (refl, (refl, (refl, (refl, (refl, (refl, (refl, (refl, (refl, (refl, (refl, (refl, (refl, (refl, (refl, (K-below, (K-not-below, (refl, (refl, (refl, (refl, (refl, (refl, (refl, (refl, (refl, tt)))))))))))))))))))))))))))))
 
 -- ---- the table
 

@@ -1,12 +1,12 @@
 -- The theorems of the demands: what each says stands in specs/Demands.
 use Prim.Native.Nat.{ℕ, _<_, _≤_}
 use mathlib.Core.Path.{_≡_, refl, sym, ap, ap₂, subst, _∙_}
-use mathlib.Core.Logic.{_↔_}
-use mathlib.Core.Bool.{cond}
+use mathlib.Core.Logic.{_↔_, inl, inr, ⊎-elim}
+use mathlib.Core.Bool.{Bool, true, false, cond}
 use mathlib.Core.List.{List}
 use native.Mathlib.Omega.{arith}
-use native.Mathlib.Decide.{decLt}
-use lib.Dec.{eqb}
+use native.Mathlib.Decide.{decLt, ℕ-discrete}
+use lib.Dec.{T, eqb, leb}
 use Rattle.pws.specs.declared.Step.{Step}
 use Rattle.pws.specs.Program.{Program, ProgramInRange}
 use Rattle.pws.specs.Machine.{Configuration}
@@ -17,7 +17,12 @@ use Rattle.lists.proofs.Verdict.{verdict-unique, verdict-judged, safe-visited}
 use Rattle.reading.specs.Reading as reading
 use Rattle.contents.specs.Contents.{ListRead}
 use Rattle.contents.proofs.Contents.{list-read, run-read}
-use Rattle.replay.specs.Replay as runs
+use Rattle.replay.specs.declared.step.Cause.{Cause}
+use Rattle.replay.specs.declared.step.Cause.the-variants.{State, Queue, Pointer, Value, Nothing}
+use Rattle.replay.specs.declared.run.RunAnswer.{RunAnswer}
+use Rattle.replay.specs.declared.run.RunAnswer.the-variants.{Reachable, Stopped, Missed}
+use Rattle.replay.specs.Causes.{causeNumber}
+use Rattle.replay.specs.Answers.{runAnswer}
 use Rattle.judge.specs.Judge.{Verdict, safe, reachable, refused, ofList, ofRun, FileJudged, Judged, ofFile, judged}
 use Rattle.judge.specs.Demands.{
   OfList,
@@ -28,7 +33,13 @@ use Rattle.judge.specs.Demands.{
   Refused9,
   Refused10,
   Refused11,
+  StepNumber,
   Refused12,
+  Refused16,
+  Refused17,
+  Refused15,
+  Refused18,
+  RefusedStep,
   Refused13,
   NoOther,
   AcceptedList,
@@ -38,7 +49,7 @@ use Rattle.judge.specs.Demands.{
   Simulation,
 }
 use Rattle.judge.proofs.Numbers.{short-file, refused-low, refused-large}
-use Rattle.judge.proofs.Runs.{RunJudged, run-judged, run-only}
+use Rattle.judge.proofs.Runs.{RunJudged, run-judged, run-only, stopped-cannot, cannot-stopped}
 
 -- ---- verdicts that differ
 
@@ -62,10 +73,13 @@ toList (safe n) = lists.safe n
 toList (reachable n k) = lists.safe n
 toList (refused n k) = cond (eqb n 9) (lists.unheld k) (cond (eqb n 10) (lists.started k) (lists.entered k))
 
-abbrev toRun : Verdict → runs.RunVerdict
-toRun (safe n) = runs.missed n
-toRun (reachable n k) = runs.reachable n k
-toRun (refused n k) = cond (eqb n 12) (runs.stopped k) (runs.missed k)
+abbrev causeBy : ℕ → Cause
+causeBy n = cond (eqb n 12) State (cond (eqb n 16) Queue (cond (eqb n 17) Pointer (cond (eqb n 15) Value Nothing)))
+
+abbrev toRun : Verdict → RunAnswer
+toRun (safe n) = Missed n
+toRun (reachable n k) = Reachable n k
+toRun (refused n k) = cond (eqb n 13) (Missed k) (Stopped k (causeBy n))
 
 list-back : (v : lists.ListVerdict) → toList (ofList v) ≡ v
 list-back (lists.safe n) = refl
@@ -73,39 +87,77 @@ list-back (lists.unheld k) = refl
 list-back (lists.started k) = refl
 list-back (lists.entered k) = refl
 
-run-back : (v : runs.RunVerdict) → toRun (ofRun v) ≡ v
-run-back (runs.reachable n k) = refl
-run-back (runs.stopped k) = refl
-run-back (runs.missed n) = refl
+run-back : (v : RunAnswer) → toRun (ofRun v) ≡ v
+run-back (Reachable n k) = refl
+run-back (Stopped k State) = refl
+run-back (Stopped k Queue) = refl
+run-back (Stopped k Pointer) = refl
+run-back (Stopped k Value) = refl
+run-back (Stopped k Nothing) = refl
+run-back (Missed n) = refl
 
--- 9, 10, 11 and safe are said of lists alone
-abbrev ListCode : ℕ → Type 0
-ListCode n = (9 ≤ n) × (n ≡ 12 → ⊥) × (n ≡ 13 → ⊥) × (n ≡ 14 → ⊥)
+-- the numbers of the causes
+cause-range : (cause : Cause) → (12 ≤ causeNumber cause) × (causeNumber cause ≤ 18) × (causeNumber cause ≡ 14 → ⊥)
+cause-range State = (omega arith, omega arith, λ e. omega arith)
+cause-range Queue = (omega arith, omega arith, λ e. omega arith)
+cause-range Pointer = (omega arith, omega arith, λ e. omega arith)
+cause-range Value = (omega arith, omega arith, λ e. omega arith)
+cause-range Nothing = (omega arith, omega arith, λ e. omega arith)
 
-list-code : (v : lists.ListVerdict) → ListCode (code (ofList v))
-list-code (lists.safe n) = (omega arith, (λ e. omega arith), (λ e. omega arith), (λ e. omega arith))
-list-code (lists.unheld k) = (omega arith, (λ e. omega arith), (λ e. omega arith), (λ e. omega arith))
-list-code (lists.started k) = (omega arith, (λ e. omega arith), (λ e. omega arith), (λ e. omega arith))
-list-code (lists.entered k) = (omega arith, (λ e. omega arith), (λ e. omega arith), (λ e. omega arith))
+step-number : (cause : Cause) → StepNumber (causeNumber cause)
+step-number State = inl refl
+step-number Queue = inr (omega arith, omega arith)
+step-number Pointer = inr (omega arith, omega arith)
+step-number Value = inr (omega arith, omega arith)
+step-number Nothing = inr (omega arith, omega arith)
 
--- 12, 13 and reachable of runs alone
-run-code : (v : runs.RunVerdict) → (12 ≤ code (ofRun v)) × (code (ofRun v) ≤ 14)
-run-code (runs.reachable n k) = (omega arith, omega arith)
-run-code (runs.stopped k) = (omega arith, omega arith)
-run-code (runs.missed n) = (omega arith, omega arith)
-
-never-both : (v : lists.ListVerdict) (w : runs.RunVerdict) → ofList v ≡ ofRun w → ⊥
-never-both v w e =
-    let a = list-code v in
-    let b = run-code w in
-    let c : code (ofList v) ≡ code (ofRun w) = ap code e in
-    elim (decLt (code (ofRun w)) 13) [
-      | yes l ↦ a .1 (omega (arith, b .0, c, l))
-      | no l ↦ elim (decLt (code (ofRun w)) 14) [
-        | yes m ↦ a .2 (omega (arith, b .0, c, m, l))
-        | no m ↦ a .3 (omega (arith, b .1, c, m))
-      ]
+number-step : (n : ℕ) → StepNumber n → (cause : Cause) × (causeNumber cause ≡ n)
+number-step n = ⊎-elim (λ e. (State, sym e)) (λ l. elim (ℕ-discrete 15 n) [
+  | yes e ↦ (Value, e)
+  | no a ↦ elim (ℕ-discrete 16 n) [
+    | yes e ↦ (Queue, e)
+    | no b ↦ elim (ℕ-discrete 17 n) [
+      | yes e ↦ (Pointer, e)
+      | no c ↦ (Nothing, omega (arith, l .0, l .1))
     ]
+  ]
+])
+
+-- safe and 9 to 11 are said of lists alone, reachable and the numbers from 12 on of runs alone
+abbrev isRun : Verdict → Bool
+isRun (safe n) = false
+isRun (reachable n k) = true
+isRun (refused n k) = leb 12 n
+
+list-not : (v : lists.ListVerdict) → isRun (ofList v) ≡ false
+list-not (lists.safe n) = refl
+list-not (lists.unheld k) = refl
+list-not (lists.started k) = refl
+list-not (lists.entered k) = refl
+
+run-is : (v : RunAnswer) → isRun (ofRun v) ≡ true
+run-is (Reachable n k) = refl
+run-is (Stopped k State) = refl
+run-is (Stopped k Queue) = refl
+run-is (Stopped k Pointer) = refl
+run-is (Stopped k Value) = refl
+run-is (Stopped k Nothing) = refl
+run-is (Missed n) = refl
+
+never-both : (v : lists.ListVerdict) (w : RunAnswer) → ofList v ≡ ofRun w → ⊥
+never-both v w e = subst T (sym (sym (list-not v) ∙ ap isRun e ∙ run-is w)) tt
+
+-- neither is a number of the reading
+list-code : (v : lists.ListVerdict) → 9 ≤ code (ofList v)
+list-code (lists.safe n) = omega arith
+list-code (lists.unheld k) = omega arith
+list-code (lists.started k) = omega arith
+list-code (lists.entered k) = omega arith
+
+run-code : (v : RunAnswer) → 9 ≤ code (ofRun v)
+run-code (Reachable n k) = omega arith
+run-code (Stopped k cause) = omega (arith, cause-range cause .0)
+run-code (Missed n) = omega arith
 
 module _ (f : List ℕ) (area : ℕ) where
   abbrev Reads : reading.FileRead → Type 0
@@ -147,13 +199,13 @@ module _ (f : List ℕ) (area : ℕ) where
   )
     where
       go : (r : reading.FileRead) → Reads r → judged f area ≡ ofList v → OfList f area (λ P ts es. lists.ListJudged P ts es v)
-      go (reading.refused r) q e = absurd (omega (arith, refused-low f area r q .1, list-code v .0, ap code (sym (judged-as _ q) ∙ e)))
+      go (reading.refused r) q e = absurd (omega (arith, refused-low f area r q .1, list-code v, ap code (sym (judged-as _ q) ∙ e)))
       go (reading.list P ts es) q e =
           let z = sym (list-back (decision.verdictOf P ts es)) ∙ ap toList (sym (judged-as _ q) ∙ e) ∙ list-back v in
           record { program = P; targets = ts; entries = es; reads = q; holds = subst (lists.ListJudged P ts es) z (file-list-judged P ts es q) }
-      go (reading.run P ts ss) q e = absurd (never-both v (runs.runVerdict P ts ss) (sym e ∙ judged-as _ q))
+      go (reading.run P ts ss) q e = absurd (never-both v (runAnswer P ts ss) (sym e ∙ judged-as _ q))
 
-  pub run-said : (v : runs.RunVerdict) → (judged f area ≡ ofRun v) ↔ OfRun f area (λ P ts ss. RunJudged P ts ss v)
+  pub run-said : (v : RunAnswer) → (judged f area ≡ ofRun v) ↔ OfRun f area (λ P ts ss. RunJudged P ts ss v)
   run-said v = (
     λ e. go (reading.readFile f area) refl e,
     λ x.
@@ -161,10 +213,10 @@ module _ (f : List ℕ) (area : ℕ) where
   )
     where
       go : (r : reading.FileRead) → Reads r → judged f area ≡ ofRun v → OfRun f area (λ P ts ss. RunJudged P ts ss v)
-      go (reading.refused r) q e = absurd (omega (arith, refused-low f area r q .1, run-code v .0, ap code (sym (judged-as _ q) ∙ e)))
+      go (reading.refused r) q e = absurd (omega (arith, refused-low f area r q .1, run-code v, ap code (sym (judged-as _ q) ∙ e)))
       go (reading.list P ts es) q e = absurd (never-both (decision.verdictOf P ts es) v (sym (judged-as _ q) ∙ e))
       go (reading.run P ts ss) q e =
-          let z = sym (run-back (runs.runVerdict P ts ss)) ∙ ap toRun (sym (judged-as _ q) ∙ e) ∙ run-back v in
+          let z = sym (run-back (runAnswer P ts ss)) ∙ ap toRun (sym (judged-as _ q) ∙ e) ∙ run-back v in
           record { program = P; targets = ts; steps = ss; reads = q; holds = subst (RunJudged P ts ss) z (run-judged P (run-range P ts ss q) ts ss) }
 
   -- and of the reading
@@ -176,8 +228,8 @@ module _ (f : List ℕ) (area : ℕ) where
       go (reading.refused r) q e =
           let z = sym (judged-as _ q) ∙ e in
           q ∙ ap₂ (λ (a b : ℕ). reading.refused (record { number = a; place = b })) (ap code z) (ap place z)
-      go (reading.list P ts es) q e = absurd (omega (arith, l, list-code (decision.verdictOf P ts es) .0, ap code (sym (judged-as _ q) ∙ e)))
-      go (reading.run P ts ss) q e = absurd (omega (arith, l, run-code (runs.runVerdict P ts ss) .0, ap code (sym (judged-as _ q) ∙ e)))
+      go (reading.list P ts es) q e = absurd (omega (arith, l, list-code (decision.verdictOf P ts es), ap code (sym (judged-as _ q) ∙ e)))
+      go (reading.run P ts ss) q e = absurd (omega (arith, l, run-code (runAnswer P ts ss), ap code (sym (judged-as _ q) ∙ e)))
 
 -- ---- demand 1
 
@@ -216,10 +268,39 @@ pub refused11 : Refused11
 refused11 f area k = list-said f area (lists.entered k)
 
 pub refused12 : Refused12
-refused12 f area k = run-said f area (runs.stopped k)
+refused12 f area k = run-said f area (Stopped k State)
+
+pub refused16 : Refused16
+refused16 f area k = run-said f area (Stopped k Queue)
+
+pub refused17 : Refused17
+refused17 f area k = run-said f area (Stopped k Pointer)
+
+pub refused15 : Refused15
+refused15 f area k = run-said f area (Stopped k Value)
+
+pub refused18 : Refused18
+refused18 f area k = run-said f area (Stopped k Nothing)
+
+pub refused-step : RefusedStep
+refused-step f area k = (
+  λ w.
+      let c = number-step (w .0) (w .1) in
+      let x = run-said f area (Stopped k (c .0)) .0 (w .2 ∙ ap (λ (m : ℕ). refused m k) (sym (c .1))) in
+      record {
+        program = x .program;
+        targets = x .targets;
+        steps = x .steps;
+        reads = x .reads;
+        holds = stopped-cannot (x .program) (run-range f area _ _ _ (x .reads)) (x .targets) (x .steps) k (c .0) (x .holds);
+      },
+  λ x.
+      let w = cannot-stopped (x .program) (run-range f area _ _ _ (x .reads)) (x .targets) (x .steps) k (x .holds) in
+      (causeNumber (w .0), step-number (w .0), judged-as f area _ (x .reads) ∙ ap ofRun (w .1)),
+)
 
 pub refused13 : Refused13
-refused13 f area n = run-said f area (runs.missed n)
+refused13 f area n = run-said f area (Missed n)
 
 pub no-other : NoOther
 no-other f area n k e = go (reading.readFile f area) refl
@@ -230,22 +311,25 @@ no-other f area n k e = go (reading.readFile f area) refl
     list-most (lists.started m) e = let z : 10 ≡ n = ap code e in (omega arith, omega arith)
     list-most (lists.entered m) e = let z : 11 ≡ n = ap code e in (omega arith, omega arith)
 
-    run-most : (v : runs.RunVerdict) → ofRun v ≡ refused n k → (12 ≤ n) × (n ≤ 13)
-    run-most (runs.reachable m j) e = absurd (let z : _≡_ {A = ℕ} _ 2 = ap kind e in omega arith)
-    run-most (runs.stopped m) e = let z : 12 ≡ n = ap code e in (omega arith, omega arith)
-    run-most (runs.missed m) e = let z : 13 ≡ n = ap code e in (omega arith, omega arith)
+    run-most : (v : RunAnswer) → ofRun v ≡ refused n k → (12 ≤ n) × (n ≤ 18) × (n ≡ 14 → ⊥)
+    run-most (Reachable m j) e = absurd (let z : _≡_ {A = ℕ} _ 2 = ap kind e in omega arith)
+    run-most (Stopped m cause) e =
+        let z : causeNumber cause ≡ n = ap code e in
+        let w = cause-range cause in
+        (omega (arith, w .0), omega (arith, w .1), λ q. w .2 (z ∙ q))
+    run-most (Missed m) e = let z : 13 ≡ n = ap code e in (omega arith, omega arith, λ q. omega arith)
 
-    go : (r : reading.FileRead) → reading.readFile f area ≡ r → (1 ≤ n) × (n ≤ 13)
+    go : (r : reading.FileRead) → reading.readFile f area ≡ r → (1 ≤ n) × (n ≤ 18) × (n ≡ 14 → ⊥)
     go (reading.refused r) q =
         let w = refused-low f area r q in
         let z : r .number ≡ n = ap code (sym (judged-as f area _ q) ∙ e) in
-        (omega (arith, w .0), omega (arith, w .1))
+        (omega (arith, w .0), omega (arith, w .1), λ x. omega (arith, w .1))
     go (reading.list P ts es) q =
         let w = list-most (decision.verdictOf P ts es) (sym (judged-as f area _ q) ∙ e) in
-        (omega (arith, w .0), omega (arith, w .1))
+        (omega (arith, w .0), omega (arith, w .1), λ x. omega (arith, w .1))
     go (reading.run P ts ss) q =
-        let w = run-most (runs.runVerdict P ts ss) (sym (judged-as f area _ q) ∙ e) in
-        (omega (arith, w .0), omega (arith, w .1))
+        let w = run-most (runAnswer P ts ss) (sym (judged-as f area _ q) ∙ e) in
+        (omega (arith, w .0), w .1, w .2)
 
 -- ---- demand 2
 
@@ -253,7 +337,7 @@ pub accepted-list : AcceptedList
 accepted-list f area n = list-said f area (lists.safe n)
 
 pub accepted-run : AcceptedRun
-accepted-run f area n k = run-said f area (runs.reachable n k)
+accepted-run f area n k = run-said f area (Reachable n k)
 
 -- ---- demand 3
 

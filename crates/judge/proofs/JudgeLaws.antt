@@ -19,10 +19,7 @@ use Rattle.contents.proofs.Rows.{steps-length}
 use Rattle.contents.proofs.Contents.{list-read, run-read}
 use Rattle.contents.proofs.Again.{reading-refused, reading-sizes, reading-run, reading-list, reading-count, reading-cube}
 use Rattle.replay.specs.declared.run.RunAnswer.{RunAnswer}
-use Rattle.replay.specs.declared.step.Cause.{Cause}
-use Rattle.replay.specs.declared.step.Cause.the-variants.{State, Queue, Pointer, Value, Nothing}
-use Rattle.replay.specs.Causes.{causeNumber}
-use Rattle.replay.specs.Answers.{verdictOfRun, RunOf}
+use Rattle.replay.specs.Answers.{RunOf}
 use Rattle.judge.specs.declared.answer.Answer.{Answer}
 use Rattle.judge.specs.declared.answer.Answer.the-variants.{Unread}
 use Rattle.judge.specs.declared.answer.Verdict as declared
@@ -34,14 +31,6 @@ use Rattle.judge.proofs.SummaryLaws.{listed-taken, said-taken, done-kep
 use Rattle.summary.specs.Groups.{summarised}
 use Rattle.judge.proofs.Numbers.{short-file}
 use Rattle.judge.proofs.Demands.{one-answer}
-
--- today each cause has the number 12
-pub twelve : (cause : Cause) → causeNumber cause ≡ 12
-twelve State = refl
-twelve Queue = refl
-twelve Pointer = refl
-twelve Value = refl
-twelve Nothing = refl
 
 pub short-said : (f : List ℕ) (area : ℕ) → area < 65536 → refused 8 0 ≡ judged f area
 unfolding judged
@@ -113,10 +102,10 @@ module _ (f w : List ℕ) (R : Reading) (r : R ≡ reading.readingOf (reading.pa
 
     pub run-said : (R .contents .claim ≡ 0 → ⊥) → (x : RunAnswer) (lower : ℕ) → lower ≡ 16384
         → (pws.ProgramInRange (programOf f p) → n ≤ 1024 → lower ≡ 16384 → RunOf x (programOf f p) (targetsOf f p) (stepsOf f (R .contents .evidence .at) n))
-        → (v : Verdict) → v ≡ ofRun (verdictOfRun x) → v ≡ judged f (length w)
+        → (v : Verdict) → v ≡ ofRun x → v ≡ judged f (length w)
     run-said c x lower l h v e =
         let s = reading-run f w R r q c in
         let L = run-read f (length w) s in
         e
-        ∙ ap ofRun (h (L .part .program) (omega (arith, L .count, steps-length f (R .contents .evidence .at) n)) l .verdict)
+        ∙ ap ofRun (h (L .part .program) (omega (arith, L .count, steps-length f (R .contents .evidence .at) n)) l .answer)
         ∙ judged-of _ s

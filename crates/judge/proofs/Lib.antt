@@ -1,4 +1,5 @@
 pub mod Numbers
+pub mod StepCauses
 pub mod Runs
 pub mod Demands
 pub mod PsoDemands

@@ -1,4 +1,4 @@
--- What the verdict of a run says of the machine, and that it says it exactly then.
+-- What the answer to a run says of the machine, and that it says it exactly then.
 use Prim.Native.Nat.{ℕ, zero, suc, _+_, _<_}
 use mathlib.Core.Path.{_≡_, refl, sym, ap, subst, _∙_}
 use mathlib.Core.Bool.{Bool, true, false, cond}
@@ -7,39 +7,61 @@ use mathlib.Core.List.{List, [], _∷_}
 use native.Mathlib.Omega.{arith}
 use native.Mathlib.Decide.{decLt}
 use lib.ListN.{length, getD, take}
-use lib.Dec.{T, eqb, eqb→eq}
-use mir.Facts.{yes-and}
+use lib.Dec.{T}
 use Rattle.pws.specs.declared.Step.{Step}
 use Rattle.pws.specs.declared.Step.the-variants.{Update}
 use Rattle.pws.specs.Program.{Shape, Program, ProgramInRange}
-use Rattle.pws.specs.Machine.{Configuration, allBelow, may, after}
+use Rattle.pws.specs.Machine.{Configuration, may, after}
 use Rattle.pws.specs.Configurations.{Start, startWith, InTarget, inTarget}
-use Rattle.pws.specs.Sequences.{Takes, done, step, Replay, ended, stopped, replay}
+use Rattle.pws.specs.Sequences.{Takes, done, step}
 use Rattle.pws.proofs.Starts.{start-exists}
-use Rattle.pws.proofs.Facts.{T-eq}
-use Rattle.pws.proofs.Cases.{all-yes}
 use Rattle.lists.specs.Verdict.{target}
-use Rattle.replay.specs.Replay as runs
-use Rattle.replay.proofs.Accepted.{label-free}
-use Rattle.judge.specs.Demands.{Reaches, Stops, Misses}
+use Rattle.replay.specs.declared.step.Answer.{Answer}
+use Rattle.replay.specs.declared.step.Answer.the-variants.{Permitted, Refused}
+use Rattle.replay.specs.declared.step.Cause.{Cause}
+use Rattle.replay.specs.declared.step.Cause.the-variants.{State}
+use Rattle.replay.specs.declared.run.RunAnswer.{RunAnswer}
+use Rattle.replay.specs.declared.run.RunAnswer.the-variants.{Reachable, Stopped, Missed}
+use Rattle.replay.specs.Replay.{lowestMet}
+use Rattle.replay.specs.Causes.{stepAnswer, isPermitted}
+use Rattle.replay.specs.Answers.{lastAnswer, answerThen, answerFrom, runAnswer}
+use Rattle.replay.proofs.CauseLaws.{answer-may}
+use Rattle.replay.proofs.Accepted.{answer-free, target-yes, target-is}
+use Rattle.judge.specs.Demands.{Reaches, Stops, Misses, Cannot}
+use Rattle.judge.proofs.StepCauses.{ReasonOf, cause-reason, reason-cause}
 
-abbrev pub RunJudged : Program → List (ℕ → ℕ) → List Step → runs.RunVerdict → Type 0
-RunJudged P ts ss (runs.reachable n k) = Reaches P ts ss n k
-RunJudged P ts ss (runs.stopped k) = Stops P ss k
-RunJudged P ts ss (runs.missed n) = Misses P ts ss n
+abbrev pub RunJudged : Program → List (ℕ → ℕ) → List Step → RunAnswer → Type 0
+RunJudged P ts ss (Reachable n k) = Reaches P ts ss n k
+RunJudged P ts ss (Stopped k cause) = Stops (ReasonOf cause) P ss k
+RunJudged P ts ss (Missed n) = Misses P ts ss n
 
--- ---- a replay, and what the machine takes
+-- ---- answers that differ
 
-abbrev placeOf : Replay → ℕ
-placeOf (ended c) = 0
-placeOf (stopped k) = suc k
+abbrev isStopped : RunAnswer → Bool
+isStopped (Reachable n k) = false
+isStopped (Stopped k cause) = true
+isStopped (Missed n) = false
 
-abbrev endOf : Replay → Configuration → Configuration
-endOf (ended c) d = c
-endOf (stopped k) d = d
+abbrev stepOf : RunAnswer → ℕ
+stepOf (Reachable n k) = 0
+stepOf (Stopped k cause) = k
+stepOf (Missed n) = 0
 
-ended-same : {c d : Configuration} → ended c ≡ ended d → c ≡ d
-ended-same {c} {d} e = ap (λ (r : Replay). endOf r d) e
+abbrev causeIn : RunAnswer → Cause
+causeIn (Reachable n k) = State
+causeIn (Stopped k cause) = cause
+causeIn (Missed n) = State
+
+last-stays : (n : ℕ) (o : Option ℕ) → isStopped (lastAnswer n o) ≡ false
+last-stays n none = refl
+last-stays n (some k) = refl
+
+true-false : {A : Type 0} → true ≡ false → A
+true-false e = absurd (subst T e tt)
+
+permitted-is : (x : Answer) → T (isPermitted x) → x ≡ Permitted
+permitted-is Permitted t = refl
+permitted-is (Refused cause) t = absurd t
 
 take-first : {P : Program} {c d : Configuration} {s : Step} {ss : List Step} → Takes P c (s ∷ ss) d → T (may P c s) × Takes P (after P c s) ss d
 take-first (step s t r) = (t, r)
@@ -47,75 +69,79 @@ take-first (step s t r) = (t, r)
 take-none : {P : Program} {c d : Configuration} → Takes P c [] d → c ≡ d
 take-none done = refl
 
-module _ (P : Program) where
-  takes-all : (k : ℕ) (c d : Configuration) (ss : List Step) → replay P k c ss ≡ ended d → Takes P c ss d
-  takes-all k c d [] e = subst (λ (x : Configuration). Takes P c [] x) (ended-same e) done
-  takes-all k c d (s ∷ ss) e = go (λ z. takes-all (suc k) (after P c s) d ss z) (may P c s) refl e
-    where
-      go : (replay P (suc k) (after P c s) ss ≡ ended d → Takes P (after P c s) ss d) → (b : Bool) → may P c s ≡ b
-          → elim b [ true ↦ replay P (suc k) (after P c s) ss | false ↦ stopped k ] ≡ ended d → Takes P c (s ∷ ss) d
-      go f true m e = step s (subst T (sym m) tt) (f e)
-      go f false m e = absurd (let z : suc k ≡ 0 = ap placeOf e in omega arith)
+-- ---- the answer, and what the machine takes
 
-  replay-ends : (k : ℕ) (c d : Configuration) (ss : List Step) → Takes P c ss d → replay P k c ss ≡ ended d
-  replay-ends k c d [] t = ap ended (take-none t)
-  replay-ends k c d (s ∷ ss) t = let r = take-first t in go (replay-ends (suc k) (after P c s) d ss (r .1)) (may P c s) (r .0)
-    where
-      go : replay P (suc k) (after P c s) ss ≡ ended d → (b : Bool) → T b → elim b [ true ↦ replay P (suc k) (after P c s) ss | false ↦ stopped k ] ≡ ended d
-      go h true t = h
-      go h false t = absurd t
+module _ (P : Program) (ts : List (ℕ → ℕ)) (n : ℕ) where
+  last : Configuration → RunAnswer
+  last d = lastAnswer n (lowestMet (P .shape) 0 ts d)
 
-  -- the machine takes the steps before number i from c, and cannot take that one
-  record StopsFrom (c : Configuration) (ss : List Step) (i : ℕ) : Type 0 where
+  taken : (c : Configuration) (s : Step) → T (may P c s) → stepAnswer P c s ≡ Permitted
+  taken c s t = permitted-is (stepAnswer P c s) (subst T (sym (answer-may P c s)) t)
+
+  may-take : (c : Configuration) (s : Step) → stepAnswer P c s ≡ Permitted → T (may P c s)
+  may-take c s e = subst T (answer-may P c s) (subst (λ (x : Answer). T (isPermitted x)) (sym e) tt)
+
+  answer-takes : (k : ℕ) (c : Configuration) (s : Step) (ss : List Step) → T (may P c s) → answerFrom P ts n k c (s ∷ ss) ≡ answerFrom P ts n (suc k) (after P c s) ss
+  answer-takes k c s ss t = ap (λ (x : Answer). answerThen x k (λ _. answerFrom P ts n (suc k) (after P c s) ss)) (taken c s t)
+
+  takes-all : (k : ℕ) (c : Configuration) (ss : List Step) (x : RunAnswer) → answerFrom P ts n k c ss ≡ x → isStopped x ≡ false
+      → (d : Configuration) × Takes P c ss d × (x ≡ last d)
+  unfolding last
+  takes-all k c [] x e i = (c, done, sym e)
+  takes-all k c (s ∷ ss) x e i = go (takes-all (suc k) (after P c s) ss x) (stepAnswer P c s) refl e
+    where
+      go : (answerFrom P ts n (suc k) (after P c s) ss ≡ x → isStopped x ≡ false → (d : Configuration) × Takes P (after P c s) ss d × (x ≡ last d))
+          → (a : Answer) → stepAnswer P c s ≡ a → answerThen a k (λ _. answerFrom P ts n (suc k) (after P c s) ss) ≡ x
+          → (d : Configuration) × Takes P c (s ∷ ss) d × (x ≡ last d)
+      go f Permitted m e = let r = f e i in (r .0, step s (may-take c s m) (r .1), r .2)
+      go f (Refused cause) m e = true-false (ap isStopped e ∙ i)
+
+  answer-ends : (k : ℕ) (c d : Configuration) (ss : List Step) → Takes P c ss d → answerFrom P ts n k c ss ≡ last d
+  unfolding last
+  answer-ends k c d [] t = ap (λ (x : Configuration). lastAnswer n (lowestMet (P .shape) 0 ts x)) (take-none t)
+  answer-ends k c d (s ∷ ss) t = let r = take-first t in answer-takes k c s ss (r .0) ∙ answer-ends (suc k) (after P c s) d ss (r .1)
+
+  -- the machine takes the steps before number i from c, and that one gets the answer a
+  record AnsweredAt (a : Answer) (c : Configuration) (ss : List Step) (i : ℕ) : Type 0 where
     exists : i < length ss
     before : Configuration
     takes : Takes P c (take i ss) before
-    cannot : may P before (getD ss i (Update 0)) ≡ false
+    answer : stepAnswer P before (getD ss i (Update 0)) ≡ a
 
-  stops-from : (k j : ℕ) (c : Configuration) (ss : List Step) → replay P k c ss ≡ stopped j → (i : ℕ) × (j ≡ k + i) × StopsFrom c ss i
-  stops-from k j c [] e = absurd (let z : 0 ≡ suc j = ap placeOf e in omega arith)
-  stops-from k j c (s ∷ ss) e = go (λ z. stops-from (suc k) j (after P c s) ss z) (may P c s) refl e
+  stops-from : (k j : ℕ) (cause : Cause) (c : Configuration) (ss : List Step) → answerFrom P ts n k c ss ≡ Stopped j cause
+      → (i : ℕ) × (j ≡ k + i) × AnsweredAt (Refused cause) c ss i
+  stops-from k j cause c [] e = true-false (sym (ap isStopped e) ∙ last-stays n (lowestMet (P .shape) 0 ts c))
+  stops-from k j cause c (s ∷ ss) e = go (stops-from (suc k) j cause (after P c s) ss) (stepAnswer P c s) refl e
     where
-      go : (replay P (suc k) (after P c s) ss ≡ stopped j → (i : ℕ) × (j ≡ suc k + i) × StopsFrom (after P c s) ss i) → (b : Bool) → may P c s ≡ b
-          → elim b [ true ↦ replay P (suc k) (after P c s) ss | false ↦ stopped k ] ≡ stopped j → (i : ℕ) × (j ≡ k + i) × StopsFrom c (s ∷ ss) i
-      go f true m e =
+      go : (answerFrom P ts n (suc k) (after P c s) ss ≡ Stopped j cause → (i : ℕ) × (j ≡ suc k + i) × AnsweredAt (Refused cause) (after P c s) ss i)
+          → (a : Answer) → stepAnswer P c s ≡ a → answerThen a k (λ _. answerFrom P ts n (suc k) (after P c s) ss) ≡ Stopped j cause
+          → (i : ℕ) × (j ≡ k + i) × AnsweredAt (Refused cause) c (s ∷ ss) i
+      go f Permitted m e =
           let r = f e in
           let w = r .2 in (
             suc (r .0),
             omega (arith, r .1),
-            record { exists = omega (arith, w .exists); before = w .before; takes = step s (subst T (sym m) tt) (w .takes); cannot = w .cannot },
+            record { exists = omega (arith, w .exists); before = w .before; takes = step s (may-take c s m) (w .takes); answer = w .answer },
           )
-      go f false m e =
-          let z : suc k ≡ suc j = ap placeOf e in (0, omega arith, record { exists = omega arith; before = c; takes = done; cannot = m })
+      go f (Refused x) m e =
+          let z : k ≡ j = ap stepOf e in
+          (0, omega arith, record { exists = omega arith; before = c; takes = done; answer = m ∙ ap Refused (ap causeIn e) })
 
-  from-stops : (k : ℕ) (c b : Configuration) (ss : List Step) (i : ℕ) → i < length ss → Takes P c (take i ss) b → may P b (getD ss i (Update 0)) ≡ false
-      → replay P k c ss ≡ stopped (k + i)
-  from-stops k c b [] i l t m = absurd (omega arith)
-  from-stops k c b (s ∷ ss) zero l t m = go (may P c s) (ap (λ (x : Configuration). may P x s) (take-none t) ∙ m) ∙ ap stopped (omega arith)
-    where
-      go : (x : Bool) → x ≡ false → elim x [ true ↦ replay P (suc k) (after P c s) ss | false ↦ stopped k ] ≡ stopped k
-      go true e = absurd (subst T e tt)
-      go false e = refl
-  from-stops k c b (s ∷ ss) (suc i) l t m =
+  from-stops : (k : ℕ) (c b : Configuration) (ss : List Step) (i : ℕ) (cause : Cause) → i < length ss → Takes P c (take i ss) b
+      → stepAnswer P b (getD ss i (Update 0)) ≡ Refused cause → answerFrom P ts n k c ss ≡ Stopped (k + i) cause
+  from-stops k c b [] i cause l t m = absurd (omega arith)
+  from-stops k c b (s ∷ ss) zero cause l t m =
+      ap (λ (x : Answer). answerThen x k (λ _. answerFrom P ts n (suc k) (after P c s) ss)) (ap (λ (x : Configuration). stepAnswer P x s) (take-none t) ∙ m)
+      ∙ ap (λ (j : ℕ). Stopped j cause) (omega arith)
+  from-stops k c b (s ∷ ss) (suc i) cause l t m =
       let r = take-first t in
-      go (from-stops (suc k) (after P c s) b ss i (omega arith) (r .1) m) (may P c s) (r .0) ∙ ap stopped (omega arith)
-    where
-      go : replay P (suc k) (after P c s) ss ≡ stopped (suc k + i) → (x : Bool) → T x
-          → elim x [ true ↦ replay P (suc k) (after P c s) ss | false ↦ stopped k ] ≡ stopped (suc k + i)
-      go h true t = h
-      go h false t = absurd t
+      answer-takes k c s ss (r .0)
+      ∙ from-stops (suc k) (after P c s) b ss i cause (omega arith) (r .1) m
+      ∙ ap (λ (j : ℕ). Stopped j cause) (omega arith)
 
 -- ---- the lowest target that is met
 
-target-yes : (n : ℕ) (f g : ℕ → ℕ) → ((p : ℕ) → p < n → f p ≡ g p) → T (allBelow n (λ p. eqb (f p) (g p)))
-target-yes zero f g h = tt
-target-yes (suc n) f g h =
-    yes-and (allBelow n (λ p. eqb (f p) (g p))) (eqb (f n) (g n)) (target-yes n f g (λ p l. h p (omega arith))) (T-eq (f n) (g n) (h n (omega arith)))
-
 module _ (S : Shape) (c : Configuration) where
-  target-is : (t : ℕ → ℕ) → T (inTarget S t c) → InTarget S t c
-  target-is t y p l = eqb→eq (c .state p) (t p) (all-yes (S .processes) (λ p. eqb (c .state p) (t p)) y p l)
-
   target-not : (t : ℕ → ℕ) → inTarget S t c ≡ false → InTarget S t c → ⊥
   target-not t e i = subst T e (target-yes (S .processes) (c .state) t i)
 
@@ -130,13 +156,13 @@ module _ (S : Shape) (c : Configuration) where
   one-more k t ts n (some j) h =
       (suc (h .0), omega (arith, h .1), omega (arith, h .2), h .3, elim [ zero ↦ λ l. n | suc m ↦ λ l. h .4 m (omega arith) ])
 
-  lowest-is : (k : ℕ) (ts : List (ℕ → ℕ)) → Lowest k ts (runs.lowestMet S k ts c)
+  lowest-is : (k : ℕ) (ts : List (ℕ → ℕ)) → Lowest k ts (lowestMet S k ts c)
   lowest-is k [] = λ m l. absurd (omega arith)
   lowest-is k (t ∷ ts) = go (lowest-is (suc k) ts) (inTarget S t c) refl
     where
-      go : Lowest (suc k) ts (runs.lowestMet S (suc k) ts c) → (b : Bool) → inTarget S t c ≡ b → Lowest k (t ∷ ts) (cond b (some k) (runs.lowestMet S (suc k) ts c))
-      go h true e = (0, omega arith, omega arith, target-is t (subst T (sym e) tt), λ m l. absurd (omega arith))
-      go h false e = one-more k t ts (target-not t e) (runs.lowestMet S (suc k) ts c) h
+      go : Lowest (suc k) ts (lowestMet S (suc k) ts c) → (b : Bool) → inTarget S t c ≡ b → Lowest k (t ∷ ts) (cond b (some k) (lowestMet S (suc k) ts c))
+      go h true e = (0, omega arith, omega arith, target-is S t c (subst T (sym e) tt), λ m l. absurd (omega arith))
+      go h false e = one-more k t ts (target-not t e) (lowestMet S (suc k) ts c) h
 
 -- ---- verdicts
 
@@ -150,7 +176,7 @@ module _ (P : Program) (R : ProgramInRange P) (ts : List (ℕ → ℕ)) (ss : Li
   permitted : Start P origin
   permitted = start-exists P R 0 0 (R .shape .someProcess) (R .shape .someVariable)
 
-  last-judged : (d : Configuration) → Takes P origin ss d → (o : Option ℕ) → Lowest S d 0 ts o → RunJudged P ts ss (runs.lastTest (length ss) o)
+  last-judged : (d : Configuration) → Takes P origin ss d → (o : Option ℕ) → Lowest S d 0 ts o → RunJudged P ts ss (lastAnswer (length ss) o)
   last-judged d t none h = record { count = refl; start = origin; permitted = permitted; end = d; takes = t; none = h }
   last-judged d t (some j) h =
       let z : h .0 ≡ j = omega (arith, h .1) in
@@ -165,41 +191,94 @@ module _ (P : Program) (R : ProgramInRange P) (ts : List (ℕ → ℕ)) (ss : Li
         lower = λ m l. h .4 m (omega arith);
       }
 
-  -- the verdict says what the machine does
-  pub run-judged : RunJudged P ts ss (runs.runVerdict P ts ss)
-  run-judged = go (replay P 0 origin ss) refl
-    where
-      go : (r : Replay) → replay P 0 origin ss ≡ r → RunJudged P ts ss (runs.verdictOf S ts (length ss) r)
-      go (ended d) e = last-judged d (takes-all P 0 origin d ss e) (runs.lowestMet S 0 ts d) (lowest-is S d 0 ts)
-      go (stopped j) e =
-          let r = stops-from P 0 j origin ss e in
-          let w = r .2 in
-          let z : r .0 ≡ j = omega (arith, r .1) in
-          subst (Stops P ss) z
-          (record { exists = w .exists; start = origin; permitted = permitted; before = w .before; takes = w .takes; cannot = w .cannot })
+  end-judged : (x : RunAnswer) → runAnswer P ts ss ≡ x → isStopped x ≡ false → RunJudged P ts ss x
+  unfolding last
+  end-judged x e i =
+      let r = takes-all P ts (length ss) 0 origin ss x e i in
+      subst (RunJudged P ts ss) (sym (r .2)) (last-judged (r .0) (r .1) (lowestMet S 0 ts (r .0)) (lowest-is S (r .0) 0 ts))
 
-  ended-verdict : (c d : Configuration) → Start P c → Takes P c ss d → runs.runVerdict P ts ss ≡ runs.lastTest (length ss) (runs.lowestMet S 0 ts d)
-  ended-verdict c d s t = sym (label-free P R ts ss c s) ∙ ap (runs.verdictOf S ts (length ss)) (replay-ends P 0 c d ss t)
+  stop-judged : (k : ℕ) (cause : Cause) → runAnswer P ts ss ≡ Stopped k cause → Stops (ReasonOf cause) P ss k
+  stop-judged k cause e =
+      let r = stops-from P ts (length ss) 0 k cause origin ss e in
+      let w = r .2 in
+      let z : r .0 ≡ k = omega (arith, r .1) in
+      subst (Stops (ReasonOf cause) P ss) z
+      (record {
+        exists = w .exists;
+        start = origin;
+        permitted = permitted;
+        before = w .before;
+        takes = w .takes;
+        reason = cause-reason P (w .before) (getD ss (r .0) (Update 0)) cause (w .answer);
+      })
+
+  -- the answer says what the machine does
+  pub run-judged : RunJudged P ts ss (runAnswer P ts ss)
+  run-judged = go (runAnswer P ts ss) refl
+    where
+      go : (x : RunAnswer) → runAnswer P ts ss ≡ x → RunJudged P ts ss x
+      go (Reachable n k) e = end-judged (Reachable n k) e refl
+      go (Stopped k cause) e = stop-judged k cause e
+      go (Missed n) e = end-judged (Missed n) e refl
+
+  ended-answer : (c d : Configuration) → Start P c → Takes P c ss d → runAnswer P ts ss ≡ lastAnswer (length ss) (lowestMet S 0 ts d)
+  unfolding last
+  ended-answer c d s t = sym (answer-free P R ts ss c s) ∙ answer-ends P ts (length ss) 0 c d ss t
+
+  stopped-answer : (k : ℕ) (cause : Cause) → Stops (λ P c s. stepAnswer P c s ≡ Refused cause) P ss k → runAnswer P ts ss ≡ Stopped k cause
+  stopped-answer k cause x =
+      sym (answer-free P R ts ss (x .start) (x .permitted))
+      ∙ from-stops P ts (length ss) 0 (x .start) (x .before) ss k cause (x .exists) (x .takes) (x .reason)
+      ∙ ap (λ (j : ℕ). Stopped j cause) (omega arith)
 
   -- and nothing else that is said so is true of it
-  pub run-only : (v : runs.RunVerdict) → RunJudged P ts ss v → runs.runVerdict P ts ss ≡ v
-  run-only (runs.reachable n k) x = ended-verdict (x .start) (x .end) (x .permitted) (x .takes) ∙ go (runs.lowestMet S 0 ts (x .end)) (lowest-is S (x .end) 0 ts)
+  pub run-only : (v : RunAnswer) → RunJudged P ts ss v → runAnswer P ts ss ≡ v
+  run-only (Reachable n k) x = ended-answer (x .start) (x .end) (x .permitted) (x .takes) ∙ go (lowestMet S 0 ts (x .end)) (lowest-is S (x .end) 0 ts)
     where
-      go : (o : Option ℕ) → Lowest S (x .end) 0 ts o → runs.lastTest (length ss) o ≡ runs.reachable n k
+      go : (o : Option ℕ) → Lowest S (x .end) 0 ts o → lastAnswer (length ss) o ≡ Reachable n k
       go none h = absurd (h k (x .exists) (x .met))
       go (some j) h = elim (decLt (h .0) k) [
         | yes l ↦ absurd (x .lower (h .0) l (h .3))
         | no l ↦ elim (decLt k (h .0)) [
           | yes g ↦ absurd (h .4 k g (x .met))
-          | no g ↦ let z : j ≡ k = omega (arith, h .1) in ap (λ (i : ℕ). runs.reachable (length ss) i) z ∙ ap (λ (i : ℕ). runs.reachable i k) (sym (x .count))
+          | no g ↦ let z : j ≡ k = omega (arith, h .1) in ap (λ (i : ℕ). Reachable (length ss) i) z ∙ ap (λ (i : ℕ). Reachable i k) (sym (x .count))
         ]
       ]
-  run-only (runs.stopped k) x =
-      sym (label-free P R ts ss (x .start) (x .permitted))
-      ∙ ap (runs.verdictOf S ts (length ss)) (from-stops P 0 (x .start) (x .before) ss k (x .exists) (x .takes) (x .cannot))
-      ∙ ap runs.stopped (omega arith)
-  run-only (runs.missed n) x = ended-verdict (x .start) (x .end) (x .permitted) (x .takes) ∙ go (runs.lowestMet S 0 ts (x .end)) (lowest-is S (x .end) 0 ts)
+  run-only (Stopped k cause) x =
+      stopped-answer k cause (record {
+        exists = x .exists;
+        start = x .start;
+        permitted = x .permitted;
+        before = x .before;
+        takes = x .takes;
+        reason = reason-cause P (x .before) (getD ss k (Update 0)) cause (x .reason);
+      })
+  run-only (Missed n) x = ended-answer (x .start) (x .end) (x .permitted) (x .takes) ∙ go (lowestMet S 0 ts (x .end)) (lowest-is S (x .end) 0 ts)
     where
-      go : (o : Option ℕ) → Lowest S (x .end) 0 ts o → runs.lastTest (length ss) o ≡ runs.missed n
-      go none h = ap runs.missed (sym (x .count))
+      go : (o : Option ℕ) → Lowest S (x .end) 0 ts o → lastAnswer (length ss) o ≡ Missed n
+      go none h = ap Missed (sym (x .count))
       go (some j) h = absurd (x .none (h .0) (h .2) (h .3))
+
+  -- ---- a step that the machine cannot take
+
+  -- a refused step is one that it cannot take, whatever the cause
+  pub stopped-cannot : (k : ℕ) (cause : Cause) → Stops (ReasonOf cause) P ss k → Stops Cannot P ss k
+  stopped-cannot k cause x =
+      record {
+        exists = x .exists;
+        start = x .start;
+        permitted = x .permitted;
+        before = x .before;
+        takes = x .takes;
+        reason = let s = getD ss k (Update 0) in sym (answer-may P (x .before) s) ∙ ap isPermitted (reason-cause P (x .before) s cause (x .reason));
+      }
+
+  pub cannot-stopped : (k : ℕ) → Stops Cannot P ss k → (cause : Cause) × (runAnswer P ts ss ≡ Stopped k cause)
+  cannot-stopped k x = go (stepAnswer P (x .before) (getD ss k (Update 0))) refl
+    where
+      go : (a : Answer) → stepAnswer P (x .before) (getD ss k (Update 0)) ≡ a → (cause : Cause) × (runAnswer P ts ss ≡ Stopped k cause)
+      go Permitted e = true-false (sym (ap isPermitted e) ∙ answer-may P (x .before) (getD ss k (Update 0)) ∙ x .reason)
+      go (Refused cause) e = (
+        cause,
+        stopped-answer k cause (record { exists = x .exists; start = x .start; permitted = x .permitted; before = x .before; takes = x .takes; reason = e }),
+      )

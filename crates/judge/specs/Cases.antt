@@ -1,5 +1,5 @@
--- The worked cases A to K of document 01 ("Judged files") and small examples of its refusal table, as one table with one statement. Files are
--- rows of bytes, K is two facts about queues. Bytes are in decimal: 15 is 0F, 16 to 18 are 10 to 12, 32 to 34 are 20 to 22, 255 is FF.
+-- The worked cases A to K of document 01 ("Judged files"), with the causes of document 02, N1, and small examples of the refusal table, as
+-- one table with one statement. Files are rows of bytes, K is two facts about queues. Bytes are in decimal: 15 is 0F, 16 to 18 are 10 to 12, 32 to 34 are 20 to 22, 255 is FF.
 use Prim.Native.Nat.{ℕ, zero, suc, _≤_}
 use mathlib.Core.Path.{_≡_}
 use mathlib.Core.List.{List, [], _∷_, _++_}
@@ -28,8 +28,8 @@ abbrev pub small : List ℕ
 small = 1 ∷ 1 ∷ 1 ∷ 2 ∷ 2 ∷ 2 ∷ 0 ∷ []
 
 -- two processes with three states, two variables with two values
-abbrev pub double : List ℕ
-double = 1 ∷ 2 ∷ 2 ∷ 2 ∷ 2 ∷ 3 ∷ 0 ∷ 2 ∷ 3 ∷ 0 ∷ []
+abbrev pub twoProcesses : List ℕ
+twoProcesses = 1 ∷ 2 ∷ 2 ∷ 2 ∷ 2 ∷ 3 ∷ 0 ∷ 2 ∷ 3 ∷ 0 ∷ []
 
 -- one process with three states, one variable with two values
 abbrev pub single : List ℕ
@@ -88,7 +88,7 @@ nop = goes 0 0 0 0 0 1
 
 -- process 0 writes variable 0 := 1, then variable 1 := 1; process 1 reads variable 1 as 1, then variable 0 as 0
 abbrev pub programG : List ℕ
-programG = double ++ goes 0 0 2 0 1 1 ++ goes 0 1 2 1 1 2 ++ goes 1 0 1 1 1 1 ++ goes 1 1 1 0 0 2 ++ target 2 2
+programG = twoProcesses ++ goes 0 0 2 0 1 1 ++ goes 0 1 2 1 1 2 ++ goes 1 0 1 1 1 1 ++ goes 1 1 1 0 0 2 ++ target 2 2
 
 -- an sfence between the writes
 abbrev pub programJ : List ℕ
@@ -130,13 +130,17 @@ cases =
     ∷ file (programG ++ claim 1 ++ takeStep 0 ++ takeStep 1 ++ serialise 0 1 ++ update 1 ++ takeStep 2 ++ takeStep 3) (reachable 6 0)
     -- H: read 1 with the pointer still at 1; reading 0 there is not permitted
     ∷ file (programH ++ claim 1 ++ takeStep 0 ++ serialise 0 0 ++ takeStep 1) (reachable 3 0)
-    ∷ file (programH ++ claim 1 ++ takeStep 0 ++ serialise 0 0 ++ takeStep 2) (refused 12 2)
+    ∷ file (programH ++ claim 1 ++ takeStep 0 ++ serialise 0 0 ++ takeStep 2) (refused 15 2)
     -- I: after that serialise sfence is permitted and mfence is not; after one update mfence is
     ∷ file (programH ++ claim 1 ++ takeStep 0 ++ serialise 0 0 ++ takeStep 3) (reachable 3 0)
-    ∷ file (programH ++ claim 1 ++ takeStep 0 ++ serialise 0 0 ++ takeStep 4) (refused 12 2)
+    ∷ file (programH ++ claim 1 ++ takeStep 0 ++ serialise 0 0 ++ takeStep 4) (refused 17 2)
     ∷ file (programH ++ claim 1 ++ takeStep 0 ++ serialise 0 0 ++ update 0 ++ takeStep 4) (reachable 4 0)
     -- J
-    ∷ file (programJ ++ claim 1 ++ takeStep 0 ++ takeStep 1) (refused 12 1)
+    ∷ file (programJ ++ claim 1 ++ takeStep 0 ++ takeStep 1) (refused 16 1)
+    -- 12: the nop of E a second time, in state 1; 18: what was serialised is serialised again, and no newer message is there
+    ∷ file (small ++ nop ++ target 1 0 ++ claim 1 ++ takeStep 0 ++ takeStep 0) (refused 12 1)
+    ∷ file (programH ++ claim 1 ++ takeStep 0 ++ serialise 0 0 ++ serialise 0 0) (refused 18 2)
+    ∷ file (programH ++ claim 1 ++ takeStep 0 ++ update 0) (refused 18 1)
     -- K
     ∷ below (1 ∷ []) (0 ∷ 1 ∷ [])
     ∷ notBelow (1 ∷ []) (1 ∷ 0 ∷ [])

@@ -3,14 +3,16 @@
 -- What the answers say of the PSO machine stands in specs/PsoDemands.
 use Prim.Native.Nat.{ℕ, _<_, _≤_}
 use mathlib.Core.Path.{_≡_}
-use mathlib.Core.Logic.{_↔_}
+use mathlib.Core.Logic.{_↔_, _⊎_}
 use mathlib.Core.Bool.{false}
-use mathlib.Core.List.{List}
+use mathlib.Core.List.{List, []}
 use lib.ListN.{length, getD, take}
 use Rattle.pws.specs.declared.Step.{Step}
-use Rattle.pws.specs.declared.Step.the-variants.{Update}
-use Rattle.pws.specs.Program.{Program}
-use Rattle.pws.specs.Machine.{Configuration, may}
+use Rattle.pws.specs.declared.Step.the-variants.{Take, Serialise, Update}
+use Rattle.pws.specs.declared.Operation.{Operation}
+use Rattle.pws.specs.declared.Operation.the-variants.{Nop, Read, Write, Mfence, Sfence, Arw}
+use Rattle.pws.specs.Program.{Shape, Program, transition}
+use Rattle.pws.specs.Machine.{Configuration, newest, sees, may}
 use Rattle.pws.specs.Configurations.{ConfigurationOf, Start, InTarget}
 use Rattle.pws.specs.Order.{Below}
 use Rattle.pws.specs.Entries.{AboveList}
@@ -50,14 +52,14 @@ pub record Reaches (P : Program) (ts : List (ℕ → ℕ)) (ss : List Step) (n k
   pub met : InTarget (P .shape) (target ts k) end
   pub lower : (j : ℕ) → j < k → InTarget (P .shape) (target ts j) end → ⊥
 
--- 12: from a permitted start it takes the steps before that of number k, and cannot take that one
-pub record Stops (P : Program) (ss : List Step) (k : ℕ) : Type 0 where
+-- from a permitted start it takes the steps before that of number k, and does not take that one for the reason F
+pub record Stops (F : Program → Configuration → Step → Type 0) (P : Program) (ss : List Step) (k : ℕ) : Type 0 where
   pub exists : k < length ss
   pub start : Configuration
   pub permitted : Start P start
   pub before : Configuration
   pub takes : Takes P start (take k ss) before
-  pub cannot : may P before (getD ss k (Update 0)) ≡ false
+  pub reason : F P before (getD ss k (Update 0))
 
 -- 13: it takes every step in turn from a permitted start, and ends in no target; n is the number of steps
 pub record Misses (P : Program) (ts : List (ℕ → ℕ)) (ss : List Step) (n : ℕ) : Type 0 where
@@ -67,6 +69,81 @@ pub record Misses (P : Program) (ts : List (ℕ → ℕ)) (ss : List Step) (n : 
   pub end : Configuration
   pub takes : Takes P start ss end
   pub none : (j : ℕ) → j < length ts → InTarget (P .shape) (target ts j) end → ⊥
+
+-- ---- why it does not take a step (document 02, N1): the first that fails, of a transition's local state, queues, pointer and value
+
+-- transition n exists, and its process is in the first of its local states
+abbrev pub InState : Program → Configuration → ℕ → Type 0
+InState P c n = (n < length (P .transitions)) × (c .state (transition P n .process) ≡ transition P n .from)
+
+-- the queues that must be empty are: all queues of p for a fence, p's own of the variable for an arw
+abbrev pub QueuesEmpty : Shape → Configuration → ℕ → Operation → Type 0
+QueuesEmpty S c p Nop = Unit {0}
+QueuesEmpty S c p (Read v x) = Unit {0}
+QueuesEmpty S c p (Write v x) = Unit {0}
+QueuesEmpty S c p Mfence = (v : ℕ) → v < S .variables → c .queue p v ≡ []
+QueuesEmpty S c p Sfence = (v : ℕ) → v < S .variables → c .queue p v ≡ []
+QueuesEmpty S c p (Arw v old new) = c .queue p v ≡ []
+
+-- p points at the newest message, for an mfence or an arw
+abbrev pub AtNewest : Configuration → ℕ → Operation → Type 0
+AtNewest c p Nop = Unit {0}
+AtNewest c p (Read v x) = Unit {0}
+AtNewest c p (Write v x) = Unit {0}
+AtNewest c p Mfence = c .memory .pointer p ≡ length (c .memory .channel)
+AtNewest c p Sfence = Unit {0}
+AtNewest c p (Arw v old new) = c .memory .pointer p ≡ length (c .memory .channel)
+
+-- the value is there: the one read is what p sees, an arw's old one is in the newest message
+abbrev pub ValueThere : Configuration → ℕ → Operation → Type 0
+ValueThere c p Nop = Unit {0}
+ValueThere c p (Read v x) = sees c p v ≡ x
+ValueThere c p (Write v x) = Unit {0}
+ValueThere c p Mfence = Unit {0}
+ValueThere c p Sfence = Unit {0}
+ValueThere c p (Arw v old new) = getD (newest (c .memory .channel) .snapshot) v 0 ≡ old
+
+-- 12
+abbrev pub OtherState : Program → Configuration → Step → Type 0
+OtherState P c (Take n) = InState P c n → ⊥
+OtherState P c (Serialise p v) = ⊥
+OtherState P c (Update p) = ⊥
+
+-- 16
+abbrev pub QueueWaits : Program → Configuration → Step → Type 0
+QueueWaits P c (Take n) = let t = transition P n in InState P c n × (QueuesEmpty (P .shape) c (t .process) (t .operation) → ⊥)
+QueueWaits P c (Serialise p v) = ⊥
+QueueWaits P c (Update p) = ⊥
+
+-- 17
+abbrev pub PointerBehind : Program → Configuration → Step → Type 0
+PointerBehind P c (Take n) =
+    let t = transition P n in InState P c n × QueuesEmpty (P .shape) c (t .process) (t .operation) × (AtNewest c (t .process) (t .operation) → ⊥)
+PointerBehind P c (Serialise p v) = ⊥
+PointerBehind P c (Update p) = ⊥
+
+-- 15
+abbrev pub OtherValue : Program → Configuration → Step → Type 0
+OtherValue P c (Take n) =
+    let t = transition P n in
+    InState P c n × QueuesEmpty (P .shape) c (t .process) (t .operation) × AtNewest c (t .process) (t .operation)
+    × (ValueThere c (t .process) (t .operation) → ⊥)
+OtherValue P c (Serialise p v) = ⊥
+OtherValue P c (Update p) = ⊥
+
+-- 18: no value waits there; p has no newer message
+abbrev pub NothingThere : Program → Configuration → Step → Type 0
+NothingThere P c (Take n) = ⊥
+NothingThere P c (Serialise p v) = ((p < P .shape .processes) × (v < P .shape .variables) × (c .queue p v ≡ [] → ⊥)) → ⊥
+NothingThere P c (Update p) = ((p < P .shape .processes) × (c .memory .pointer p < length (c .memory .channel))) → ⊥
+
+-- any of them: the machine may not take it
+abbrev pub Cannot : Program → Configuration → Step → Type 0
+Cannot P c s = may P c s ≡ false
+
+-- their numbers
+abbrev pub StepNumber : ℕ → Type 0
+StepNumber n = (n ≡ 12) ⊎ ((15 ≤ n) × (n ≤ 18))
 
 -- ---- demand 1: every file has exactly one answer, and each refusal is said exactly when the table says so
 
@@ -95,16 +172,34 @@ Refused10 = (f : List ℕ) (area k : ℕ) → (judged f area ≡ refused 10 k) �
 abbrev pub Refused11 : Type 0
 Refused11 = (f : List ℕ) (area k : ℕ) → (judged f area ≡ refused 11 k) ↔ OfList f area (λ P ts es. Entered P ts es k)
 
--- 12 and 13
+-- 12, 16, 17, 15 and 18: the machine takes the steps before number k, and step k fails for this reason first
 abbrev pub Refused12 : Type 0
-Refused12 = (f : List ℕ) (area k : ℕ) → (judged f area ≡ refused 12 k) ↔ OfRun f area (λ P ts ss. Stops P ss k)
+Refused12 = (f : List ℕ) (area k : ℕ) → (judged f area ≡ refused 12 k) ↔ OfRun f area (λ P ts ss. Stops OtherState P ss k)
+
+abbrev pub Refused16 : Type 0
+Refused16 = (f : List ℕ) (area k : ℕ) → (judged f area ≡ refused 16 k) ↔ OfRun f area (λ P ts ss. Stops QueueWaits P ss k)
+
+abbrev pub Refused17 : Type 0
+Refused17 = (f : List ℕ) (area k : ℕ) → (judged f area ≡ refused 17 k) ↔ OfRun f area (λ P ts ss. Stops PointerBehind P ss k)
+
+abbrev pub Refused15 : Type 0
+Refused15 = (f : List ℕ) (area k : ℕ) → (judged f area ≡ refused 15 k) ↔ OfRun f area (λ P ts ss. Stops OtherValue P ss k)
+
+abbrev pub Refused18 : Type 0
+Refused18 = (f : List ℕ) (area k : ℕ) → (judged f area ≡ refused 18 k) ↔ OfRun f area (λ P ts ss. Stops NothingThere P ss k)
+
+-- together: one of them is said of step k exactly when the machine takes the steps before it and cannot take it
+abbrev pub RefusedStep : Type 0
+RefusedStep = (f : List ℕ) (area k : ℕ) → ((n : ℕ) × StepNumber n × (judged f area ≡ refused n k)) ↔ OfRun f area (λ P ts ss. Stops Cannot P ss k)
+
+-- 13
 
 abbrev pub Refused13 : Type 0
 Refused13 = (f : List ℕ) (area n : ℕ) → (judged f area ≡ refused 13 n) ↔ OfRun f area (λ P ts ss. Misses P ts ss n)
 
 -- and there is no other number
 abbrev pub NoOther : Type 0
-NoOther = (f : List ℕ) (area n k : ℕ) → judged f area ≡ refused n k → (1 ≤ n) × (n ≤ 13)
+NoOther = (f : List ℕ) (area n k : ℕ) → judged f area ≡ refused n k → (1 ≤ n) × (n ≤ 18) × (n ≡ 14 → ⊥)
 
 -- ---- demand 2: what is accepted
 

@@ -9,7 +9,10 @@ use Rattle.lists.specs.Decision as decision
 use Rattle.records.specs.Bytes.{choose}
 use Rattle.reading.specs.EvidencePart.{entriesAllowed}
 use Rattle.reading.specs.Reading as reading
-use Rattle.replay.specs.Replay as runs
+use Rattle.replay.specs.declared.run.RunAnswer.{RunAnswer}
+use Rattle.replay.specs.declared.run.RunAnswer.the-variants.{Reachable, Stopped, Missed}
+use Rattle.replay.specs.Causes.{causeNumber}
+use Rattle.replay.specs.Answers.{runAnswer}
 
 pub data Verdict : Type 0 where
   -- the number of entries
@@ -27,10 +30,10 @@ ofList (lists.unheld k) = refused 9 k
 ofList (lists.started k) = refused 10 k
 ofList (lists.entered k) = refused 11 k
 
-abbrev pub ofRun : runs.RunVerdict → Verdict
-ofRun (runs.reachable n k) = reachable n k
-ofRun (runs.stopped k) = refused 12 k
-ofRun (runs.missed n) = refused 13 n
+abbrev pub ofRun : RunAnswer → Verdict
+ofRun (Reachable n k) = reachable n k
+ofRun (Stopped k cause) = refused (causeNumber cause) k
+ofRun (Missed n) = refused 13 n
 
 -- ---- the verdict
 
@@ -39,7 +42,7 @@ ofRun (runs.missed n) = refused 13 n
 abbrev pub FileJudged : reading.FileRead → Verdict → Type 0
 FileJudged (reading.refused r) v = v ≡ refused (r .number) (r .place)
 FileJudged (reading.list P ts es) v = (l : lists.ListVerdict) × lists.ListJudged P ts es l × (v ≡ ofList l)
-FileJudged (reading.run P ts ss) v = v ≡ ofRun (runs.runVerdict P ts ss)
+FileJudged (reading.run P ts ss) v = v ≡ ofRun (runAnswer P ts ss)
 
 -- v is the verdict of the file f, with a work area of so many bytes
 unfoldable pub Judged : List ℕ → ℕ → Verdict → Type 0
@@ -49,7 +52,7 @@ Judged f area v = FileJudged (reading.readFile f area) v
 abbrev pub ofFile : reading.FileRead → Verdict
 ofFile (reading.refused r) = refused (r .number) (r .place)
 ofFile (reading.list P ts es) = ofList (decision.verdictOf P ts es)
-ofFile (reading.run P ts ss) = ofRun (runs.runVerdict P ts ss)
+ofFile (reading.run P ts ss) = ofRun (runAnswer P ts ss)
 
 unfoldable pub judged : List ℕ → ℕ → Verdict
 judged f area = ofFile (reading.readFile f area)

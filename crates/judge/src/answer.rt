@@ -1,6 +1,5 @@
 // The answers of the judge, and the verdict as C has it.
 ghost use mathlib.Core.Path.{_≡_};
-ghost use Rattle.replay.specs.Answers.{verdictOfRun};
 ghost use Rattle.judge.specs.Judge.{ofRun};
 ghost use Rattle.judge.specs.Answers.{verdictIn, inC};
 use records::program::Refusal;
@@ -63,7 +62,7 @@ pub(crate) fn verdict_of(answer: Answer) -> Verdict
 
 // A run's answer.
 pub(crate) fn run_answer(answer: RunAnswer) -> Answer
-    ensures { λ r. ⌜ verdictIn r ≡ ofRun (verdictOfRun answer) ⌝ }
+    ensures { λ r. ⌜ verdictIn r ≡ ofRun answer ⌝ }
 {
     match answer {
         RunAnswer::Reachable { steps, target } => Answer::Reachable {

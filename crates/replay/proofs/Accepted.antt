@@ -1,5 +1,5 @@
 -- A run is accepted if and only if the machine can take every step in turn from a permitted start and stops in a target; and the label of
--- the first message makes no difference.
+-- the first message makes no difference, also not to the cause of a refused step.
 use Prim.Native.Nat.{ℕ, zero, suc, _<_, _≤_, max}
 use mathlib.Core.Path.{_≡_, refl, sym, ap, ap₂, subst, _∙_}
 use mathlib.Core.Bool.{Bool, true, false, cond, _&&_, not}
@@ -16,13 +16,20 @@ use Rattle.pws.specs.declared.Operation.the-variants.{Nop, Read, Write, Mfence,
 use Rattle.pws.specs.declared.Step.{Step}
 use Rattle.pws.specs.declared.Step.the-variants.{Take, Serialise, Update}
 use Rattle.pws.specs.Program.{Shape, Program, transition, ProgramInRange}
-use Rattle.pws.specs.Machine.{Configuration, put, message, newest, labelled, lastLabelled, lastWrite, newestWaiting, newestOr, sees, mayOperate, queueAfter, memoryAfter, mayTake, afterTake, may, after, copyWith, allBelow}
+use Rattle.pws.specs.Machine.{Configuration, put, message, newest, labelled, lastLabelled, lastWrite, newestWaiting, newestOr, sees, queueAfter, memoryAfter, afterTake, may, after, copyWith, allBelow}
 use Rattle.pws.specs.Configurations.{Start, startWith, InTarget, inTarget}
 use Rattle.pws.specs.Sequences.{Takes, done, step, Replay, ended, stopped, replay}
 use Rattle.pws.proofs.Starts.{start-is, start-exists}
 use Rattle.pws.proofs.Facts.{put-each, T-eq}
 use Rattle.pws.proofs.Cases.{all-yes}
+use Rattle.replay.specs.declared.step.Answer.{Answer}
+use Rattle.replay.specs.declared.step.Answer.the-variants.{Refused}
+use Rattle.replay.specs.declared.step.Cause.the-variants.{State}
+use Rattle.replay.specs.declared.run.RunAnswer.{RunAnswer}
 use Rattle.replay.specs.Replay as run
+use Rattle.replay.specs.Causes.{firstCause, queueFits, pointerFits, valueFits, takeAnswer, stepAnswer, isPermitted}
+use Rattle.replay.specs.Answers.{lastAnswer, answerThen, answerFrom, runAnswer}
+use Rattle.replay.proofs.CauseLaws.{answer-may}
 
 -- ---- cases that differ
 
@@ -129,26 +136,51 @@ module _ (P : Program) (R : ProgramInRange P) (c d : Configuration) (l : Like P 
       (ap (λ (s : List ℕ). getD s v 0)
       (alike-snapshot (l .channels) (lastWrite (c .memory) p v) ∙ ap (λ (k : ℕ). message (d .memory .channel) k .snapshot) (last-like p v e)))
 
-  -- every operation is permitted in both or in neither
-  operate-like : (p : ℕ) (o : Operation) → p < P .shape .processes → mayOperate (P .shape) c p o ≡ mayOperate (P .shape) d p o
-  operate-like p Nop e = refl
-  operate-like p (Read v x) e = ap (λ (y : ℕ). eqb y x) (sees-like p v e)
-  operate-like p (Write v x) e = refl
-  operate-like p Mfence e = rw (l .queues, l .pointers, alike-length (l .channels))
-  operate-like p Sfence e = rw (l .queues)
-  operate-like p (Arw v old new) e = rw (l .queues, l .pointers, newest-like, alike-length (l .channels))
+  -- every operation finds the same in both
+  queue-like : (p : ℕ) (o : Operation) → queueFits (P .shape) c p o ≡ queueFits (P .shape) d p o
+  queue-like p Nop = refl
+  queue-like p (Read v x) = refl
+  queue-like p (Write v x) = refl
+  queue-like p Mfence = rw (l .queues)
+  queue-like p Sfence = rw (l .queues)
+  queue-like p (Arw v old new) = rw (l .queues)
 
-  take-like : (n : ℕ) (b : Bool) → ltb n (length (P .transitions)) ≡ b → (b && mayTake (P .shape) c (transition P n)) ≡ (b && mayTake (P .shape) d (transition P n))
+  pointer-like : (p : ℕ) (o : Operation) → pointerFits c p o ≡ pointerFits d p o
+  pointer-like p Nop = refl
+  pointer-like p (Read v x) = refl
+  pointer-like p (Write v x) = refl
+  pointer-like p Mfence = rw (l .pointers, alike-length (l .channels))
+  pointer-like p Sfence = refl
+  pointer-like p (Arw v old new) = rw (l .pointers, alike-length (l .channels))
+
+  value-like : (p : ℕ) (o : Operation) → p < P .shape .processes → valueFits c p o ≡ valueFits d p o
+  value-like p Nop e = refl
+  value-like p (Read v x) e = ap (λ (y : ℕ). eqb y x) (sees-like p v e)
+  value-like p (Write v x) e = refl
+  value-like p Mfence e = refl
+  value-like p Sfence e = refl
+  value-like p (Arw v old new) e = ap (λ (s : List ℕ). eqb (getD s v 0) old) newest-like
+
+  take-like : (n : ℕ) (b : Bool) → ltb n (length (P .transitions)) ≡ b
+      → cond b (takeAnswer (P .shape) c (transition P n)) (Refused State) ≡ cond b (takeAnswer (P .shape) d (transition P n)) (Refused State)
   take-like n false e = refl
   take-like n true e =
       let t = transition P n in
-      ap₂ (λ (f : ℕ → ℕ) (b : Bool). eqb (f (t .process)) (t .from) && b) (l .states)
-      (operate-like (t .process) (t .operation) (R .transitions n (ltb-true n (length (P .transitions)) e) .process))
+      let p = t .process in
+      let o = t .operation in
+      ap (λ (f : ℕ → ℕ). firstCause (eqb (f p) (t .from)) (queueFits (P .shape) c p o) (pointerFits c p o) (valueFits c p o) true) (l .states)
+      ∙ ap (λ (b : Bool). firstCause (eqb (d .state p) (t .from)) b (pointerFits c p o) (valueFits c p o) true) (queue-like p o)
+      ∙ ap (λ (b : Bool). firstCause (eqb (d .state p) (t .from)) (queueFits (P .shape) d p o) b (valueFits c p o) true) (pointer-like p o)
+      ∙ ap (λ (b : Bool). firstCause (eqb (d .state p) (t .from)) (queueFits (P .shape) d p o) (pointerFits d p o) b true)
+      (value-like p o (R .transitions n (ltb-true n (length (P .transitions)) e) .process))
+
+  answer-like : (s : Step) → stepAnswer P c s ≡ stepAnswer P d s
+  answer-like (Take n) = take-like n (ltb n (length (P .transitions))) refl
+  answer-like (Serialise p v) = rw (l .queues)
+  answer-like (Update p) = rw (l .pointers, alike-length (l .channels))
 
   may-like : (s : Step) → may P c s ≡ may P d s
-  may-like (Take n) = take-like n (ltb n (length (P .transitions))) refl
-  may-like (Serialise p v) = rw (l .queues)
-  may-like (Update p) = rw (l .pointers, alike-length (l .channels))
+  may-like s = sym (answer-may P c s) ∙ ap isPermitted (answer-like s) ∙ answer-may P d s
 
   -- and a step leads to configurations that differ so again
   appended : (p v x : ℕ) → Alike (copyWith (c .memory .channel) p v x ∷ c .memory .channel) (copyWith (d .memory .channel) p v x ∷ d .memory .channel)
@@ -232,6 +264,21 @@ label-free P R ts ss c s =
     ap (run.verdictFrom P ts ss) (r .same)
     ∙ verdict-like P R ts (length ss) 0 ss (startWith P (r .process) (r .variable)) (startWith P 0 0) (starts-like P (r .process) (r .variable) 0 0)
 
+answers-like : (P : Program) → ProgramInRange P → (ts : List (ℕ → ℕ)) (n k : ℕ) (ss : List Step) (c d : Configuration) → Like P c d
+    → answerFrom P ts n k c ss ≡ answerFrom P ts n k d ss
+answers-like P R ts n k [] c d l = ap (lastAnswer n) (lowest-like (P .shape) 0 ts c d (l .states))
+answers-like P R ts n k (s ∷ ss) c d l =
+    ap (λ (a : Answer). answerThen a k (λ _. answerFrom P ts n (suc k) (after P c s) ss)) (answer-like P R c d l s)
+    ∙ ap (λ (r : RunAnswer). answerThen (stepAnswer P d s) k (λ _. r)) (answers-like P R ts n (suc k) ss (after P c s) (after P d s) (after-like P R c d l s))
+
+-- the same of the answer, with its cause
+pub answer-free : (P : Program) → ProgramInRange P → (ts : List (ℕ → ℕ)) (ss : List Step) (c : Configuration) → Start P c
+    → answerFrom P ts (length ss) 0 c ss ≡ runAnswer P ts ss
+answer-free P R ts ss c s =
+    let r = start-is P c s in
+    ap (λ (x : Configuration). answerFrom P ts (length ss) 0 x ss) (r .same)
+    ∙ answers-like P R ts (length ss) 0 ss (startWith P (r .process) (r .variable)) (startWith P 0 0) (starts-like P (r .process) (r .variable) 0 0)
+
 -- ---- accepted runs
 
 -- a replay that ends has taken every step
@@ -254,12 +301,12 @@ replay-ends P k (step {c} {d} {ss} s t r) = go (replay-ends P (suc k) r) (may P 
     go h false t = absurd t
 
 -- the test of a target
-target-yes : (n : ℕ) (f g : ℕ → ℕ) → ((p : ℕ) → p < n → f p ≡ g p) → T (allBelow n (λ p. eqb (f p) (g p)))
+pub target-yes : (n : ℕ) (f g : ℕ → ℕ) → ((p : ℕ) → p < n → f p ≡ g p) → T (allBelow n (λ p. eqb (f p) (g p)))
 target-yes zero f g h = tt
 target-yes (suc n) f g h =
     yes-and (allBelow n (λ p. eqb (f p) (g p))) (eqb (f n) (g n)) (target-yes n f g (λ p l. h p (omega arith))) (T-eq (f n) (g n) (h n (omega arith)))
 
-target-is : (S : Shape) (t : ℕ → ℕ) (c : Configuration) → T (inTarget S t c) → InTarget S t c
+pub target-is : (S : Shape) (t : ℕ → ℕ) (c : Configuration) → T (inTarget S t c) → InTarget S t c
 target-is S t c y p l = eqb→eq (c .state p) (t p) (all-yes (S .processes) (λ p. eqb (c .state p) (t p)) y p l)
 
 -- a target that is met, and the lowest one

@@ -1,4 +1,4 @@
--- Why the machine refuses a step (document 01, "The machine"): the first of five causes, in this order. Each has document 01's number 12.
+-- Why the machine refuses a step (document 01, "The machine"; document 02, N1): the first of five causes, in this order.
 use Prim.Native.Nat.{ℕ}
 use mathlib.Core.Bool.{Bool, true, false, cond, _&&_, not}
 use lib.ListN.{length, getD}
@@ -18,10 +18,10 @@ use Rattle.replay.specs.declared.step.Answer.the-variants.{Permitted, Re
 -- the refusal table's number of each
 abbrev pub causeNumber : Cause → ℕ
 causeNumber State = 12
-causeNumber Queue = 12
-causeNumber Pointer = 12
-causeNumber Value = 12
-causeNumber Nothing = 12
+causeNumber Queue = 16
+causeNumber Pointer = 17
+causeNumber Value = 15
+causeNumber Nothing = 18
 
 -- each argument says that one of the causes does not apply
 unfoldable pub firstCause : Bool → Bool → Bool → Bool → Bool → Answer

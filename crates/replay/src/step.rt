@@ -49,16 +49,16 @@ pub struct Run {
     pub tails: [u16; 16],
 }
 
-// Document 01's number of each.
+// The refusal table's number of each (document 02, N1).
 pub fn cause_number(cause: Cause) -> u8
     ensures { λ r. ⌜ r ≡ causeNumber cause ⌝ }
 {
     match cause {
         Cause::State => 12,
-        Cause::Queue => 12,
-        Cause::Pointer => 12,
-        Cause::Value => 12,
-        Cause::Nothing => 12,
+        Cause::Queue => 16,
+        Cause::Pointer => 17,
+        Cause::Value => 15,
+        Cause::Nothing => 18,
     }
 }
 

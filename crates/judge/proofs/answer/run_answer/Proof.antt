@@ -1,8 +1,4 @@
-use Prim.Native.Nat.{ℕ}
-use mathlib.Core.Path.{ap}
 use borrow.Author.Needs.{needs}
-use Rattle.judge.specs.Judge.{refused}
-use Rattle.judge.proofs.JudgeLaws.{twelve}
 use Rattle.judge.proofs.answer.run_answer.Statement.{statement}
 use Rattle.judge.proofs.answer.run_answer.Tie as tie
 
@@ -17,6 +13,6 @@ run-answer-spec = tie.close (tie.spec
     -- returns 63:1
     (λ c. rw (c .before .answer .given .1))
     -- returns-2 63:1
-    (λ c. rw (c .before .answer2 .given .1) (ap (λ (n : ℕ). refused n (c .before .answer2 .given .0 .0)) (twelve (c .before .answer2 .given .0 .1 .0))))
+    (λ c. rw (c .before .answer2 .given .1))
     -- returns-3 63:1
     (λ c. rw (c .before .answer3 .given .1)))
