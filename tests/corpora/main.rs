@@ -328,10 +328,10 @@ fn refused_steps(r: &mut Random, judges: &mut Judges) {
         random::refused_steps(r, &mut |causes, depth, file| {
             *met.entry(causes.to_vec()).or_insert(0) += 1;
             let wanted = Verdict::Refused(causes[0], depth as u64);
-            if judge(file, 32_768) != wanted {
-                judges.fail("a refused step", "the separate judge", &wanted.to_string(), &judge(file, 32_768).to_string(), file, 32_768);
+            if judge(file, AREA_LEAST) != wanted {
+                judges.fail("a refused step", "the separate judge", &wanted.to_string(), &judge(file, AREA_LEAST).to_string(), file, AREA_LEAST);
             }
-            judges.compare("a refused step", file, 32_768, wanted, depth % 100 == 7);
+            judges.compare("a refused step", file, AREA_LEAST, wanted, depth % 100 == 7);
         });
     }
     for wanted in [&[12][..], &[16], &[17], &[15], &[18], &[12, 16], &[12, 17], &[12, 15], &[16, 17], &[16, 15], &[17, 15], &[12, 16, 17, 15]] {
