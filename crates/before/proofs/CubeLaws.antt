@@ -15,12 +15,12 @@ use Rattle.pws.specs.Entries.{FF}
 use Rattle.pws.proofs.Facts.{putQueue-each}
 use Rattle.lists.specs.Cubes.{setValue, withLast, older, alikeNewest, meetNewest, topmost}
 use Rattle.lists.specs.Predecessors.{before, withoutNewest, serialiseKind, inside, undone}
-use Rattle.records.specs.declared.program.Shape.{Shape}
-use Rattle.reading.specs.declared.entry.Queue.{Queue}
-use Rattle.reading.specs.declared.entry.Cube.{Cube}
-use Rattle.reading.specs.Cube.{noQueue, waitingOf, channelOf, queueOf, configurationOf}
-use Rattle.records.proofs.ProgramLaws.{and-true}
-use Rattle.reading.proofs.CubeParts.{channel-length, four-put, queue-put}
+use Rattle.program_part.specs.declared.program.Shape.{Shape}
+use Rattle.whole_file.specs.declared.entry.Queue.{Queue}
+use Rattle.whole_file.specs.declared.entry.Cube.{Cube}
+use Rattle.whole_file.specs.Cube.{noQueue, waitingOf, channelOf, queueOf, configurationOf}
+use Rattle.program_part.proofs.ProgramLaws.{and-true}
+use Rattle.whole_file.proofs.CubeParts.{channel-length, four-put, queue-put}
 use Rattle.before.specs.Before.{Sound, CubeFor, takeBefore, Waits, byNumber, Inserted, Requeued, Again}
 use Rattle.before.proofs.QueueLaws.{no-both, put-sizes}
 use Rattle.before.proofs.NewestLaws.{older-length}

@@ -14,10 +14,10 @@ use Rattle.pws.specs.declared.Message.{Message}
 use Rattle.pws.specs.Machine.{noMessage, labelled, lastLabelled, lastWrite}
 use Rattle.pws.specs.Insertion.{putMessage}
 use Rattle.lists.specs.Cubes.{memoryOf, withValues, setValue}
-use Rattle.records.specs.declared.program.Shape.{Shape}
-use Rattle.reading.specs.declared.entry.Cube.{Cube}
-use Rattle.reading.specs.Cube.{channelOf, configurationOf}
-use Rattle.reading.proofs.CubeParts.{channel-length, channel-equal}
+use Rattle.program_part.specs.declared.program.Shape.{Shape}
+use Rattle.whole_file.specs.declared.entry.Cube.{Cube}
+use Rattle.whole_file.specs.Cube.{channelOf, configurationOf}
+use Rattle.whole_file.proofs.CubeParts.{channel-length, channel-equal}
 use Rattle.before.specs.Before.{Sound, LastWrites, byNumber}
 use Rattle.before.proofs.WriteLaws.{last-most}
 

@@ -11,8 +11,8 @@ use Rattle.pws.specs.declared.Message.{Message}
 use Rattle.pws.specs.Machine.{noMessage}
 use Rattle.lists.specs.Values.{meet, meetAll}
 use Rattle.lists.specs.Cubes.{withValues, topmost, older, alikeNewest, meetNewest}
-use Rattle.reading.specs.Cube.{channelOf}
-use Rattle.reading.proofs.CubeParts.{channel-length, channel-equal}
+use Rattle.whole_file.specs.Cube.{channelOf}
+use Rattle.whole_file.proofs.CubeParts.{channel-length, channel-equal}
 use Rattle.before.proofs.WriteLaws.{four-list}
 use Rattle.before.proofs.QueueLaws.{no-both}
 

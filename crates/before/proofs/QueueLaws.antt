@@ -14,9 +14,9 @@ use Rattle.pws.specs.Machine.{isEmpty, newestWaiting, newestOr}
 use Rattle.lists.specs.Values.{alike}
 use Rattle.lists.specs.Cubes.{withoutLast, withLast}
 use Rattle.lists.specs.Predecessors.{endsAlike}
-use Rattle.reading.specs.declared.entry.Queue.{Queue}
-use Rattle.reading.specs.Cube.{noQueue, waitingOf, queueOf}
-use Rattle.reading.proofs.CubeParts.{queue-none}
+use Rattle.whole_file.specs.declared.entry.Queue.{Queue}
+use Rattle.whole_file.specs.Cube.{noQueue, waitingOf, queueOf}
+use Rattle.whole_file.proofs.CubeParts.{queue-none}
 use Rattle.matching.proofs.Below.{and-false}
 use Rattle.matching.proofs.ValueLaws.{newest-at}
 use Rattle.before.specs.Before.{Waits}

@@ -13,10 +13,10 @@ use borrow.Author.Tests.{ltb-true, leb-true, leb-false, eq-eqb, ne-eqb, lt-ltb}
 use Rattle.pws.specs.declared.Message.{Message}
 use Rattle.pws.specs.Machine.{noMessage, labelled, lastLabelled}
 use Rattle.lists.specs.Cubes.{memoryOf}
-use Rattle.records.specs.Bytes.{choose}
-use Rattle.reading.specs.Cube.{channelOf}
-use Rattle.records.proofs.ProgramLaws.{and-true}
-use Rattle.reading.proofs.CubeParts.{channel-length}
+use Rattle.program_part.specs.Bytes.{choose}
+use Rattle.whole_file.specs.Cube.{channelOf}
+use Rattle.program_part.proofs.ProgramLaws.{and-true}
+use Rattle.whole_file.proofs.CubeParts.{channel-length}
 use Rattle.matching.proofs.Below.{and-false}
 use Rattle.before.specs.Before.{LastWrites, withWrite, byNumber}
 

@@ -11,12 +11,12 @@ use Rattle.pws.specs.Program as pws
 use Rattle.pws.specs.Machine.{Memory, Configuration, lastWrite, put, putQueue}
 use Rattle.lists.specs.Cubes.{topmost}
 use Rattle.lists.specs.Predecessors as lists
-use Rattle.records.specs.declared.program.Shape.{Shape}
-use Rattle.records.specs.Bytes.{choose}
-use Rattle.reading.specs.declared.entry.Queue.{Queue}
-use Rattle.reading.specs.declared.entry.Cube.{Cube}
+use Rattle.program_part.specs.declared.program.Shape.{Shape}
+use Rattle.program_part.specs.Bytes.{choose}
+use Rattle.whole_file.specs.declared.entry.Queue.{Queue}
+use Rattle.whole_file.specs.declared.entry.Cube.{Cube}
 use Rattle.pws.specs.Insertion.{putMessage}
-use Rattle.reading.specs.Cube.{noQueue, waitingOf, channelOf, queueOf, configurationOf}
+use Rattle.whole_file.specs.Cube.{noQueue, waitingOf, channelOf, queueOf, configurationOf}
 
 -- The sizes of an entry of a file that was read: its predecessor cubes have room. It is the one condition of this crate's contracts; of
 -- other cubes its functions end, and nothing is said of what they give.

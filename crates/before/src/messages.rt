@@ -7,17 +7,17 @@ ghost use Rattle.pws.specs.Machine.{message, labelled, lastLabelled, lastWrite}
 ghost use Rattle.pws.specs.Insertion.{putMessage, up};
 ghost use Rattle.lists.specs.Cubes.{memoryOf, withValues, anyValue, anyMessage, setValue};
 ghost use Rattle.lists.specs.Predecessors.{withoutNewest};
-ghost use Rattle.records.specs.ProgramPart.{shapeOf};
-ghost use Rattle.records.specs.declared.program.Shape.{Shape};
-ghost use Rattle.reading.specs.Cube.{channelOf, configurationOf};
+ghost use Rattle.program_part.specs.ProgramPart.{shapeOf};
+ghost use Rattle.program_part.specs.declared.program.Shape.{Shape};
+ghost use Rattle.whole_file.specs.Cube.{channelOf, configurationOf};
 ghost use Rattle.before.specs.Before.{Sound, LastWrites, withWrite, byNumber, Inserted};
 use matching::least;
+use program_part::bytes::both;
+use program_part::bytes::wide;
+use program_part::program::Shape;
+use program_part::program::of_four;
 use pws::Message;
-use reading::entry::Cube;
-use records::bytes::both;
-use records::bytes::wide;
-use records::program::Shape;
-use records::program::of_four;
+use whole_file::entry::Cube;
 
 // ---- LastWrite
 

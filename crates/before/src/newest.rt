@@ -8,16 +8,16 @@ ghost use Rattle.pws.specs.Machine.{allBelow, atNewest};
 ghost use Rattle.lists.specs.Values.{meet, meetAll};
 ghost use Rattle.lists.specs.Cubes.{withValues, topmost, older, alikeNewest, meetNewest};
 ghost use Rattle.lists.specs.Predecessors.{before};
-ghost use Rattle.records.specs.declared.program.Shape.{Shape};
-ghost use Rattle.reading.specs.Cube.{channelOf, configurationOf};
+ghost use Rattle.program_part.specs.declared.program.Shape.{Shape};
+ghost use Rattle.whole_file.specs.Cube.{channelOf, configurationOf};
 ghost use Rattle.before.specs.Before.{Sound};
 use crate::messages::with_value;
 use matching::values_related;
+use program_part::bytes::either;
+use program_part::program::Shape;
+use program_part::program::of_four;
 use pws::Message;
-use reading::entry::Cube;
-use reading::evidence::either;
-use records::program::Shape;
-use records::program::of_four;
+use whole_file::entry::Cube;
 
 pub fn newest(cube: Cube) -> Message
     ensures { λ r. ⌜ ((s : Shape) → Sound s cube → r ≡ topmost (configurationOf cube .memory .channel)) ⌝ }

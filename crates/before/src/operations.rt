@@ -7,9 +7,9 @@ ghost use Rattle.pws.specs.Machine.{newestWaiting, isEmpty, sees};
 ghost use Rattle.lists.specs.Values.{alike};
 ghost use Rattle.lists.specs.Cubes.{older, alikeNewest};
 ghost use Rattle.lists.specs.Predecessors.{before, endsAlike, swapped, undone, waited, onTop};
-ghost use Rattle.records.specs.ProgramPart.{shapeOf};
-ghost use Rattle.records.specs.declared.program.Shape.{Shape};
-ghost use Rattle.reading.specs.Cube.{configurationOf};
+ghost use Rattle.program_part.specs.ProgramPart.{shapeOf};
+ghost use Rattle.program_part.specs.declared.program.Shape.{Shape};
+ghost use Rattle.whole_file.specs.Cube.{configurationOf};
 ghost use Rattle.before.specs.Before.{Sound, CubeFor, LastWrites, takeBefore, Requeued};
 use crate::messages::carries;
 use crate::messages::value_in;
@@ -29,13 +29,13 @@ use crate::queues::queue_empty;
 use crate::queues::with_last;
 use crate::queues::without_last;
 use matching::related;
+use program_part::bytes::both;
+use program_part::bytes::wide;
+use program_part::program::Shape;
+use program_part::program::of_four;
 use pws::Message;
-use reading::entry::Cube;
-use reading::entry::Queue;
-use records::bytes::both;
-use records::bytes::wide;
-use records::program::Shape;
-use records::program::of_four;
+use whole_file::entry::Cube;
+use whole_file::entry::Queue;
 
 // ---- which there are
 

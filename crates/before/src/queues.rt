@@ -6,16 +6,16 @@ ghost use lib.ListN.{getD, set};
 ghost use Rattle.pws.specs.Machine.{isEmpty, newestWaiting, newestOr, noneWaiting};
 ghost use Rattle.lists.specs.Cubes.{withoutLast, withLast};
 ghost use Rattle.lists.specs.Predecessors.{endsAlike};
-ghost use Rattle.records.specs.ProgramPart.{shapeOf};
-ghost use Rattle.reading.specs.Cube.{noQueue, waitingOf, queueOf, configurationOf};
+ghost use Rattle.program_part.specs.ProgramPart.{shapeOf};
+ghost use Rattle.whole_file.specs.Cube.{noQueue, waitingOf, queueOf, configurationOf};
 ghost use Rattle.before.specs.Before.{Waits};
 use matching::least;
 use matching::related;
 use matching::waiting;
-use reading::entry::Cube;
-use reading::entry::Queue;
-use records::bytes::both;
-use records::program::Shape;
+use program_part::bytes::both;
+use program_part::program::Shape;
+use whole_file::entry::Cube;
+use whole_file::entry::Queue;
 
 pub(crate) fn is_empty(queue: Queue) -> bool
     ensures { λ r. ⌜ r ≡ isEmpty (waitingOf queue) ⌝ }

@@ -7,9 +7,9 @@ ghost use lib.Dec.{ltb};
 ghost use Rattle.pws.specs.Machine.{allBelow, atNewest};
 ghost use Rattle.lists.specs.Cubes.{anyMessage};
 ghost use Rattle.lists.specs.Predecessors.{serialiseKind, undone, inside, onTop};
-ghost use Rattle.records.specs.ProgramPart.{shapeOf};
-ghost use Rattle.records.specs.declared.program.Shape.{Shape};
-ghost use Rattle.reading.specs.Cube.{configurationOf};
+ghost use Rattle.program_part.specs.ProgramPart.{shapeOf};
+ghost use Rattle.program_part.specs.declared.program.Shape.{Shape};
+ghost use Rattle.whole_file.specs.Cube.{configurationOf};
 ghost use Rattle.before.specs.Before.{Sound, CubeFor, serialiseBefore, Again};
 use crate::messages::any_message;
 use crate::messages::inserted;
@@ -22,12 +22,12 @@ use crate::newest::with_newest;
 use crate::queues::put_queue;
 use crate::queues::queue_at;
 use crate::queues::with_first;
+use program_part::bytes::both;
+use program_part::program::Shape;
+use program_part::program::of_four;
 use pws::Message;
-use reading::entry::Cube;
-use reading::entry::Queue;
-use records::bytes::both;
-use records::program::Shape;
-use records::program::of_four;
+use whole_file::entry::Cube;
+use whole_file::entry::Queue;
 
 // The newest message may be what a serialise made: it is not the only one, and no process points at it.
 pub fn may_serialise(shape: Shape, cube: Cube) -> bool

@@ -3,15 +3,15 @@ ghost use mathlib.Core.Path.{_≡_};
 ghost use Prim.Native.Nat.{_-_, _≤_, _<_};
 ghost use lib.ListN.{getD};
 ghost use Rattle.lists.specs.Predecessors.{undone, pointed};
-ghost use Rattle.records.specs.ProgramPart.{shapeOf};
-ghost use Rattle.records.specs.declared.program.Shape.{Shape};
-ghost use Rattle.reading.specs.Cube.{configurationOf};
+ghost use Rattle.program_part.specs.ProgramPart.{shapeOf};
+ghost use Rattle.program_part.specs.declared.program.Shape.{Shape};
+ghost use Rattle.whole_file.specs.Cube.{configurationOf};
 ghost use Rattle.before.specs.Before.{Sound, CubeFor, updateBefore};
 use crate::messages::any_message;
 use crate::messages::inserted;
 use crate::messages::raised;
-use reading::entry::Cube;
-use records::program::Shape;
+use program_part::program::Shape;
+use whole_file::entry::Cube;
 
 // p points at the message before.
 pub fn before_update(cube: Cube, p: usize) -> Cube

@@ -21,13 +21,13 @@ use Rattle.lists.specs.Decision.{held}
 use Rattle.lists.proofs.Lists.{every-yes}
 use Rattle.lists.proofs.Cubes.{entry-cube}
 use Rattle.lists.proofs.Closed.{kind-in}
-use Rattle.records.specs.declared.program.Program.{Program}
-use Rattle.reading.specs.declared.entry.Cube.{Cube}
-use Rattle.records.specs.ProgramPart.{shapeOf, programOf}
-use Rattle.reading.specs.Cube.{noQueue, queueOf, configurationOf}
-use Rattle.reading.proofs.CubeParts.{channel-length, queue-of, queue-none}
-use Rattle.contents.specs.Again.{entriesOf, cubeAt}
-use Rattle.contents.specs.Contents.{CubeRange}
+use Rattle.program_part.specs.declared.program.Program.{Program}
+use Rattle.whole_file.specs.declared.entry.Cube.{Cube}
+use Rattle.program_part.specs.ProgramPart.{shapeOf, programOf}
+use Rattle.whole_file.specs.Cube.{noQueue, queueOf, configurationOf}
+use Rattle.whole_file.proofs.CubeParts.{channel-length, queue-of, queue-none}
+use Rattle.by_number.specs.Again.{entriesOf, cubeAt}
+use Rattle.by_number.specs.Contents.{CubeRange}
 use Rattle.summary.specs.Summary.{Summed}
 use Rattle.before.specs.Before.{CubeFor}
 use Rattle.cover.specs.Search.{Searchable}

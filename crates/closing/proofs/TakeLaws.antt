@@ -17,13 +17,13 @@ use Rattle.pws.specs.Machine.{isEmpty, newestWaiting}
 use Rattle.lists.specs.Predecessors as lists
 use Rattle.lists.specs.Predecessors.{has, cube, hasOperation, isUndone, writeKind, endsAlike, swapped, arwKind, undone, waited, inside, onTop, pointed}
 use Rattle.lists.specs.Decision.{held}
-use Rattle.records.specs.declared.program.Program.{Program}
-use Rattle.reading.specs.declared.entry.Cube.{Cube}
-use Rattle.records.specs.ProgramPart.{shapeOf, programOf}
-use Rattle.reading.specs.Cube.{configurationOf}
-use Rattle.contents.specs.Again.{transitionOf, entriesOf}
-use Rattle.contents.proofs.Again.{transition-again}
-use Rattle.records.proofs.ProgramLaws.{and-true}
+use Rattle.program_part.specs.declared.program.Program.{Program}
+use Rattle.whole_file.specs.declared.entry.Cube.{Cube}
+use Rattle.program_part.specs.ProgramPart.{shapeOf, programOf}
+use Rattle.whole_file.specs.Cube.{configurationOf}
+use Rattle.by_number.specs.Again.{transitionOf, entriesOf}
+use Rattle.by_number.proofs.Again.{transition-again}
+use Rattle.program_part.proofs.ProgramLaws.{and-true}
 use Rattle.before.specs.Before.{CubeFor, takeBefore}
 use Rattle.before.proofs.CubeLaws.{cube-is}
 use Rattle.cover.specs.Search.{Searchable}

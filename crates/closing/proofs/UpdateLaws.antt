@@ -12,12 +12,12 @@ use Rattle.pws.specs.Machine.{lastWrite}
 use Rattle.lists.specs.Predecessors as lists
 use Rattle.lists.specs.Predecessors.{has, updateKind, undone, waited, inside, onTop, pointed}
 use Rattle.lists.specs.Decision.{held}
-use Rattle.records.specs.declared.program.Program.{Program}
-use Rattle.reading.specs.declared.entry.Cube.{Cube}
-use Rattle.records.specs.ProgramPart.{shapeOf, programOf}
-use Rattle.reading.specs.Cube.{configurationOf}
-use Rattle.contents.specs.Again.{entriesOf}
-use Rattle.records.proofs.ProgramLaws.{and-true}
+use Rattle.program_part.specs.declared.program.Program.{Program}
+use Rattle.whole_file.specs.declared.entry.Cube.{Cube}
+use Rattle.program_part.specs.ProgramPart.{shapeOf, programOf}
+use Rattle.whole_file.specs.Cube.{configurationOf}
+use Rattle.by_number.specs.Again.{entriesOf}
+use Rattle.program_part.proofs.ProgramLaws.{and-true}
 use Rattle.before.specs.Before.{CubeFor, LastWrites, updateBefore}
 use Rattle.cover.specs.Search.{Searchable}
 use Rattle.closing.specs.Walk.{stepHeld, Walkable}

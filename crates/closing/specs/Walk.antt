@@ -16,11 +16,11 @@ use Rattle.pws.specs.Entries.{ValueOrFF, EntryOf}
 use Rattle.lists.specs.Lists.{every}
 use Rattle.lists.specs.Predecessors.{predecessors, serialised}
 use Rattle.lists.specs.Decision.{held}
-use Rattle.records.specs.declared.program.Program.{Program}
-use Rattle.reading.specs.declared.entry.Cube.{Cube}
-use Rattle.records.specs.ProgramPart.{shapeOf, programOf}
-use Rattle.reading.specs.Cube.{configurationOf}
-use Rattle.contents.specs.Again.{cubeAt, entriesOf}
+use Rattle.program_part.specs.declared.program.Program.{Program}
+use Rattle.whole_file.specs.declared.entry.Cube.{Cube}
+use Rattle.program_part.specs.ProgramPart.{shapeOf, programOf}
+use Rattle.whole_file.specs.Cube.{configurationOf}
+use Rattle.by_number.specs.Again.{cubeAt, entriesOf}
 use Rattle.summary.specs.Summary.{Summed}
 use Rattle.before.specs.Before.{Sound}
 
@@ -32,8 +32,8 @@ stepHeld P es e s = every (held (P .shape) es) (predecessors P e s)
 
 -- Step j: a transition, then a serialise by process and variable, then an update. Those that the shape does not have have no cubes, and the
 -- others stand in the order of `steps`.
-unfoldable pub stepAt : ℕ → ℕ → Step
-stepAt transitions j =
+unfoldable pub walkStep : ℕ → ℕ → Step
+walkStep transitions j =
     cond (ltb j transitions) (Take j)
     (cond (ltb (j - transitions) 16) (Serialise ((j - transitions) / 4) ((j - transitions) % 4)) (Update (j - transitions - 16)))
 

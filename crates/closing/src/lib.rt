@@ -4,23 +4,23 @@ ghost use mathlib.Core.Path.{_≡_};
 ghost use Prim.Native.Nat.{ℕ, _+_, _/_, _%_, _≤_, _<_, min};
 ghost use Rattle.pws.specs.declared.Step.the-variants.{Take, Serialise, Update};
 ghost use Rattle.lists.specs.Decision.{closed};
-ghost use Rattle.records.specs.ProgramPart.{programOf};
-ghost use Rattle.reading.specs.Cube.{configurationOf};
-ghost use Rattle.contents.specs.Again.{cubeAt, entriesOf};
+ghost use Rattle.program_part.specs.ProgramPart.{programOf};
+ghost use Rattle.whole_file.specs.Cube.{configurationOf};
+ghost use Rattle.by_number.specs.Again.{cubeAt, entriesOf};
 ghost use Rattle.before.specs.Before.{LastWrites};
-ghost use Rattle.closing.specs.Walk.{stepHeld, stepAt, LowestFailing, Walkable};
+ghost use Rattle.closing.specs.Walk.{stepHeld, walkStep, LowestFailing, Walkable};
 use crate::serialise::serialised_held;
 use crate::take::taken_held;
 use crate::update::updated_held;
 use before::messages::last_writes;
 use before::newest::newest;
-use contents::entry_at;
-use contents::transition_of;
+use by_number::entry_at;
+use by_number::transition_of;
 use matching::least;
-use reading::entry::Cube;
-use records::bytes::wide;
-use records::program::Program;
-use records::program::of_four;
+use program_part::bytes::wide;
+use program_part::program::Program;
+use program_part::program::of_four;
+use whole_file::entry::Cube;
 
 mod serialise;
 mod take;
@@ -97,7 +97,7 @@ fn open_update(
 // The number of the lowest step, in the order of `stepAt`, one of whose predecessor cubes is not held; 20 past the transitions if there is
 // none.
 fn cube_open(file: &[u8], list: &[u8], sum: &[u8], n: usize, program: Program, cube: Cube) -> usize
-    ensures { λ r. ⌜ (Walkable (now (file .entry)) (now (list .entry)) (now (sum .entry)) n program cube → LowestFailing (λ j. stepHeld (programOf (now (file .entry)) program) (entriesOf (now (file .entry)) (now (list .entry)) n) (configurationOf cube) (stepAt (min (program .transitions .count) 256) j)) (min (program .transitions .count) 256 + 20) r) ⌝ }
+    ensures { λ r. ⌜ (Walkable (now (file .entry)) (now (list .entry)) (now (sum .entry)) n program cube → LowestFailing (λ j. stepHeld (programOf (now (file .entry)) program) (entriesOf (now (file .entry)) (now (list .entry)) n) (configurationOf cube) (walkStep (min (program .transitions .count) 256) j)) (min (program .transitions .count) 256 + 20) r) ⌝ }
 {
     let row = program.transitions;
     let m = least(row.count, 256);
@@ -123,7 +123,7 @@ pub fn open_step(
     program: Program,
     k: usize,
 ) -> usize
-    ensures { λ r. ⌜ (Walkable (now (file .entry)) (now (list .entry)) (now (sum .entry)) n program (cubeAt (now (file .entry)) (now (list .entry)) k) → LowestFailing (λ j. stepHeld (programOf (now (file .entry)) program) (entriesOf (now (file .entry)) (now (list .entry)) n) (configurationOf (cubeAt (now (file .entry)) (now (list .entry)) k)) (stepAt (min (program .transitions .count) 256) j)) (min (program .transitions .count) 256 + 20) r) ⌝ }
+    ensures { λ r. ⌜ (Walkable (now (file .entry)) (now (list .entry)) (now (sum .entry)) n program (cubeAt (now (file .entry)) (now (list .entry)) k) → LowestFailing (λ j. stepHeld (programOf (now (file .entry)) program) (entriesOf (now (file .entry)) (now (list .entry)) n) (configurationOf (cubeAt (now (file .entry)) (now (list .entry)) k)) (walkStep (min (program .transitions .count) 256) j)) (min (program .transitions .count) 256 + 20) r) ⌝ }
 {
     let cube = entry_at(file, list, k);
     cube_open(file, list, sum, n, program, cube)

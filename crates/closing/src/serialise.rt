@@ -8,9 +8,9 @@ ghost use Rattle.pws.specs.Machine.{allBelow, labelled, lastWrite};
 ghost use Rattle.lists.specs.Cubes.{topmost};
 ghost use Rattle.lists.specs.Predecessors.{withoutNewest, serialiseKind, undone, inside};
 ghost use Rattle.lists.specs.Decision.{held};
-ghost use Rattle.records.specs.ProgramPart.{shapeOf, programOf};
-ghost use Rattle.reading.specs.Cube.{configurationOf};
-ghost use Rattle.contents.specs.Again.{entriesOf};
+ghost use Rattle.program_part.specs.ProgramPart.{shapeOf, programOf};
+ghost use Rattle.whole_file.specs.Cube.{configurationOf};
+ghost use Rattle.by_number.specs.Again.{entriesOf};
 ghost use Rattle.before.specs.Before.{serialiseBefore};
 ghost use Rattle.closing.specs.Walk.{stepHeld, Walkable, Serialising};
 use before::messages::older_write;
@@ -22,9 +22,9 @@ use before::serialise::before_serialise_on_top;
 use before::serialise::may_serialise;
 use cover::search::search;
 use matching::least;
-use reading::entry::Cube;
-use reading::steps::pair_exists;
-use records::program::Program;
+use program_part::program::Program;
+use whole_file::entry::Cube;
+use whole_file::steps::pair_exists;
 
 // With message k inside, which is past LastWrite: if there is such a cube, it is held.
 fn inside_held(

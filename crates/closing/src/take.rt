@@ -8,9 +8,9 @@ ghost use Rattle.pws.specs.declared.Step.the-variants.{Take};
 ghost use Rattle.pws.specs.Machine.{isEmpty};
 ghost use Rattle.lists.specs.Predecessors as lists;
 ghost use Rattle.lists.specs.Decision.{held};
-ghost use Rattle.records.specs.ProgramPart.{shapeOf, programOf};
-ghost use Rattle.reading.specs.Cube.{configurationOf};
-ghost use Rattle.contents.specs.Again.{transitionOf, entriesOf};
+ghost use Rattle.program_part.specs.ProgramPart.{shapeOf, programOf};
+ghost use Rattle.whole_file.specs.Cube.{configurationOf};
+ghost use Rattle.by_number.specs.Again.{transitionOf, entriesOf};
 ghost use Rattle.before.specs.Before.{LastWrites, takeBefore};
 ghost use Rattle.closing.specs.Walk.{stepHeld, Walkable, Acting, TakenHeld};
 use before::newest::alike_before;
@@ -27,11 +27,11 @@ use before::operations::may_write;
 use before::queues::none_waiting;
 use cover::search::search;
 use matching::least;
+use program_part::bytes::both;
+use program_part::program::Program;
 use pws::Operation;
 use pws::Transition;
-use reading::entry::Cube;
-use records::bytes::both;
-use records::program::Program;
+use whole_file::entry::Cube;
 
 fn nop_held(
     file: &[u8],

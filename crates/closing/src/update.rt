@@ -7,19 +7,19 @@ ghost use Prim.Native.Nat.{ℕ, _/_, _%_, _≤_, _<_};
 ghost use Rattle.pws.specs.declared.Step.the-variants.{Update};
 ghost use Rattle.lists.specs.Predecessors as lists;
 ghost use Rattle.lists.specs.Decision.{held};
-ghost use Rattle.records.specs.ProgramPart.{shapeOf, programOf};
-ghost use Rattle.reading.specs.Cube.{configurationOf};
-ghost use Rattle.contents.specs.Again.{entriesOf};
+ghost use Rattle.program_part.specs.ProgramPart.{shapeOf, programOf};
+ghost use Rattle.whole_file.specs.Cube.{configurationOf};
+ghost use Rattle.by_number.specs.Again.{entriesOf};
 ghost use Rattle.before.specs.Before.{LastWrites, updateBefore};
 ghost use Rattle.closing.specs.Walk.{stepHeld, Walkable};
 use before::update::before_update;
 use before::update::before_update_pointed;
 use cover::search::search;
-use reading::entry::Cube;
-use records::bytes::both;
-use records::program::Program;
-use records::program::Shape;
-use records::program::of_four;
+use program_part::bytes::both;
+use program_part::program::Program;
+use program_part::program::Shape;
+use program_part::program::of_four;
+use whole_file::entry::Cube;
 
 // With nothing beside: if there is such a cube, it is held.
 fn unpointed_held(

@@ -10,14 +10,14 @@ use lib.Dec.{eqb, ltb}
 use borrow.Author.Tests.{lt-ltb, le-ltb, le-leb, lt-leb, eq-eqb, ne-eqb}
 use Rattle.pws.specs.Machine.{allBelow}
 use Rattle.lists.specs.Matching.{matches}
-use Rattle.records.specs.declared.program.Shape.{Shape}
-use Rattle.reading.specs.declared.entry.Cube.{Cube}
-use Rattle.reading.specs.declared.entry.Loaded.{Loaded}
-use Rattle.records.specs.Bytes.{byte}
-use Rattle.records.specs.ProgramPart.{shapeOf}
-use Rattle.reading.specs.Cube.{configurationOf, loadsMessage, loadsWaiting, nothingLoaded, moreMessage, moreWaiting, loadFrom, loaded, loadEntry}
-use Rattle.reading.proofs.CubeLaws.{message-loads, load-message, load-waiting, load-ends, loaded-nothing}
-use Rattle.contents.specs.Again.{offsetAt, cubeAt}
+use Rattle.program_part.specs.declared.program.Shape.{Shape}
+use Rattle.whole_file.specs.declared.entry.Cube.{Cube}
+use Rattle.whole_file.specs.declared.entry.Loaded.{Loaded}
+use Rattle.program_part.specs.Bytes.{byte}
+use Rattle.program_part.specs.ProgramPart.{shapeOf}
+use Rattle.whole_file.specs.Cube.{configurationOf, loadsMessage, loadsWaiting, nothingLoaded, moreMessage, moreWaiting, loadFrom, loaded, loadEntry}
+use Rattle.whole_file.proofs.CubeLaws.{message-loads, load-message, load-waiting, load-ends, loaded-nothing}
+use Rattle.by_number.specs.Again.{offsetAt, cubeAt}
 use Rattle.matching.specs.Relation.{relation}
 use Rattle.matching.specs.Tags.{tagsOf}
 use Rattle.matching.specs.Match.{Sizes, Suits, queueRow, channelMatches}

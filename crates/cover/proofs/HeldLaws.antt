@@ -22,14 +22,14 @@ use Rattle.lists.specs.Covering.{Held, Outside, split, at, places, variableOf, 
 use Rattle.lists.specs.Decision.{heldAt, held}
 use Rattle.lists.proofs.Lists.{any-number, number-any}
 use Rattle.lists.proofs.Splitting.{Valid, valid-place, Decided, held-decided, decided-yes, decided-no, covered-held, unmet-outside, split-held, split-fits}
-use Rattle.records.specs.declared.program.Shape.{Shape}
-use Rattle.reading.specs.declared.entry.Cube.{Cube}
-use Rattle.records.specs.Records.{valueCount}
-use Rattle.records.specs.ProgramPart.{shapeOf, tableFrom}
-use Rattle.reading.specs.Cube.{noQueue, waitingOf, channelOf, queueOf, configurationOf}
-use Rattle.reading.proofs.CubeParts.{channel-length, channel-message, queue-of}
-use Rattle.contents.specs.Again.{cubeAt, entriesOf}
-use Rattle.contents.proofs.Tables.{table-length, table-number}
+use Rattle.program_part.specs.declared.program.Shape.{Shape}
+use Rattle.whole_file.specs.declared.entry.Cube.{Cube}
+use Rattle.program_part.specs.Records.{valueCount}
+use Rattle.program_part.specs.ProgramPart.{shapeOf, tableFrom}
+use Rattle.whole_file.specs.Cube.{noQueue, waitingOf, channelOf, queueOf, configurationOf}
+use Rattle.whole_file.proofs.CubeParts.{channel-length, channel-message, queue-of}
+use Rattle.by_number.specs.Again.{cubeAt, entriesOf}
+use Rattle.by_number.proofs.Tables.{table-length, table-number}
 use Rattle.matching.proofs.ValueLaws.{value-waits}
 use Rattle.cover.specs.declared.place.Place.{Place}
 use Rattle.cover.specs.declared.place.Place.the-variants.{Whole, Waiting, Sent}

@@ -15,13 +15,13 @@ use Rattle.pws.specs.Machine.{Configuration, Memory, noMessage, message, putQue
 use Rattle.lists.specs.Cubes.{withValues, setValue}
 use Rattle.lists.specs.Covering.{split, at}
 use Rattle.lists.proofs.Splitting.{Valid}
-use Rattle.records.specs.declared.program.Shape.{Shape}
-use Rattle.reading.specs.declared.entry.Queue.{Queue}
-use Rattle.reading.specs.declared.entry.Cube.{Cube}
-use Rattle.records.specs.ProgramPart.{shapeOf}
-use Rattle.records.specs.Bytes.{choose}
-use Rattle.reading.specs.Cube.{noQueue, waitingOf, channelOf, queueOf, configurationOf}
-use Rattle.reading.proofs.CubeParts.{channel-length, channel-message, channel-equal, queue-of, queue-put}
+use Rattle.program_part.specs.declared.program.Shape.{Shape}
+use Rattle.whole_file.specs.declared.entry.Queue.{Queue}
+use Rattle.whole_file.specs.declared.entry.Cube.{Cube}
+use Rattle.program_part.specs.ProgramPart.{shapeOf}
+use Rattle.program_part.specs.Bytes.{choose}
+use Rattle.whole_file.specs.Cube.{noQueue, waitingOf, channelOf, queueOf, configurationOf}
+use Rattle.whole_file.proofs.CubeParts.{channel-length, channel-message, channel-equal, queue-of, queue-put}
 use Rattle.matching.proofs.ValueLaws.{value-waits}
 use Rattle.cover.specs.declared.place.Place.{Place}
 use Rattle.cover.specs.declared.place.Place.the-variants.{Whole, Waiting, Sent}

@@ -8,10 +8,10 @@ use lib.ListN.{length, getD, length-map}
 use lib.Dec.{eqb, ltb}
 use borrow.Author.Tests.{ltb-true, eqb-true, lt-ltb, le-ltb}
 use Rattle.pws.specs.Machine.{noMessage}
-use Rattle.records.specs.declared.program.Shape.{Shape}
-use Rattle.reading.specs.declared.entry.Cube.{Cube}
-use Rattle.reading.specs.Cube.{noQueue, waitingOf}
-use Rattle.records.proofs.ProgramLaws.{and-true}
+use Rattle.program_part.specs.declared.program.Shape.{Shape}
+use Rattle.whole_file.specs.declared.entry.Cube.{Cube}
+use Rattle.whole_file.specs.Cube.{noQueue, waitingOf}
+use Rattle.program_part.proofs.ProgramLaws.{and-true}
 use Rattle.cover.specs.declared.place.Place.{Place}
 use Rattle.cover.specs.declared.place.Place.the-variants.{Whole, Waiting, Sent}
 use Rattle.cover.specs.Places.{isWhole, valueFree, waitsFree, sentFree, isFree, proper, placeAt, NoneFree, fillings}

@@ -9,12 +9,12 @@ use Rattle.pws.specs.declared.Message.{Message}
 use Rattle.pws.specs.Machine.{noMessage}
 use Rattle.lists.specs.Covering as lists
 use Rattle.lists.specs.Cubes.{withValues}
-use Rattle.records.specs.declared.program.Shape.{Shape}
-use Rattle.reading.specs.declared.entry.Queue.{Queue}
-use Rattle.reading.specs.declared.entry.Cube.{Cube}
-use Rattle.records.specs.Bytes.{choose}
-use Rattle.records.specs.Records.{valueCount}
-use Rattle.reading.specs.Cube.{noQueue, waitingOf}
+use Rattle.program_part.specs.declared.program.Shape.{Shape}
+use Rattle.whole_file.specs.declared.entry.Queue.{Queue}
+use Rattle.whole_file.specs.declared.entry.Cube.{Cube}
+use Rattle.program_part.specs.Bytes.{choose}
+use Rattle.program_part.specs.Records.{valueCount}
+use Rattle.whole_file.specs.Cube.{noQueue, waitingOf}
 use Rattle.cover.specs.declared.place.Place.{Place}
 use Rattle.cover.specs.declared.place.Place.the-variants.{Whole, Waiting, Sent}
 

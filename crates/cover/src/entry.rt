@@ -1,20 +1,20 @@
 // An entry in the file against a cube.
 ghost use mathlib.Core.Path.{_≡_};
 ghost use Rattle.lists.specs.Matching.{matches};
-ghost use Rattle.records.specs.ProgramPart.{shapeOf};
-ghost use Rattle.reading.specs.Cube.{configurationOf};
-ghost use Rattle.contents.specs.Again.{cubeAt};
+ghost use Rattle.program_part.specs.ProgramPart.{shapeOf};
+ghost use Rattle.whole_file.specs.Cube.{configurationOf};
+ghost use Rattle.by_number.specs.Again.{cubeAt};
 ghost use Rattle.matching.specs.Relation.{relation};
 ghost use Rattle.cover.specs.Search.{Against};
-use contents::offset_at;
+use by_number::offset_at;
 use matching::channel_matches;
 use matching::queues_match;
 use matching::states_match;
 use matching::tags_of;
-use reading::entry::Cube;
-use reading::entry::load_entry;
-use records::bytes::field;
-use records::program::Shape;
+use program_part::bytes::field;
+use program_part::program::Shape;
+use whole_file::entry::Cube;
+use whole_file::entry::load_entry;
 
 // Entry i against a cube with its tags: exactly, it covers the cube; else it may meet it.
 pub(crate) fn matches_at(

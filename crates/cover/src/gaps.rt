@@ -9,12 +9,12 @@ use matching::lowest;
 use matching::related;
 use matching::values_related;
 use matching::waiting;
+use program_part::bytes::both;
+use program_part::bytes::wide;
+use program_part::program::Shape;
 use pws::Message;
-use reading::entry::Cube;
-use reading::entry::Queue;
-use records::bytes::both;
-use records::bytes::wide;
-use records::program::Shape;
+use whole_file::entry::Cube;
+use whole_file::entry::Queue;
 
 // One of them, and how many there are.
 pub(crate) struct Gaps {

@@ -6,13 +6,13 @@ ghost use lib.ListN.{length, getD};
 ghost use Rattle.cover.specs.Places.{isWhole, withWaiting, withSent, partOf, valueFree, waitsFree, sentFree, isFree, fillings, placeAt, NoneFree};
 use matching::least;
 use matching::waiting;
+use program_part::bytes::both;
+use program_part::bytes::wide;
+use program_part::program::Shape;
+use program_part::program::value_count;
 use pws::Message;
-use reading::entry::Cube;
-use reading::entry::Queue;
-use records::bytes::both;
-use records::bytes::wide;
-use records::program::Shape;
-use records::program::value_count;
+use whole_file::entry::Cube;
+use whole_file::entry::Queue;
 
 // A waiting value, or a value of a message, by number; or the whole cube, which is its own only part.
 pub(crate) enum Place {

@@ -4,9 +4,9 @@ ghost use mathlib.Core.Bool.{Bool, true, false};
 ghost use Prim.Native.Nat.{ℕ, _≤_, _<_};
 ghost use lib.ListN.{length};
 ghost use Rattle.lists.specs.Decision.{held};
-ghost use Rattle.records.specs.ProgramPart.{shapeOf};
-ghost use Rattle.reading.specs.Cube.{configurationOf};
-ghost use Rattle.contents.specs.Again.{entriesOf};
+ghost use Rattle.program_part.specs.ProgramPart.{shapeOf};
+ghost use Rattle.whole_file.specs.Cube.{configurationOf};
+ghost use Rattle.by_number.specs.Again.{entriesOf};
 ghost use Rattle.cover.specs.Places.{proper};
 ghost use Rattle.cover.specs.Search.{Sized, Covered, Searchable};
 use crate::entry::matches_at;
@@ -17,10 +17,10 @@ use crate::place::part_of;
 use crate::split::place_for;
 use matching::number_of;
 use matching::tags_of;
-use reading::entry::Cube;
-use records::program::Shape;
+use program_part::program::Shape;
 use summary::onward;
 use summary::walk_from;
+use whole_file::entry::Cube;
 
 // The sizes of a cube's arrays: the proof asks for them.
 fn rooms(cube: Cube) -> usize

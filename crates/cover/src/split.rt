@@ -4,9 +4,9 @@ ghost use mathlib.Core.Bool.{true, false};
 ghost use Prim.Native.Nat.{_≤_};
 ghost use Rattle.lists.specs.Matching.{matches};
 ghost use Rattle.lists.specs.Values.{alike};
-ghost use Rattle.records.specs.ProgramPart.{shapeOf};
-ghost use Rattle.reading.specs.Cube.{configurationOf};
-ghost use Rattle.contents.specs.Again.{cubeAt};
+ghost use Rattle.program_part.specs.ProgramPart.{shapeOf};
+ghost use Rattle.whole_file.specs.Cube.{configurationOf};
+ghost use Rattle.by_number.specs.Again.{cubeAt};
 ghost use Rattle.summary.specs.Walks.{Left};
 ghost use Rattle.summary.specs.Slots.{headLink, homeOf};
 ghost use Rattle.cover.specs.Places.{isWhole, proper, NoneFree};
@@ -18,12 +18,12 @@ use crate::place::Place;
 use crate::place::first_free;
 use crate::place::is_free;
 use crate::place::is_whole;
-use contents::entry_at;
+use by_number::entry_at;
 use matching::tags_of;
-use reading::entry::Cube;
-use records::program::Shape;
+use program_part::program::Shape;
 use summary::onward;
 use summary::walk_from;
+use whole_file::entry::Cube;
 
 // The place to split at, so far: of the entry with the fewest gaps. `met` if some entry may meet the cube.
 pub(crate) struct Split {

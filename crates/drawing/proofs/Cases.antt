@@ -6,7 +6,7 @@ use Rattle.pws.specs.declared.Step.the-variants.{Take, Serialise, Update}
 use Rattle.drawing.specs.Text.{decimalIn, decimal, letters, nodeLine, edgeLine, nodeLines, edgeLines, text}
 use Rattle.drawing.specs.Parts.{edgeHead}
 use Rattle.drawing.specs.Accepted.{Reading, place}
-use Rattle.drawing.specs.Reading.{has, expectAt, isDigit, isSmall, valueAt, thirdDigit, secondDigit, numberAt, variableAt, pairAt, labelAt, edgeEnd, edgeAt, edgesAt, nodesAt, moreAt, nodesRead, readingOf}
+use Rattle.drawing.specs.Reading.{hasByte, expectAt, isDigit, isSmall, valueAt, thirdDigit, secondDigit, numberAt, variableAt, pairAt, labelAt, edgeEnd, edgeAt, edgesAt, nodesAt, moreAt, nodesRead, readingOf}
 
 -- `t0`, `s01`, `u1`, `t255`
 letters-t0 : letters (Take 0) ≡ 116 ∷ 48 ∷ []
@@ -54,17 +54,17 @@ module _ (l : List ℕ) where
   said = readingOf (beginning ++ (middle ++ l))
 
 leading-zero : said (116 ∷ 48 ∷ 49 ∷ 93 ∷ []) ≡ place 40
-unfolding readingOf nodesRead moreAt nodesAt edgesAt edgeAt edgeEnd labelAt numberAt secondDigit thirdDigit valueAt isDigit expectAt has edgeHead nodeLine decimal decimalIn beginning middle
+unfolding readingOf nodesRead moreAt nodesAt edgesAt edgeAt edgeEnd labelAt numberAt secondDigit thirdDigit valueAt isDigit expectAt hasByte edgeHead nodeLine decimal decimalIn beginning middle
 leading-zero = refl
 
 too-large : said (116 ∷ 50 ∷ 53 ∷ 54 ∷ 93 ∷ []) ≡ place 41
-unfolding readingOf nodesRead moreAt nodesAt edgesAt edgeAt edgeEnd labelAt numberAt secondDigit thirdDigit valueAt isDigit expectAt has edgeHead nodeLine decimal decimalIn beginning middle
+unfolding readingOf nodesRead moreAt nodesAt edgesAt edgeAt edgeEnd labelAt numberAt secondDigit thirdDigit valueAt isDigit expectAt hasByte edgeHead nodeLine decimal decimalIn beginning middle
 too-large = refl
 
 no-variable : said (115 ∷ 48 ∷ 52 ∷ 93 ∷ []) ≡ place 40
-unfolding readingOf nodesRead moreAt nodesAt edgesAt edgeAt edgeEnd labelAt pairAt variableAt valueAt isSmall expectAt has edgeHead nodeLine decimal decimalIn beginning middle
+unfolding readingOf nodesRead moreAt nodesAt edgesAt edgeAt edgeEnd labelAt pairAt variableAt valueAt isSmall expectAt hasByte edgeHead nodeLine decimal decimalIn beginning middle
 no-variable = refl
 
 stops-early : said (116 ∷ 50 ∷ []) ≡ place 40
-unfolding readingOf nodesRead moreAt nodesAt edgesAt edgeAt edgeEnd labelAt numberAt secondDigit thirdDigit valueAt isDigit expectAt has edgeHead nodeLine decimal decimalIn beginning middle
+unfolding readingOf nodesRead moreAt nodesAt edgesAt edgeAt edgeEnd labelAt numberAt secondDigit thirdDigit valueAt isDigit expectAt hasByte edgeHead nodeLine decimal decimalIn beginning middle
 stops-early = refl

@@ -9,7 +9,7 @@ use lib.Dec.{ltb}
 use borrow.Author.Tests.{ltb-false, le-ltb}
 use Rattle.pws.specs.declared.Step.{Step}
 use Rattle.pws.specs.declared.Step.the-variants.{Take}
-use Rattle.records.specs.Bytes.{choose}
+use Rattle.program_part.specs.Bytes.{choose}
 use Rattle.drawing.specs.declared.word.Way.{Way}
 use Rattle.drawing.specs.declared.word.Way.the-variants.{On, Stuck}
 use Rattle.drawing.specs.declared.label.EdgeRead.{EdgeRead}
@@ -18,7 +18,7 @@ use Rattle.drawing.specs.Text.{line, letters, edgeLine, edgeLines}
 use Rattle.drawing.specs.Runs.{StepInRange, AllInRange}
 use Rattle.drawing.specs.Parts.{edgeHead, edgeTail}
 use Rattle.drawing.specs.Accepted.{Reading, run, place}
-use Rattle.drawing.specs.Reading.{has, expectAt, labelAt, wayThen, labelThen, edgeEnd, edgeAt, ending, after, edgesAt}
+use Rattle.drawing.specs.Reading.{hasByte, expectAt, labelAt, wayThen, labelThen, edgeEnd, edgeAt, ending, stepThen, edgesAt}
 use Rattle.drawing.proofs.LineLaws.{edge-parts, edge-length}
 use Rattle.drawing.proofs.WordLaws.{Common, Stands, Agree, word-next, word-was, word-stuck, word-on, stands-then, stands-as, stands-from, common-none, common-more, common-as, stands-common, same-on, same-stuck, same-end}
 use Rattle.drawing.proofs.LabelLaws.{LabelCase, label-is, label-case, label-was, label-stuck, label-on, label-same, label-same-stuck}
@@ -128,7 +128,7 @@ module _ (t : List ℕ) (at k : ℕ) where
       edge-is (whole (word-on t at (edgeHead k) (letters s ++ tail) q) c (word-on t b edgeTail x q'')) ∙ ap (Edge s) p
 
   -- an edge that begins as it should stops no sooner than at its second byte
-  pub edge-past : {p : ℕ} → has t at 99 ≡ true → EdgeCase (NoEdge p) → at + 1 ≤ p
+  pub edge-past : {p : ℕ} → hasByte t at 99 ≡ true → EdgeCase (NoEdge p) → at + 1 ≤ p
   unfolding edgeHead
   edge-past h (noHead {p = p} e) =
       let c = word-stuck t (at + 1) _ p (sym (word-next t at 99 _ h) ∙ e) in omega (arith, c .place)
@@ -157,7 +157,7 @@ fill-range zero = tt
 fill-range (suc n) = (omega arith, fill-range n)
 
 module _ (t : List ℕ) where
-  pub edges-edge : (m at k : ℕ) {s : Step} {a : ℕ} → edgeAt t at k ≡ Edge s a → edgesAt (suc m) t at k ≡ after s (edgesAt m t a (k + 1))
+  pub edges-edge : (m at k : ℕ) {s : Step} {a : ℕ} → edgeAt t at k ≡ Edge s a → edgesAt (suc m) t at k ≡ stepThen s (edgesAt m t a (k + 1))
   unfolding edgesAt
   edges-edge m at k e = rw e
 
@@ -248,7 +248,7 @@ module _ (t : List ℕ) where
       }
 
   were-after : (m at k : ℕ) (ss : List Step) (s : Step) (a : ℕ) → EdgeCase t at k (Edge s a) → (r : Reading)
-      → ((rs : List Step) → r ≡ run rs → EdgesWere m a (k + 1) rs) → after s r ≡ run ss → EdgesWere (suc m) at k ss
+      → ((rs : List Step) → r ≡ run rs → EdgesWere m a (k + 1) rs) → stepThen s r ≡ run ss → EdgesWere (suc m) at k ss
   were-after m at k ss s a c (run rs) ih e =
       let w = edge-was t at k c in subst (EdgesWere (suc m) at k) (run-same e) (edges-join (w .0) (w .1) (ih rs refl))
   were-after m at k ss s a c (place p) ih e = absurd (run-place (sym e))
@@ -290,7 +290,7 @@ module _ (t : List ℕ) where
       }
 
   stuck-after : (m at k p : ℕ) (s : Step) (a : ℕ) → EdgeCase t at k (Edge s a) → (r : Reading)
-      → (r ≡ place p → EdgesViable m a (k + 1) p) → after s r ≡ place p → EdgesViable (suc m) at k p
+      → (r ≡ place p → EdgesViable m a (k + 1) p) → stepThen s r ≡ place p → EdgesViable (suc m) at k p
   stuck-after m at k p s a c (run rs) ih e = absurd (run-place e)
   stuck-after m at k p s a c (place q) ih e = let w = edge-was t at k c in viable-join s (w .0) (w .1) (ih (ap place (place-same e)))
 
@@ -330,13 +330,13 @@ module _ (t : List ℕ) where
       let a : ℕ = at + length (edgeLine k s) in
       let q' = stands-from t at (edgeLine k s) (edgeLines (suc k) ss ++ closing) q in
       edges-edge (length ss) at k (edge-on t at k s (edgeLines (suc k) ss ++ closing) (l .0) q)
-      ∙ ap (λ (j : ℕ). after s (edgesAt (length ss) t a j)) n
-      ∙ ap (after s) (edges-on ss a (suc k) (l .1) q')
+      ∙ ap (λ (j : ℕ). stepThen s (edgesAt (length ss) t a j)) n
+      ∙ ap (stepThen s) (edges-on ss a (suc k) (l .1) q')
 
-  pub edges-past : (m at k p : ℕ) → has t at 99 ≡ true → edgesAt (suc m) t at k ≡ place p → at + 1 ≤ p
+  pub edges-past : (m at k p : ℕ) → hasByte t at 99 ≡ true → edgesAt (suc m) t at k ≡ place p → at + 1 ≤ p
   edges-past m at k p h e = go (edgeAt t at k) (edge-case t at k)
     where
-      inner : (s : Step) (a : ℕ) (r : Reading) → edgesAt m t a (k + 1) ≡ r → after s r ≡ place p → a ≤ p
+      inner : (s : Step) (a : ℕ) (r : Reading) → edgesAt m t a (k + 1) ≡ r → stepThen s r ≡ place p → a ≤ p
       inner s a (run rs) d q = absurd (run-place q)
       inner s a (place q) d f = omega (arith, edges-stuck m a (k + 1) q d .common .place, place-same f)
 
@@ -393,13 +393,13 @@ module _ (t u : List ℕ) (p : ℕ) (same : Agree t u p) where
       go (On a) h e = over a h (ltb a (length t)) refl e
       go (Stuck q) h e = ap (ending u) (same-stuck t u p same at closing (h ∙ ap Stuck (place-same e)))
 
-  same-after : (m at k : ℕ) (s : Step) (a : ℕ) → EdgeCase t at k (Edge s a) → (r : Reading) → edgesAt m t a (k + 1) ≡ r → after s r ≡ place p
+  same-after : (m at k : ℕ) (s : Step) (a : ℕ) → EdgeCase t at k (Edge s a) → (r : Reading) → edgesAt m t a (k + 1) ≡ r → stepThen s r ≡ place p
       → (edgesAt m t a (k + 1) ≡ place p → edgesAt m u a (k + 1) ≡ place p) → edgesAt (suc m) u at k ≡ place p
   same-after m at k s a c (run rs) d e ih = absurd (run-place e)
   same-after m at k s a c (place q) d e ih =
       let d' = d ∙ ap place (place-same e) in
       let v = edges-stuck t m a (k + 1) p d' .common in
-      edges-edge u m at k (edge-same at k c (omega (arith, v .place))) ∙ ap (after s) (ih d')
+      edges-edge u m at k (edge-same at k c (omega (arith, v .place))) ∙ ap (stepThen s) (ih d')
 
   same-next : (m at k : ℕ) (r : EdgeRead) → EdgeCase t at k r → edgesAt (suc m) t at k ≡ place p
       → ((a : ℕ) → edgesAt m t a (k + 1) ≡ place p → edgesAt m u a (k + 1) ≡ place p) → edgesAt (suc m) u at k ≡ place p

@@ -11,12 +11,12 @@ use lib.Dec.{eqb, leb, ltb}
 use borrow.Author.Tests.{leb-true, le-leb, lt-leb, eqb-false, ne-eqb, not-true}
 use Rattle.pws.specs.declared.Step.{Step}
 use Rattle.pws.specs.declared.Step.the-variants.{Take, Serialise, Update}
-use Rattle.records.specs.Bytes.{choose, byte}
+use Rattle.program_part.specs.Bytes.{choose, byte}
 use Rattle.drawing.specs.declared.label.EdgeRead.{EdgeRead}
 use Rattle.drawing.specs.declared.label.EdgeRead.the-variants.{Edge, NoEdge}
 use Rattle.drawing.specs.Text.{digit, decimal, letters}
 use Rattle.drawing.specs.Runs.{StepInRange}
-use Rattle.drawing.specs.Reading.{has, isDigit, isSmall, valueAt, thirdDigit, secondDigit, numberAt, variableAt, pairAt, processAt, labelAt}
+use Rattle.drawing.specs.Reading.{hasByte, isDigit, isSmall, valueAt, thirdDigit, secondDigit, numberAt, variableAt, pairAt, processAt, labelAt}
 use Rattle.drawing.proofs.NumberLaws.{decimal-one, decimal-two, decimal-three}
 use Rattle.drawing.proofs.WordLaws.{both-are, Common, Stands, Agree, head-here, here-has, stands-then, stands-as, stands-byte, common-none, stands-common, same-has, same-byte}
 
@@ -33,21 +33,21 @@ module _ (t : List ℕ) (at : ℕ) where
 
   -- each way that a reading of the letters can go
   pub data LabelCase : EdgeRead → Type 0 where
-    noLetter : has t at 116 ≡ false → has t at 115 ≡ false → has t at 117 ≡ false → LabelCase (NoEdge at)
-    noDigit : has t at 116 ≡ true → isDigit t (at + 1) ≡ false → LabelCase (NoEdge (at + 1))
-    one : has t at 116 ≡ true → isDigit t (at + 1) ≡ true → (not (eqb firstOf 0) && isDigit t (at + 1 + 1)) ≡ false
+    noLetter : hasByte t at 116 ≡ false → hasByte t at 115 ≡ false → hasByte t at 117 ≡ false → LabelCase (NoEdge at)
+    noDigit : hasByte t at 116 ≡ true → isDigit t (at + 1) ≡ false → LabelCase (NoEdge (at + 1))
+    one : hasByte t at 116 ≡ true → isDigit t (at + 1) ≡ true → (not (eqb firstOf 0) && isDigit t (at + 1 + 1)) ≡ false
         → LabelCase (Edge (Take firstOf) (at + 1 + 1))
-    two : has t at 116 ≡ true → isDigit t (at + 1) ≡ true → (not (eqb firstOf 0) && isDigit t (at + 1 + 1)) ≡ true
+    two : hasByte t at 116 ≡ true → isDigit t (at + 1) ≡ true → (not (eqb firstOf 0) && isDigit t (at + 1 + 1)) ≡ true
         → (isDigit t (at + 1 + 1 + 1) && leb threeOf 255) ≡ false → LabelCase (Edge (Take twoOf) (at + 1 + 1 + 1))
-    three : has t at 116 ≡ true → isDigit t (at + 1) ≡ true → (not (eqb firstOf 0) && isDigit t (at + 1 + 1)) ≡ true
+    three : hasByte t at 116 ≡ true → isDigit t (at + 1) ≡ true → (not (eqb firstOf 0) && isDigit t (at + 1 + 1)) ≡ true
         → (isDigit t (at + 1 + 1 + 1) && leb threeOf 255) ≡ true → LabelCase (Edge (Take threeOf) (at + 1 + 1 + 1 + 1))
-    noProcess : has t at 116 ≡ false → has t at 115 ≡ true → isSmall t (at + 1) ≡ false → LabelCase (NoEdge (at + 1))
-    noVariable : has t at 116 ≡ false → has t at 115 ≡ true → isSmall t (at + 1) ≡ true → isSmall t (at + 1 + 1) ≡ false
+    noProcess : hasByte t at 116 ≡ false → hasByte t at 115 ≡ true → isSmall t (at + 1) ≡ false → LabelCase (NoEdge (at + 1))
+    noVariable : hasByte t at 116 ≡ false → hasByte t at 115 ≡ true → isSmall t (at + 1) ≡ true → isSmall t (at + 1 + 1) ≡ false
         → LabelCase (NoEdge (at + 1 + 1))
-    pair : has t at 116 ≡ false → has t at 115 ≡ true → isSmall t (at + 1) ≡ true → isSmall t (at + 1 + 1) ≡ true
+    pair : hasByte t at 116 ≡ false → hasByte t at 115 ≡ true → isSmall t (at + 1) ≡ true → isSmall t (at + 1 + 1) ≡ true
         → LabelCase (Edge (Serialise firstOf (valueAt t (at + 1 + 1))) (at + 1 + 1 + 1))
-    noUpdate : has t at 116 ≡ false → has t at 115 ≡ false → has t at 117 ≡ true → isSmall t (at + 1) ≡ false → LabelCase (NoEdge (at + 1))
-    update : has t at 116 ≡ false → has t at 115 ≡ false → has t at 117 ≡ true → isSmall t (at + 1) ≡ true
+    noUpdate : hasByte t at 116 ≡ false → hasByte t at 115 ≡ false → hasByte t at 117 ≡ true → isSmall t (at + 1) ≡ false → LabelCase (NoEdge (at + 1))
+    update : hasByte t at 116 ≡ false → hasByte t at 115 ≡ false → hasByte t at 117 ≡ true → isSmall t (at + 1) ≡ true
         → LabelCase (Edge (Update firstOf) (at + 1 + 1))
 
   pub label-is : {r : EdgeRead} → LabelCase r → labelAt t at ≡ r
@@ -63,7 +63,7 @@ module _ (t : List ℕ) (at : ℕ) where
   label-is (noUpdate a b c d) = rw (a, b, c, d)
   label-is (update a b c d) = rw (a, b, c, d)
 
-  third-case : has t at 116 ≡ true → isDigit t (at + 1) ≡ true → (not (eqb firstOf 0) && isDigit t (at + 1 + 1)) ≡ true
+  third-case : hasByte t at 116 ≡ true → isDigit t (at + 1) ≡ true → (not (eqb firstOf 0) && isDigit t (at + 1 + 1)) ≡ true
       → LabelCase (thirdDigit t (at + 1 + 1 + 1) twoOf)
   unfolding thirdDigit
   third-case a b c = go (isDigit t (at + 1 + 1 + 1) && leb threeOf 255) refl
@@ -73,7 +73,7 @@ module _ (t : List ℕ) (at : ℕ) where
       go true d = three a b c d
       go false d = two a b c d
 
-  second-case : has t at 116 ≡ true → isDigit t (at + 1) ≡ true → LabelCase (secondDigit t (at + 1 + 1) firstOf)
+  second-case : hasByte t at 116 ≡ true → isDigit t (at + 1) ≡ true → LabelCase (secondDigit t (at + 1 + 1) firstOf)
   unfolding secondDigit
   second-case a b = go (not (eqb firstOf 0) && isDigit t (at + 1 + 1)) refl
     where
@@ -82,7 +82,7 @@ module _ (t : List ℕ) (at : ℕ) where
       go true d = third-case a b d
       go false d = one a b d
 
-  number-case : has t at 116 ≡ true → LabelCase (numberAt t (at + 1))
+  number-case : hasByte t at 116 ≡ true → LabelCase (numberAt t (at + 1))
   unfolding numberAt
   number-case a = go (isDigit t (at + 1)) refl
     where
@@ -90,7 +90,7 @@ module _ (t : List ℕ) (at : ℕ) where
       go true d = second-case a d
       go false d = noDigit a d
 
-  variable-case : has t at 116 ≡ false → has t at 115 ≡ true → isSmall t (at + 1) ≡ true → LabelCase (variableAt t (at + 1 + 1) firstOf)
+  variable-case : hasByte t at 116 ≡ false → hasByte t at 115 ≡ true → isSmall t (at + 1) ≡ true → LabelCase (variableAt t (at + 1 + 1) firstOf)
   unfolding variableAt
   variable-case a b c = go (isSmall t (at + 1 + 1)) refl
     where
@@ -99,7 +99,7 @@ module _ (t : List ℕ) (at : ℕ) where
       go true d = pair a b c d
       go false d = noVariable a b c d
 
-  pair-case : has t at 116 ≡ false → has t at 115 ≡ true → LabelCase (pairAt t (at + 1))
+  pair-case : hasByte t at 116 ≡ false → hasByte t at 115 ≡ true → LabelCase (pairAt t (at + 1))
   unfolding pairAt
   pair-case a b = go (isSmall t (at + 1)) refl
     where
@@ -107,7 +107,7 @@ module _ (t : List ℕ) (at : ℕ) where
       go true d = variable-case a b d
       go false d = noProcess a b d
 
-  process-case : has t at 116 ≡ false → has t at 115 ≡ false → has t at 117 ≡ true → LabelCase (processAt t (at + 1))
+  process-case : hasByte t at 116 ≡ false → hasByte t at 115 ≡ false → hasByte t at 117 ≡ true → LabelCase (processAt t (at + 1))
   unfolding processAt
   process-case a b c = go (isSmall t (at + 1)) refl
     where
@@ -117,24 +117,24 @@ module _ (t : List ℕ) (at : ℕ) where
 
   pub label-case : LabelCase (labelAt t at)
   unfolding labelAt
-  label-case = first (has t at 116) refl
+  label-case = first (hasByte t at 116) refl
     where
-      third : has t at 116 ≡ false → has t at 115 ≡ false → (x : Bool) → has t at 117 ≡ x
+      third : hasByte t at 116 ≡ false → hasByte t at 115 ≡ false → (x : Bool) → hasByte t at 117 ≡ x
           → LabelCase (choose x (λ _. processAt t (at + 1)) (λ _. NoEdge at))
       third a b true c = process-case a b c
       third a b false c = noLetter a b c
 
-      second : has t at 116 ≡ false → (x : Bool) → has t at 115 ≡ x
-          → LabelCase (choose x (λ _. pairAt t (at + 1)) (λ _. choose (has t at 117) (λ _. processAt t (at + 1)) (λ _. NoEdge at)))
+      second : hasByte t at 116 ≡ false → (x : Bool) → hasByte t at 115 ≡ x
+          → LabelCase (choose x (λ _. pairAt t (at + 1)) (λ _. choose (hasByte t at 117) (λ _. processAt t (at + 1)) (λ _. NoEdge at)))
       second a true b = pair-case a b
-      second a false b = third a b (has t at 117) refl
+      second a false b = third a b (hasByte t at 117) refl
 
-      first : (x : Bool) → has t at 116 ≡ x
+      first : (x : Bool) → hasByte t at 116 ≡ x
           → LabelCase
           (choose x (λ _. numberAt t (at + 1))
-          (λ _. choose (has t at 115) (λ _. pairAt t (at + 1)) (λ _. choose (has t at 117) (λ _. processAt t (at + 1)) (λ _. NoEdge at))))
+          (λ _. choose (hasByte t at 115) (λ _. pairAt t (at + 1)) (λ _. choose (hasByte t at 117) (λ _. processAt t (at + 1)) (λ _. NoEdge at))))
       first true a = number-case a
-      first false a = second a (has t at 115) refl
+      first false a = second a (hasByte t at 115) refl
 
 -- ---- digits
 
@@ -342,8 +342,8 @@ module _ (t : List ℕ) (at : ℕ) where
       both-hold : {a b : Bool} → a ≡ true → b ≡ true → (a && b) ≡ true
       both-hold {a} {b} p q = ap (λ (x : Bool). x && b) p ∙ q
 
-  pub other-letter : (c d : ℕ) (x : List ℕ) → (c ≡ d → ⊥) → drop at t ≡ c ∷ x → has t at d ≡ false
-  unfolding has
+  pub other-letter : (c d : ℕ) (x : List ℕ) → (c ≡ d → ⊥) → drop at t ≡ c ∷ x → hasByte t at d ≡ false
+  unfolding hasByte
   other-letter c d x n e = let h = head-here t at c x e in rw (ne-eqb (byte t at) d (λ q. n (sym (h .1) ∙ q))) (and-false t (ltb at (length t)))
 
   pub label-on : (s : Step) (x : List ℕ) → StepInRange s → drop at t ≡ letters s ++ (93 ∷ x) → labelAt t at ≡ Edge s (at + length (letters s))
@@ -385,7 +385,7 @@ module _ (t u : List ℕ) (k : ℕ) (same : Agree t u k) (at : ℕ) where
   unfolding valueAt
   same-value i l = rw (same-byte t u k same i l)
 
-  letter : (c : ℕ) {b : Bool} → at ≤ k → has t at c ≡ b → has u at c ≡ b
+  letter : (c : ℕ) {b : Bool} → at ≤ k → hasByte t at c ≡ b → hasByte u at c ≡ b
   letter c l e = sym (same-has t u k same at c l) ∙ e
 
   digit-too : (i : ℕ) {b : Bool} → i ≤ k → isDigit t i ≡ b → isDigit u i ≡ b

@@ -6,9 +6,9 @@ use native.Mathlib.Omega.{arith}
 use lib.ListN.{length, length-append}
 use Rattle.pws.specs.declared.Step.{Step}
 use Rattle.pws.specs.declared.Step.the-variants.{Take, Serialise, Update}
-use Rattle.records.specs.Records.{stepBody, stepAt}
-use Rattle.reading.specs.EvidencePart.{stepsOf}
-use Rattle.drawing.specs.Text.{decimalIn, decimal, letters, name, line, opening, arrow, labelled, nodeLine, edgeLine, nodeLines, edgeLines, text}
+use Rattle.program_part.specs.Records.{stepBody, stepAt}
+use Rattle.whole_file.specs.EvidencePart.{stepsOf}
+use Rattle.drawing.specs.Text.{decimalIn, decimal, letters, name, line, opening, arrow, labelOpening, nodeLine, edgeLine, nodeLines, edgeLines, text}
 use Rattle.drawing.specs.Runs.{StepInRange}
 use Rattle.drawing.specs.Parts.{edgeHead, edgeTail, FineFrom, AllFine}
 use Rattle.drawing.proofs.NumberLaws.{decimal-short}
@@ -23,15 +23,15 @@ node-length k = omega (arith, ap length (node-parts k), length-append (decimal k
 pub head-length : (k : ℕ) → length (edgeHead k) ≡ 14 + (length (decimal k) + length (decimal (suc k)))
 unfolding edgeHead
 head-length k =
-    omega (arith, length-append (decimal k) (arrow ++ (name (suc k) ++ labelled)), length-append (decimal (suc k)) labelled)
+    omega (arith, length-append (decimal k) (arrow ++ (name (suc k) ++ labelOpening)), length-append (decimal (suc k)) labelOpening)
 
-pub head-parts : (k : ℕ) → (((((99 ∷ []) ++ decimal k) ++ (32 ∷ 45 ∷ 62 ∷ 32 ∷ 99 ∷ [])) ++ decimal (k + 1)) ++ labelled) ≡ edgeHead k
+pub head-parts : (k : ℕ) → (((((99 ∷ []) ++ decimal k) ++ (32 ∷ 45 ∷ 62 ∷ 32 ∷ 99 ∷ [])) ++ decimal (k + 1)) ++ labelOpening) ≡ edgeHead k
 unfolding edgeHead
 head-parts k =
     let e : k + 1 ≡ suc k = omega arith in
-    append-assoc ((99 ∷ decimal k) ++ (32 ∷ 45 ∷ 62 ∷ 32 ∷ 99 ∷ [])) (decimal (k + 1)) labelled
-    ∙ append-assoc (99 ∷ decimal k) (32 ∷ 45 ∷ 62 ∷ 32 ∷ 99 ∷ []) (decimal (k + 1) ++ labelled)
-    ∙ ap (λ (m : ℕ). name k ++ (arrow ++ (name m ++ labelled))) e
+    append-assoc ((99 ∷ decimal k) ++ (32 ∷ 45 ∷ 62 ∷ 32 ∷ 99 ∷ [])) (decimal (k + 1)) labelOpening
+    ∙ append-assoc (99 ∷ decimal k) (32 ∷ 45 ∷ 62 ∷ 32 ∷ 99 ∷ []) (decimal (k + 1) ++ labelOpening)
+    ∙ ap (λ (m : ℕ). name k ++ (arrow ++ (name m ++ labelOpening))) e
 
 pub edge-parts : (k : ℕ) (s : Step) → edgeLine k s ≡ edgeHead k ++ (letters s ++ edgeTail)
 unfolding edgeLine edgeHead

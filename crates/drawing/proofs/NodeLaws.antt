@@ -5,14 +5,14 @@ use mathlib.Core.Bool.{Bool, true, false}
 use mathlib.Core.List.{List, [], _∷_, _++_, append-assoc}
 use native.Mathlib.Omega.{arith}
 use lib.ListN.{length, drop, length-append}
-use Rattle.records.specs.Bytes.{choose}
+use Rattle.program_part.specs.Bytes.{choose}
 use Rattle.drawing.specs.declared.word.Way.{Way}
 use Rattle.drawing.specs.declared.word.Way.the-variants.{On, Stuck}
 use Rattle.drawing.specs.declared.read.NodesRead.{NodesRead}
 use Rattle.drawing.specs.declared.read.NodesRead.the-variants.{Nodes, NoNodes}
 use Rattle.drawing.specs.Text.{digit, decimal, nodeLine, nodeLines}
 use Rattle.drawing.specs.Accepted.{place}
-use Rattle.drawing.specs.Reading.{has, expectAt, edgesAt, nodesThen, nodesAt}
+use Rattle.drawing.specs.Reading.{hasByte, expectAt, edgesAt, nodesThen, nodesAt}
 use Rattle.drawing.proofs.NumberLaws.{leading}
 use Rattle.drawing.proofs.LineLaws.{node-parts, node-length}
 use Rattle.drawing.proofs.WordLaws.{Common, Stands, Agree, head-here, here-has, word-was, word-stuck, word-on, word-next, stands-none, stands-then, stands-as, stands-from, common-none, common-more, common-as, stands-common, same-has, same-stuck}
@@ -31,10 +31,10 @@ no-nodes-same e = cc
 -- each way that the next line can go
 module _ (t : List ℕ) (left at n : ℕ) where
   pub data NodesCase : NodesRead → Type 0 where
-    other : has t at 99 ≡ false → NodesCase (NoNodes at)
-    edges : has t at 99 ≡ true → has t (at + 1) 48 ≡ true → NodesCase (Nodes n at)
-    broken : {p : ℕ} → has t at 99 ≡ true → has t (at + 1) 48 ≡ false → expectAt t at (nodeLine (n + 1)) ≡ Stuck p → NodesCase (NoNodes p)
-    next : {a : ℕ} → has t at 99 ≡ true → has t (at + 1) 48 ≡ false → expectAt t at (nodeLine (n + 1)) ≡ On a
+    other : hasByte t at 99 ≡ false → NodesCase (NoNodes at)
+    edges : hasByte t at 99 ≡ true → hasByte t (at + 1) 48 ≡ true → NodesCase (Nodes n at)
+    broken : {p : ℕ} → hasByte t at 99 ≡ true → hasByte t (at + 1) 48 ≡ false → expectAt t at (nodeLine (n + 1)) ≡ Stuck p → NodesCase (NoNodes p)
+    next : {a : ℕ} → hasByte t at 99 ≡ true → hasByte t (at + 1) 48 ≡ false → expectAt t at (nodeLine (n + 1)) ≡ On a
         → NodesCase (nodesAt left t a (n + 1))
 
   pub nodes-is : {r : NodesRead} → NodesCase r → nodesAt (suc left) t at n ≡ r
@@ -46,24 +46,24 @@ module _ (t : List ℕ) (left at n : ℕ) where
 
   pub nodes-case : NodesCase (nodesAt (suc left) t at n)
   unfolding nodesAt
-  nodes-case = first (has t at 99) refl
+  nodes-case = first (hasByte t at 99) refl
     where
-      third : has t at 99 ≡ true → has t (at + 1) 48 ≡ false → (x : Way) → expectAt t at (nodeLine (n + 1)) ≡ x
+      third : hasByte t at 99 ≡ true → hasByte t (at + 1) 48 ≡ false → (x : Way) → expectAt t at (nodeLine (n + 1)) ≡ x
           → NodesCase (nodesThen x (λ a. nodesAt left t a (n + 1)))
       third a b (On c) e = next a b e
       third a b (Stuck p) e = broken a b e
 
-      second : has t at 99 ≡ true → (x : Bool) → has t (at + 1) 48 ≡ x
+      second : hasByte t at 99 ≡ true → (x : Bool) → hasByte t (at + 1) 48 ≡ x
           → NodesCase (choose x (λ _. Nodes n at) (λ _. nodesThen (expectAt t at (nodeLine (n + 1))) (λ a. nodesAt left t a (n + 1))))
       second a true b = edges a b
       second a false b = third a b (expectAt t at (nodeLine (n + 1))) refl
 
-      first : (x : Bool) → has t at 99 ≡ x
+      first : (x : Bool) → hasByte t at 99 ≡ x
           → NodesCase
           (choose x
-          (λ _. choose (has t (at + 1) 48) (λ _. Nodes n at) (λ _. nodesThen (expectAt t at (nodeLine (n + 1))) (λ a. nodesAt left t a (n + 1))))
+          (λ _. choose (hasByte t (at + 1) 48) (λ _. Nodes n at) (λ _. nodesThen (expectAt t at (nodeLine (n + 1))) (λ a. nodesAt left t a (n + 1))))
           (λ _. NoNodes at))
-      first true a = second a (has t (at + 1) 48) refl
+      first true a = second a (hasByte t (at + 1) 48) refl
       first false a = other a
 
 module _ (t : List ℕ) where
@@ -144,7 +144,7 @@ module _ (t : List ℕ) where
 
   -- ---- nodes that stand there are read
 
-  pub node-first : (at k : ℕ) (x : List ℕ) → 1 ≤ k → k < 10000 → drop at t ≡ nodeLine k ++ x → (has t at 99 ≡ true) × (has t (at + 1) 48 ≡ false)
+  pub node-first : (at k : ℕ) (x : List ℕ) → 1 ≤ k → k < 10000 → drop at t ≡ nodeLine k ++ x → (hasByte t at 99 ≡ true) × (hasByte t (at + 1) 48 ≡ false)
   node-first at k x z l e =
       let d = leading k z l in
       let q : drop at t ≡ 99 ∷ digit (d .first) ∷ ((d .rest ++ (59 ∷ 10 ∷ [])) ++ x) =
@@ -186,7 +186,7 @@ module _ (t : List ℕ) where
 -- ---- the same bytes, the same nodes
 
 module _ (t u : List ℕ) (p : ℕ) (same : Agree t u p) where
-  bytes-too : (i c : ℕ) {b : Bool} → i ≤ p → has t i c ≡ b → has u i c ≡ b
+  bytes-too : (i c : ℕ) {b : Bool} → i ≤ p → hasByte t i c ≡ b → hasByte u i c ≡ b
   bytes-too i c l e = sym (same-has t u p same i c l) ∙ e
 
   same-stuck-step : (left at n : ℕ) (r : NodesRead) → NodesCase t left at n r → r ≡ NoNodes p
@@ -201,7 +201,7 @@ module _ (t u : List ℕ) (p : ℕ) (same : Agree t u p) where
       nodes-is u left at n
       (broken (bytes-too at 99 (omega arith) h) (bytes-too (at + 1) 48 (omega arith) i) (same-stuck t u p same at (nodeLine (n + 1)) j'))
     where
-      past-first : (at n q : ℕ) → has t at 99 ≡ true → expectAt t at (nodeLine (n + 1)) ≡ Stuck q → at + 1 ≤ q
+      past-first : (at n q : ℕ) → hasByte t at 99 ≡ true → expectAt t at (nodeLine (n + 1)) ≡ Stuck q → at + 1 ≤ q
       past-first at n q h j =
           let w : List ℕ = decimal (n + 1) ++ (59 ∷ 10 ∷ []) in
           let e = sym (word-next t at 99 w h) ∙ ap (expectAt t at) (sym (node-parts (n + 1))) ∙ j in
@@ -227,7 +227,7 @@ module _ (t u : List ℕ) (p : ℕ) (same : Agree t u p) where
   same-step left at n count a r (edges h i) e z f ih =
       let d = nodes-same e in
       let m : count ≡ suc (count - 1) = omega (arith, d .0) in
-      let h' : has t a 99 ≡ true = subst (λ (x : ℕ). has t x 99 ≡ true) (d .1) h in
+      let h' : hasByte t a 99 ≡ true = subst (λ (x : ℕ). hasByte t x 99 ≡ true) (d .1) h in
       let l = edges-past t (count - 1) a 0 p h' (ap (λ (x : ℕ). edgesAt x t a 0) (sym m) ∙ f) in
       nodes-is u left at n (edges (bytes-too at 99 (omega (arith, d .1)) h) (bytes-too (at + 1) 48 (omega (arith, d .1)) i)) ∙ e
   same-step left at n count a r (broken h i j) e z f ih = absurd (nodes-not (sym e))

@@ -9,15 +9,15 @@ use lib.ListN.{length, take, drop, length-append, take-append-drop, List·getD-a
 use lib.Seq.{take-at, take-take, getD-take, length-take-le}
 use borrow.Author.Tests.{lt-ltb}
 use Rattle.pws.specs.declared.Step.{Step}
-use Rattle.records.specs.Bytes.{choose, byte}
+use Rattle.program_part.specs.Bytes.{choose, byte}
 use Rattle.drawing.specs.declared.word.Way.{Way}
 use Rattle.drawing.specs.declared.word.Way.the-variants.{On, Stuck}
 use Rattle.drawing.specs.declared.read.NodesRead.{NodesRead}
 use Rattle.drawing.specs.declared.read.NodesRead.the-variants.{Nodes, NoNodes}
-use Rattle.drawing.specs.Text.{letters, name, arrow, labelled, line, opening, nodeLine, nodeLines, edgeLine, edgeLines, text}
+use Rattle.drawing.specs.Text.{letters, name, arrow, labelOpening, line, opening, nodeLine, nodeLines, edgeLine, edgeLines, text}
 use Rattle.drawing.specs.Runs.{Run}
 use Rattle.drawing.specs.Accepted.{Accepted, Begins, Place, Reading, run, place, Means}
-use Rattle.drawing.specs.Reading.{has, expectAt, edgesAt, nodesThen, nodesAt, moreAt, nodesRead, edgesFrom, readingOf}
+use Rattle.drawing.specs.Reading.{hasByte, expectAt, edgesAt, nodesThen, nodesAt, moreAt, nodesRead, edgesFrom, readingOf}
 use Rattle.drawing.proofs.NumberLaws.{decimal-zero}
 use Rattle.drawing.proofs.LineLaws.{node-parts}
 use Rattle.drawing.proofs.WordLaws.{Common, Stands, Agree, here-has, word-was, word-stuck, word-on, stands-none, stands-then, stands-as, stands-from, common-more, common-as, stands-common, same-has, same-stuck}
@@ -29,13 +29,13 @@ use Rattle.drawing.proofs.NodeLaws.{nodes-same, nodes-not, no-nodes-sam
 
 -- an edge's line after its first name, without the line feed
 edgeRest : Step → List ℕ
-edgeRest s = arrow ++ (name 1 ++ (labelled ++ (letters s ++ (93 ∷ 59 ∷ []))))
+edgeRest s = arrow ++ (name 1 ++ (labelOpening ++ (letters s ++ (93 ∷ 59 ∷ []))))
 
 module _ (t : List ℕ) (at : ℕ) where
   data MoreCase : NodesRead → Type 0 where
-    done : has t at 125 ≡ true → MoreCase (Nodes 0 at)
-    broken : {p : ℕ} → has t at 125 ≡ false → expectAt t at (nodeLine 1) ≡ Stuck p → MoreCase (NoNodes p)
-    next : {a : ℕ} → has t at 125 ≡ false → expectAt t at (nodeLine 1) ≡ On a → MoreCase (nodesAt 1023 t a 1)
+    done : hasByte t at 125 ≡ true → MoreCase (Nodes 0 at)
+    broken : {p : ℕ} → hasByte t at 125 ≡ false → expectAt t at (nodeLine 1) ≡ Stuck p → MoreCase (NoNodes p)
+    next : {a : ℕ} → hasByte t at 125 ≡ false → expectAt t at (nodeLine 1) ≡ On a → MoreCase (nodesAt 1023 t a 1)
 
   more-is : {r : NodesRead} → MoreCase r → moreAt t at ≡ r
   unfolding moreAt
@@ -45,13 +45,13 @@ module _ (t : List ℕ) (at : ℕ) where
 
   more-case : MoreCase (moreAt t at)
   unfolding moreAt
-  more-case = first (has t at 125) refl
+  more-case = first (hasByte t at 125) refl
     where
-      second : has t at 125 ≡ false → (x : Way) → expectAt t at (nodeLine 1) ≡ x → MoreCase (nodesThen x (λ a. nodesAt 1023 t a 1))
+      second : hasByte t at 125 ≡ false → (x : Way) → expectAt t at (nodeLine 1) ≡ x → MoreCase (nodesThen x (λ a. nodesAt 1023 t a 1))
       second a (On b) e = next a e
       second a (Stuck p) e = broken a e
 
-      first : (x : Bool) → has t at 125 ≡ x
+      first : (x : Bool) → hasByte t at 125 ≡ x
           → MoreCase (choose x (λ _. Nodes 0 at) (λ _. nodesThen (expectAt t at (nodeLine 1)) (λ a. nodesAt 1023 t a 1)))
       first true a = done a
       first false a = second a (expectAt t at (nodeLine 1)) refl
@@ -133,7 +133,7 @@ module _ (t : List ℕ) (at : ℕ) where
       let q' : drop a t ≡ nodeLines 2 n ++ (99 ∷ 48 ∷ f .rest) =
       stands-from t at (nodeLine 1) (nodeLines 2 n ++ x) q ∙ ap (λ (w : List ℕ). nodeLines 2 n ++ w) (f .is)
       in
-      let o : has t at 125 ≡ false =
+      let o : hasByte t at 125 ≡ false =
       other-letter t at 99 125 _ (λ z. omega arith) (q ∙ ap (λ (w : List ℕ). w ++ (nodeLines 2 n ++ x)) (node-parts 1))
       in
       let c : 1 + n ≡ suc n = omega arith in

@@ -5,8 +5,8 @@ use mathlib.Core.List.{List, [], _∷_, _++_, append-assoc}
 use native.Mathlib.Omega.{arith}
 use lib.ListN.{length, length-append}
 use Rattle.pws.specs.declared.Step.{Step}
-use Rattle.records.specs.Records.{stepBody, stepAt}
-use Rattle.reading.specs.EvidencePart.{stepsOf}
+use Rattle.program_part.specs.Records.{stepBody, stepAt}
+use Rattle.whole_file.specs.EvidencePart.{stepsOf}
 use Rattle.drawing.specs.Text.{nodeLine, edgeLine, nodeLines, edgeLines}
 use Rattle.drawing.specs.Runs.{StepInRange}
 use Rattle.drawing.specs.Parts.{Put, FineFrom, AllFine}

@@ -15,7 +15,7 @@ use Rattle.drawing.specs.Text.{nodeLine}
 use Rattle.drawing.specs.Runs.{StepInRange, recordOf, recordsOf}
 use Rattle.drawing.specs.Parts.{placed, Put, edgeHead}
 use Rattle.drawing.specs.Accepted.{Reading, run, place}
-use Rattle.drawing.specs.Reading.{has, expectAt, edgeAt, after, edgesAt, nodesAt, sizeAfter, endSize, stepsIn, Readable}
+use Rattle.drawing.specs.Reading.{hasByte, expectAt, edgeAt, stepThen, edgesAt, nodesAt, sizeAfter, endSize, stepsIn, Readable}
 use Rattle.drawing.proofs.WordLaws.{word-was, stands-within}
 use Rattle.drawing.proofs.EdgeLaws.{run-place, run-same, closing, EdgeCase, edge-case, edge-was, edges-edge, edges-none, edges-end, edges-were}
 use Rattle.drawing.proofs.NodeLaws.{other, edges, broken, next, nodes-is}
@@ -32,7 +32,7 @@ record-short (Update p) = omega arith
 
 -- ---- the size
 
-size-after : (n : ℕ) (s : Step) (r : Reading) → sizeAfter n (after s r) ≡ sizeAfter (n + length (recordOf s)) r
+size-after : (n : ℕ) (s : Step) (r : Reading) → sizeAfter n (stepThen s r) ≡ sizeAfter (n + length (recordOf s)) r
 unfolding recordsOf
 size-after n s (run ss) =
     let e : n + length (recordOf s ++ recordsOf ss) ≡ n + length (recordOf s) + length (recordsOf ss) = omega (arith, length-append (recordOf s) (recordsOf ss)) in
@@ -78,7 +78,7 @@ module _ {t : List ℕ} {start n at total k : ℕ} (p : Sizing t start n at tota
 
 -- ---- the records
 
-after-run : (s : Step) (r : Reading) (ss : List Step) → after s r ≡ run ss → (r ≡ run (stepsIn r)) × (ss ≡ s ∷ stepsIn r)
+after-run : (s : Step) (r : Reading) (ss : List Step) → stepThen s r ≡ run ss → (r ≡ run (stepsIn r)) × (ss ≡ s ∷ stepsIn r)
 after-run s (run rs) ss e = (refl, sym (run-same e))
 after-run s (place p) ss e = absurd (run-place (sym e))
 
@@ -160,17 +160,17 @@ module _ {t : List ℕ} {start at n : ℕ} (p : Scanning t start at n) (l : n < 
   scan-one : nodesAt (suc (1024 - (n + 1))) t at n ≡ nodesAt 1023 t start 1
   scan-one = let z : suc (1024 - (n + 1)) ≡ 1024 - n = omega arith in ap (λ (m : ℕ). nodesAt m t at n) z ∙ p .same
 
-  pub scan-other : has t at 99 ≡ false → NoNodes at ≡ nodesAt 1023 t start 1
+  pub scan-other : hasByte t at 99 ≡ false → NoNodes at ≡ nodesAt 1023 t start 1
   scan-other h = sym (nodes-is t (1024 - (n + 1)) at n (other h)) ∙ scan-one
 
-  pub scan-edges : has t at 99 ≡ true → has t (at + 1) 48 ≡ true → Nodes n at ≡ nodesAt 1023 t start 1
+  pub scan-edges : hasByte t at 99 ≡ true → hasByte t (at + 1) 48 ≡ true → Nodes n at ≡ nodesAt 1023 t start 1
   scan-edges h i = sym (nodes-is t (1024 - (n + 1)) at n (edges h i)) ∙ scan-one
 
-  pub scan-broken : (q : ℕ) → has t at 99 ≡ true → has t (at + 1) 48 ≡ false → expectAt t at (nodeLine (n + 1)) ≡ Stuck q
+  pub scan-broken : (q : ℕ) → hasByte t at 99 ≡ true → hasByte t (at + 1) 48 ≡ false → expectAt t at (nodeLine (n + 1)) ≡ Stuck q
       → NoNodes q ≡ nodesAt 1023 t start 1
   scan-broken q h i j = sym (nodes-is t (1024 - (n + 1)) at n (broken h i j)) ∙ scan-one
 
-  pub scan-next : (a : ℕ) → has t at 99 ≡ true → has t (at + 1) 48 ≡ false → expectAt t at (nodeLine (n + 1)) ≡ On a → Scanning t start a (n + 1)
+  pub scan-next : (a : ℕ) → hasByte t at 99 ≡ true → hasByte t (at + 1) 48 ≡ false → expectAt t at (nodeLine (n + 1)) ≡ On a → Scanning t start a (n + 1)
   scan-next a h i j =
       record { some = omega arith; most = omega arith; same = sym (nodes-is t (1024 - (n + 1)) at n (next h i j)) ∙ scan-one }
 

@@ -8,10 +8,10 @@ use lib.ListN.{length, getD, drop, length-append, length-drop, drop-of-length-le
 use lib.Seq.{drop-cons, getD-drop, drop-drop, drop-at}
 use lib.Dec.{eqb, ltb}
 use borrow.Author.Tests.{ltb-true, eqb-true, lt-ltb, eq-eqb}
-use Rattle.records.specs.Bytes.{byte}
+use Rattle.program_part.specs.Bytes.{byte}
 use Rattle.drawing.specs.declared.word.Way.{Way}
 use Rattle.drawing.specs.declared.word.Way.the-variants.{On, Stuck}
-use Rattle.drawing.specs.Reading.{has, expectAt}
+use Rattle.drawing.specs.Reading.{hasByte, expectAt}
 
 pub false-true : _≡_ {A = Bool} false true → ⊥
 false-true e = let z : _≡_ {A = ℕ} 0 1 = ap (λ (b : Bool). cond b 1 0) e in omega arith
@@ -51,8 +51,8 @@ Agree t u k = (i : ℕ) → i ≤ k → (ltb i (length t) ≡ ltb i (length u)) 
 module _ (t : List ℕ) where
   -- ---- one byte
 
-  pub has-is : (at c : ℕ) → has t at c ≡ true → (at < length t) × (byte t at ≡ c)
-  unfolding has
+  pub has-is : (at c : ℕ) → hasByte t at c ≡ true → (at < length t) × (byte t at ≡ c)
+  unfolding hasByte
   has-is at c e =
       let d = both-are (ltb at (length t)) (eqb (byte t at) c) e in
       (ltb-true at (length t) (d .0), eqb-true (byte t at) c (d .1))
@@ -64,13 +64,13 @@ module _ (t : List ℕ) where
       let b : byte t at ≡ c = sym (getD-drop at t 0 0 ∙ ap (λ (i : ℕ). getD t i 0) z) ∙ ap (λ (y : List ℕ). getD y 0 0) e in
       (omega arith, b, sym (drop-drop 1 at t) ∙ ap (drop 1) e)
 
-  pub here-has : (at c : ℕ) (x : List ℕ) → drop at t ≡ c ∷ x → has t at c ≡ true
-  unfolding has
+  pub here-has : (at c : ℕ) (x : List ℕ) → drop at t ≡ c ∷ x → hasByte t at c ≡ true
+  unfolding hasByte
   here-has at c x e =
       let h = head-here at c x e in
       rw (lt-ltb at (length t) (h .0), eq-eqb (byte t at) c (h .1))
 
-  pub has-here : (at c : ℕ) → has t at c ≡ true → drop at t ≡ c ∷ drop (at + 1) t
+  pub has-here : (at c : ℕ) → hasByte t at c ≡ true → drop at t ≡ c ∷ drop (at + 1) t
   has-here at c e =
       let h = has-is at c e in
       let s : suc at ≡ at + 1 = omega arith in
@@ -78,11 +78,11 @@ module _ (t : List ℕ) where
 
   -- ---- a word
 
-  pub word-next : (at c : ℕ) (w : List ℕ) → has t at c ≡ true → expectAt t at (c ∷ w) ≡ expectAt t (at + 1) w
+  pub word-next : (at c : ℕ) (w : List ℕ) → hasByte t at c ≡ true → expectAt t at (c ∷ w) ≡ expectAt t (at + 1) w
   unfolding expectAt
   word-next at c w e = rw e
 
-  pub word-none : (at c : ℕ) (w : List ℕ) → has t at c ≡ false → expectAt t at (c ∷ w) ≡ Stuck at
+  pub word-none : (at c : ℕ) (w : List ℕ) → hasByte t at c ≡ false → expectAt t at (c ∷ w) ≡ Stuck at
   unfolding expectAt
   word-none at c w e = rw e
 
@@ -99,7 +99,7 @@ module _ (t : List ℕ) where
   pub stands-as : {at a : ℕ} {w v : List ℕ} → Stands t at a w → w ≡ v → Stands t at a v
   stands-as {at} {a} p e = subst (Stands t at a) e p
 
-  pub stands-byte : (at c : ℕ) → has t at c ≡ true → Stands t at (at + 1) (c ∷ [])
+  pub stands-byte : (at c : ℕ) → hasByte t at c ≡ true → Stands t at (at + 1) (c ∷ [])
   stands-byte at c e = record { next = refl; here = has-here at c e }
 
   pub stands-from : (at : ℕ) (w x : List ℕ) → drop at t ≡ w ++ x → drop (at + length w) t ≡ x
@@ -142,9 +142,9 @@ module _ (t : List ℕ) where
     where
       nothing : On at ≡ expectAt t at []
       nothing = unfold expectAt in refl
-  word-was at (c ∷ w) a e = go (has t at c) refl (word-was (at + 1) w a)
+  word-was at (c ∷ w) a e = go (hasByte t at c) refl (word-was (at + 1) w a)
     where
-      go : (b : Bool) → has t at c ≡ b → (expectAt t (at + 1) w ≡ On a → Stands t (at + 1) a w) → Stands t at a (c ∷ w)
+      go : (b : Bool) → hasByte t at c ≡ b → (expectAt t (at + 1) w ≡ On a → Stands t (at + 1) a w) → Stands t at a (c ∷ w)
       go true h ih = stands-then (stands-byte at c h) (ih (sym (word-next at c w h) ∙ e))
       go false h ih = absurd (on-stuck (sym e ∙ word-none at c w h))
 
@@ -153,9 +153,9 @@ module _ (t : List ℕ) where
     where
       nothing : On at ≡ expectAt t at []
       nothing = unfold expectAt in refl
-  word-stuck at (c ∷ w) k e = go (has t at c) refl (word-stuck (at + 1) w k)
+  word-stuck at (c ∷ w) k e = go (hasByte t at c) refl (word-stuck (at + 1) w k)
     where
-      go : (b : Bool) → has t at c ≡ b → (expectAt t (at + 1) w ≡ Stuck k → Common t (at + 1) k w) → Common t at k (c ∷ w)
+      go : (b : Bool) → hasByte t at c ≡ b → (expectAt t (at + 1) w ≡ Stuck k → Common t (at + 1) k w) → Common t at k (c ∷ w)
       go true h ih = stands-common (stands-byte at c h) (ih (sym (word-next at c w h) ∙ e))
       go false h ih = subst (λ (p : ℕ). Common t at p (c ∷ w)) (stuck-same (sym (word-none at c w h) ∙ e)) (common-none at (c ∷ w))
 
@@ -176,14 +176,14 @@ module _ {t : List ℕ} {start : ℕ} {word : List ℕ} {at i : ℕ} (p : Expect
   next-here : i < length word → drop i word ≡ byte word i ∷ drop (i + 1) word
   next-here l = let s : suc i ≡ i + 1 = omega arith in drop-cons word i 0 l ∙ ap (λ (j : ℕ). byte word i ∷ drop j word) s
 
-  pub expecting-next : i < length word → has t at (byte word i) ≡ true → Expecting t start word (at + 1) (i + 1)
+  pub expecting-next : i < length word → hasByte t at (byte word i) ≡ true → Expecting t start word (at + 1) (i + 1)
   expecting-next l h =
       record {
         most = omega arith;
         same = sym (ap (expectAt t at) (next-here l) ∙ word-next t at (byte word i) (drop (i + 1) word) h) ∙ p .same;
       }
 
-  pub expecting-stuck : i < length word → has t at (byte word i) ≡ false → Stuck at ≡ expectAt t start word
+  pub expecting-stuck : i < length word → hasByte t at (byte word i) ≡ false → Stuck at ≡ expectAt t start word
   expecting-stuck l h = sym (ap (expectAt t at) (next-here l) ∙ word-none t at (byte word i) (drop (i + 1) word) h) ∙ p .same
 
   pub expecting-end : length word ≤ i → On at ≡ expectAt t start word
@@ -195,8 +195,8 @@ module _ {t : List ℕ} {start : ℕ} {word : List ℕ} {at i : ℕ} (p : Expect
 -- ---- the same bytes, the same words
 
 module _ (t u : List ℕ) (k : ℕ) (same : Agree t u k) where
-  pub same-has : (at c : ℕ) → at ≤ k → has t at c ≡ has u at c
-  unfolding has Agree
+  pub same-has : (at c : ℕ) → at ≤ k → hasByte t at c ≡ hasByte u at c
+  unfolding hasByte Agree
   same-has at c l = rw (same at l .0, same at l .1)
 
   pub same-byte : (at : ℕ) → at ≤ k → byte t at ≡ byte u at
@@ -210,12 +210,12 @@ module _ (t u : List ℕ) (k : ℕ) (same : Agree t u k) where
   pub same-on : (at : ℕ) (w : List ℕ) → at + length w ≤ k + 1 → expectAt t at w ≡ On (at + length w) → expectAt u at w ≡ On (at + length w)
   unfolding expectAt
   same-on at [] l e = e
-  same-on at (c ∷ w) l e = go (has t at c) refl (same-on (at + 1) w (omega arith))
+  same-on at (c ∷ w) l e = go (hasByte t at c) refl (same-on (at + 1) w (omega arith))
     where
       z : at + 1 + length w ≡ at + suc (length w)
       z = omega arith
 
-      go : (b : Bool) → has t at c ≡ b → (expectAt t (at + 1) w ≡ On (at + 1 + length w) → expectAt u (at + 1) w ≡ On (at + 1 + length w))
+      go : (b : Bool) → hasByte t at c ≡ b → (expectAt t (at + 1) w ≡ On (at + 1 + length w) → expectAt u (at + 1) w ≡ On (at + 1 + length w))
           → expectAt u at (c ∷ w) ≡ On (at + suc (length w))
       go true h ih =
           word-next u at c w (sym (same-has at c (omega arith)) ∙ h)
@@ -228,9 +228,9 @@ module _ (t u : List ℕ) (k : ℕ) (same : Agree t u k) where
     where
       nothing : On at ≡ expectAt t at []
       nothing = unfold expectAt in refl
-  same-stuck at (c ∷ w) e = go (has t at c) refl (same-stuck (at + 1) w)
+  same-stuck at (c ∷ w) e = go (hasByte t at c) refl (same-stuck (at + 1) w)
     where
-      go : (b : Bool) → has t at c ≡ b → (expectAt t (at + 1) w ≡ Stuck k → expectAt u (at + 1) w ≡ Stuck k) → expectAt u at (c ∷ w) ≡ Stuck k
+      go : (b : Bool) → hasByte t at c ≡ b → (expectAt t (at + 1) w ≡ Stuck k → expectAt u (at + 1) w ≡ Stuck k) → expectAt u at (c ∷ w) ≡ Stuck k
       go true h ih =
           let e' = sym (word-next t at c w h) ∙ e in
           let p = word-stuck t (at + 1) w k e' in

@@ -3,8 +3,8 @@ use Prim.Native.Nat.{ℕ, zero, suc, _+_, _<_, _≤_}
 use mathlib.Core.Path.{_≡_}
 use mathlib.Core.List.{List, [], _∷_, _++_}
 use lib.ListN.{length, take, drop}
-use Rattle.records.specs.Records.{stepBody, stepAt}
-use Rattle.drawing.specs.Text.{name, arrow, labelled}
+use Rattle.program_part.specs.Records.{stepBody, stepAt}
+use Rattle.drawing.specs.Text.{name, arrow, labelOpening}
 use Rattle.drawing.specs.Runs.{StepInRange}
 
 -- l with w in place from `at` on
@@ -19,7 +19,7 @@ pub record Put (old new : List ℕ) (at next : ℕ) (w : List ℕ) : Type 0 wher
 
 -- `c0 -> c1 [label=`, and `];` with the line's end
 unfoldable pub edgeHead : ℕ → List ℕ
-edgeHead k = name k ++ (arrow ++ (name (suc k) ++ labelled))
+edgeHead k = name k ++ (arrow ++ (name (suc k) ++ labelOpening))
 
 abbrev pub edgeTail : List ℕ
 edgeTail = 93 ∷ 59 ∷ 10 ∷ []

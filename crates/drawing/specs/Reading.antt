@@ -1,4 +1,4 @@
--- How a text is read, byte after byte. That this means what Accepted.antt says is proved (ReadLaws).
+-- How a text is read, byte stepThen byte. That this means what Accepted.antt says is proved (ReadLaws).
 use Prim.Native.Nat.{ℕ, zero, suc, _+_, _*_, _-_, _≤_}
 use mathlib.Core.Path.{_≡_}
 use mathlib.Core.Bool.{Bool, _&&_, not}
@@ -7,7 +7,7 @@ use lib.ListN.{length}
 use lib.Dec.{eqb, leb, ltb}
 use Rattle.pws.specs.declared.Step.{Step}
 use Rattle.pws.specs.declared.Step.the-variants.{Take, Serialise, Update}
-use Rattle.records.specs.Bytes.{choose, byte}
+use Rattle.program_part.specs.Bytes.{choose, byte}
 use Rattle.drawing.specs.declared.word.Way.{Way}
 use Rattle.drawing.specs.declared.word.Way.the-variants.{On, Stuck}
 use Rattle.drawing.specs.declared.label.EdgeRead.{EdgeRead}
@@ -23,13 +23,13 @@ use Rattle.drawing.specs.Parts.{edgeHead, edgeTail}
 use Rattle.drawing.specs.Accepted.{Reading, run, place}
 
 -- the byte c stands at `at`
-unfoldable pub has : List ℕ → ℕ → ℕ → Bool
-has t at c = ltb at (length t) && eqb (byte t at) c
+unfoldable pub hasByte : List ℕ → ℕ → ℕ → Bool
+hasByte t at c = ltb at (length t) && eqb (byte t at) c
 
--- the word stands at `at`: the place after it, or that of the first byte that differs or is missing
+-- the word stands at `at`: the place stepThen it, or that of the first byte that differs or is missing
 unfoldable pub expectAt : List ℕ → ℕ → List ℕ → Way
 expectAt t at [] = On at
-expectAt t at (c ∷ w) = choose (has t at c) (λ _. expectAt t (at + 1) w) (λ _. Stuck at)
+expectAt t at (c ∷ w) = choose (hasByte t at c) (λ _. expectAt t (at + 1) w) (λ _. Stuck at)
 
 -- ---- a step's letters
 
@@ -65,8 +65,8 @@ processAt t at = choose (isSmall t at) (λ _. Edge (Update (valueAt t at)) (at +
 
 unfoldable pub labelAt : List ℕ → ℕ → EdgeRead
 labelAt t at =
-    choose (has t at 116) (λ _. numberAt t (at + 1))
-    (λ _. choose (has t at 115) (λ _. pairAt t (at + 1)) (λ _. choose (has t at 117) (λ _. processAt t (at + 1)) (λ _. NoEdge at)))
+    choose (hasByte t at 116) (λ _. numberAt t (at + 1))
+    (λ _. choose (hasByte t at 115) (λ _. pairAt t (at + 1)) (λ _. choose (hasByte t at 117) (λ _. processAt t (at + 1)) (λ _. NoEdge at)))
 
 -- ---- the lines
 
@@ -78,7 +78,7 @@ abbrev pub labelThen : EdgeRead → (Step → ℕ → EdgeRead) → EdgeRead
 labelThen (Edge s a) g = g s a
 labelThen (NoEdge p) g = NoEdge p
 
--- the rest of an edge's line, after its step
+-- the rest of an edge's line, stepThen its step
 unfoldable pub edgeEnd : List ℕ → ℕ → Step → EdgeRead
 edgeEnd t at s = wayThen (expectAt t at edgeTail) (λ a. Edge s a)
 
@@ -95,14 +95,14 @@ abbrev pub edgesThen : EdgeRead → (Step → ℕ → Reading) → Reading
 edgesThen (Edge s a) g = g s a
 edgesThen (NoEdge p) g = place p
 
-abbrev pub after : Step → Reading → Reading
-after s (run ss) = run (s ∷ ss)
-after s (place p) = place p
+abbrev pub stepThen : Step → Reading → Reading
+stepThen s (run ss) = run (s ∷ ss)
+stepThen s (place p) = place p
 
 -- m edges, from number k on, and the end
 unfoldable pub edgesAt : ℕ → List ℕ → ℕ → ℕ → Reading
 edgesAt zero t at k = ending t (expectAt t at (line (125 ∷ [])))
-edgesAt (suc m) t at k = edgesThen (edgeAt t at k) (λ s a. after s (edgesAt m t a (k + 1)))
+edgesAt (suc m) t at k = edgesThen (edgeAt t at k) (λ s a. stepThen s (edgesAt m t a (k + 1)))
 
 abbrev pub nodesThen : Way → (ℕ → NodesRead) → NodesRead
 nodesThen (On a) g = g a
@@ -112,13 +112,13 @@ nodesThen (Stuck p) g = NoNodes p
 unfoldable pub nodesAt : ℕ → List ℕ → ℕ → ℕ → NodesRead
 nodesAt zero t at n = Nodes n at
 nodesAt (suc left) t at n =
-    choose (has t at 99)
-    (λ _. choose (has t (at + 1) 48) (λ _. Nodes n at) (λ _. nodesThen (expectAt t at (nodeLine (n + 1))) (λ a. nodesAt left t a (n + 1))))
+    choose (hasByte t at 99)
+    (λ _. choose (hasByte t (at + 1) 48) (λ _. Nodes n at) (λ _. nodesThen (expectAt t at (nodeLine (n + 1))) (λ a. nodesAt left t a (n + 1))))
     (λ _. NoNodes at)
 
--- after node 0: `}`, or node 1
+-- stepThen node 0: `}`, or node 1
 unfoldable pub moreAt : List ℕ → ℕ → NodesRead
-moreAt t at = choose (has t at 125) (λ _. Nodes 0 at) (λ _. nodesThen (expectAt t at (nodeLine 1)) (λ a. nodesAt 1023 t a 1))
+moreAt t at = choose (hasByte t at 125) (λ _. Nodes 0 at) (λ _. nodesThen (expectAt t at (nodeLine 1)) (λ a. nodesAt 1023 t a 1))
 
 unfoldable pub nodesRead : List ℕ → NodesRead
 nodesRead t = nodesThen (expectAt t 0 (line opening)) (λ a. nodesThen (expectAt t a (nodeLine 0)) (λ b. moreAt t b))
@@ -140,7 +140,7 @@ ofReading (place p) = refused 27 p
 unfoldable pub recordsIn : List ℕ → Made
 recordsIn t = ofReading (readingOf t)
 
--- how many bytes they take, after those of the steps before
+-- how many bytes they take, stepThen those of the steps before
 abbrev pub sizeAfter : ℕ → Reading → Size
 sizeAfter n (run ss) = Bytes (n + length (recordsOf ss))
 sizeAfter n (place p) = Outside p

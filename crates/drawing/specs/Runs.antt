@@ -7,7 +7,7 @@ use lib.ListN.{length}
 use lib.Dec.{ltb}
 use Rattle.pws.specs.declared.Step.{Step}
 use Rattle.pws.specs.declared.Step.the-variants.{Take, Serialise, Update}
-use Rattle.records.specs.declared.program.Shape.{Shape}
+use Rattle.program_part.specs.declared.program.Shape.{Shape}
 
 abbrev pub fullShape : Shape
 fullShape = record { processes = 4; variables = 4; values = 4 }
@@ -18,10 +18,10 @@ StepInRange (Take n) = n < 256
 StepInRange (Serialise p v) = (p < 4) × (v < 4)
 StepInRange (Update p) = p < 4
 
-abbrev pub inRange : Step → Bool
-inRange (Take n) = ltb n 256
-inRange (Serialise p v) = ltb p 4 && ltb v 4
-inRange (Update p) = ltb p 4
+abbrev pub stepInRange : Step → Bool
+stepInRange (Take n) = ltb n 256
+stepInRange (Serialise p v) = ltb p 4 && ltb v 4
+stepInRange (Update p) = ltb p 4
 
 abbrev pub AllInRange : List Step → Type 0
 AllInRange [] = Unit {0}

@@ -4,7 +4,7 @@ use Prim.Native.Nat.{ℕ, zero, suc, _+_, _/_, _%_}
 use mathlib.Core.List.{List, [], _∷_, _++_}
 use lib.ListN.{length}
 use lib.Dec.{ltb}
-use Rattle.records.specs.Bytes.{choose}
+use Rattle.program_part.specs.Bytes.{choose}
 use Rattle.pws.specs.declared.Step.{Step}
 use Rattle.pws.specs.declared.Step.the-variants.{Take, Serialise, Update}
 
@@ -41,8 +41,8 @@ abbrev pub arrow : List ℕ
 arrow = 32 ∷ 45 ∷ 62 ∷ 32 ∷ []
 
 -- ` [label=`
-abbrev pub labelled : List ℕ
-labelled = 32 ∷ 91 ∷ 108 ∷ 97 ∷ 98 ∷ 101 ∷ 108 ∷ 61 ∷ []
+abbrev pub labelOpening : List ℕ
+labelOpening = 32 ∷ 91 ∷ 108 ∷ 97 ∷ 98 ∷ 101 ∷ 108 ∷ 61 ∷ []
 
 -- `c0;`
 unfoldable pub nodeLine : ℕ → List ℕ
@@ -50,7 +50,7 @@ nodeLine k = line (name k ++ (59 ∷ []))
 
 -- `c0 -> c1 [label=t0];`
 unfoldable pub edgeLine : ℕ → Step → List ℕ
-edgeLine k s = line (name k ++ (arrow ++ (name (suc k) ++ (labelled ++ (letters s ++ (93 ∷ 59 ∷ []))))))
+edgeLine k s = line (name k ++ (arrow ++ (name (suc k) ++ (labelOpening ++ (letters s ++ (93 ∷ 59 ∷ []))))))
 
 -- n lines, from number k on
 unfoldable pub nodeLines : ℕ → ℕ → List ℕ

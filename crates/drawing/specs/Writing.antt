@@ -7,13 +7,13 @@ use mathlib.Core.List.{List, [], _++_}
 use lib.ListN.{length, drop}
 use lib.Dec.{leb, ltb}
 use Rattle.pws.specs.declared.Step.{Step}
-use Rattle.records.specs.Bytes.{choose}
-use Rattle.records.specs.declared.program.Counted.{Counted}
-use Rattle.records.specs.declared.program.Counted.the-variants.{Records, Stopped}
-use Rattle.reading.specs.EvidencePart.{stepsFrom, stepsOf}
+use Rattle.program_part.specs.Bytes.{choose}
+use Rattle.program_part.specs.declared.program.Counted.{Counted}
+use Rattle.program_part.specs.declared.program.Counted.the-variants.{Records, Stopped}
+use Rattle.whole_file.specs.EvidencePart.{stepsFrom, stepsOf}
 use Rattle.drawing.specs.declared.Written.{Written}
 use Rattle.drawing.specs.Text.{letters, text}
-use Rattle.drawing.specs.Runs.{fullShape, inRange}
+use Rattle.drawing.specs.Runs.{fullShape, stepInRange}
 
 -- what the input comes to: bytes to write, or a refusal with its number and place
 pub data Made : Type 0 where
@@ -45,4 +45,4 @@ drawingOf f = ofCount f (stepsFrom fullShape 256 f 0)
 
 -- nothing of a step that no program of full shape has, and nothing in less room than they take
 unfoldable pub shown : ℕ → Step → List ℕ
-shown room s = cond (inRange s && leb (length (letters s)) room) (letters s) []
+shown room s = cond (stepInRange s && leb (length (letters s)) room) (letters s) []

@@ -4,11 +4,11 @@ ghost use mathlib.Core.List.{_++_};
 ghost use Prim.Native.Nat.{_+_, _≤_, _<_};
 ghost use lib.ListN.{length, drop};
 ghost use Rattle.drawing.specs.Text.{decimal, letters, nodeLine};
-ghost use Rattle.drawing.specs.Runs.{StepInRange, inRange};
+ghost use Rattle.drawing.specs.Runs.{StepInRange, stepInRange};
 ghost use Rattle.drawing.specs.Writing.{shown};
 ghost use Rattle.drawing.specs.Parts.{Put, edgeHead};
+use program_part::bytes::both;
 use pws::Step;
-use records::bytes::both;
 
 // The word goes to a place in the slice, and the place after it is handed back.
 pub(crate) fn put(out: &mut [u8], at: usize, word: &[u8]) -> usize
@@ -101,7 +101,7 @@ pub(crate) fn letters_length(step: Step) -> usize
 }
 
 fn in_range(step: Step) -> bool
-    ensures { λ r. ⌜ r ≡ inRange step ⌝ }
+    ensures { λ r. ⌜ r ≡ stepInRange step ⌝ }
 {
     match step {
         Step::Take { transition } => transition < 256,

@@ -1,6 +1,6 @@
 // Words that a text has at a place.
 ghost use mathlib.Core.Path.{_≡_};
-ghost use Rattle.drawing.specs.Reading.{has, expectAt, wayPlace};
+ghost use Rattle.drawing.specs.Reading.{hasByte, expectAt, wayPlace};
 
 // The place after what was expected, or where it is missing.
 pub enum Way {
@@ -9,7 +9,7 @@ pub enum Way {
 }
 
 pub(crate) fn has(text: &[u8], at: usize, c: u8) -> bool
-    ensures { λ r. ⌜ r ≡ has (now (text .entry)) at c ⌝ }
+    ensures { λ r. ⌜ r ≡ hasByte (now (text .entry)) at c ⌝ }
 {
     if at < text.len() {
         text[at] == c

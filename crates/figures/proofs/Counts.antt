@@ -12,7 +12,7 @@ use Rattle.figures.specs.declared.Collection.{Collection}
 use Rattle.figures.specs.Results.{Result, safe, other, entries, total, square}
 use Rattle.figures.specs.Collections as collections
 use Rattle.figures.specs.Collections.{plausible, hasRoom, addSafe, addOther, join, together}
-use Rattle.figures.specs.Year.{Year, nothing, addedSafe, addedOther, joined, collection, results, allowed}
+use Rattle.figures.specs.Year.{Year, nothing, addedSafe, addedOther, joined, collection, results, withinLimits}
 use Rattle.figures.proofs.Bounds.{Bounds, bounds-plausible, and-left, and-right}
 use Rattle.figures.proofs.Sums.{entries-append, total-append, squares-append, entries-fewer, not-negative}
 
@@ -75,23 +75,23 @@ pub counts-plausible : {c : Collection} {rs : List Result} → Counts c rs → p
 counts-plausible {c} {rs} h = ap plausible (h .same) ∙ bounds-plausible (counted rs) (h .bounds)
 
 -- the test for one more, over the counts and over the lists
-length-one : {c : Collection} {rs : List Result} (r : Result) → Counts c rs → ltb (c .results) 4096 ≡ allowed (rs ++ (r ∷ []))
+length-one : {c : Collection} {rs : List Result} (r : Result) → Counts c rs → ltb (c .results) 4096 ≡ withinLimits (rs ++ (r ∷ []))
 length-one {c} {rs} r h = ap (λ (n : ℕ). leb n 4096) (ap suc (ap (λ (d : Collection). d .results) (h .same)) ∙ sym (length-append rs (r ∷ []) ∙ e))
   where
     e : length rs + 1 ≡ suc (length rs)
     e = omega arith
 
-room : {c : Collection} {rs : List Result} (r : Result) → Counts c rs → hasRoom c ≡ allowed (rs ++ (r ∷ []))
+room : {c : Collection} {rs : List Result} (r : Result) → Counts c rs → hasRoom c ≡ withinLimits (rs ++ (r ∷ []))
 unfolding hasRoom
 room r h = rw (counts-plausible h, length-one r h)
 
-pub test-safe : {c : Collection} {rs : List Result} (n : ℕ) → Counts c rs → (hasRoom c && leb n 524288) ≡ (allowed (rs ++ (safe n ∷ [])) && leb n 524288)
+pub test-safe : {c : Collection} {rs : List Result} (n : ℕ) → Counts c rs → (hasRoom c && leb n 524288) ≡ (withinLimits (rs ++ (safe n ∷ [])) && leb n 524288)
 test-safe n h = ap (λ (t : Bool). t && leb n 524288) (room (safe n) h)
 
-pub test-other : {c : Collection} {rs : List Result} → Counts c rs → hasRoom c ≡ allowed (rs ++ (other ∷ []))
+pub test-other : {c : Collection} {rs : List Result} → Counts c rs → hasRoom c ≡ withinLimits (rs ++ (other ∷ []))
 test-other h = room other h
 
-pub test-join : {c d : Collection} {rs ss : List Result} → Counts c rs → Counts d ss → (plausible c && (plausible d && leb (c .results + d .results) 4096)) ≡ allowed (rs ++ ss)
+pub test-join : {c d : Collection} {rs ss : List Result} → Counts c rs → Counts d ss → (plausible c && (plausible d && leb (c .results + d .results) 4096)) ≡ withinLimits (rs ++ ss)
 test-join {c} {d} {rs} {ss} h k =
     rw (counts-plausible h, counts-plausible k)
     (ap (λ (n : ℕ). leb n 4096) (ap₂ _+_ (ap (λ (e : Collection). e .results) (h .same)) (ap (λ (e : Collection). e .results) (k .same)) ∙ sym (length-append rs ss)))
@@ -109,22 +109,22 @@ next-counts :
 next-counts t u c next rs more e h k =
     subst (λ (s : Bool). Counts (collections.collected s c next .collection) (cond u more rs)) (sym e) (kept u c next rs more h k)
 
-safe-counts : (c : Collection) (rs : List Result) (n : ℕ) → Counts c rs → (allowed (rs ++ (safe n ∷ [])) && leb n 524288) ≡ true → Counts (collections.withSafe c n) (rs ++ (safe n ∷ []))
+safe-counts : (c : Collection) (rs : List Result) (n : ℕ) → Counts c rs → (withinLimits (rs ++ (safe n ∷ [])) && leb n 524288) ≡ true → Counts (collections.withSafe c n) (rs ++ (safe n ∷ []))
 safe-counts c rs n h e =
     record {
       same = with-safe c n ∙ ap (λ (d : Collection). together d (counted (safe n ∷ []))) (h .same) ∙ sym (counted-append rs (safe n ∷ []));
-      bounds = bounds-append rs (safe n ∷ []) (h .bounds) (bounds-safe n (leb-true n 524288 (and-right (allowed (rs ++ (safe n ∷ []))) (leb n 524288) e)))
-          (leb-true _ _ (and-left (allowed (rs ++ (safe n ∷ []))) (leb n 524288) e));
+      bounds = bounds-append rs (safe n ∷ []) (h .bounds) (bounds-safe n (leb-true n 524288 (and-right (withinLimits (rs ++ (safe n ∷ []))) (leb n 524288) e)))
+          (leb-true _ _ (and-left (withinLimits (rs ++ (safe n ∷ []))) (leb n 524288) e));
     }
 
-other-counts : (c : Collection) (rs : List Result) → Counts c rs → allowed (rs ++ (other ∷ [])) ≡ true → Counts (collections.withOther c) (rs ++ (other ∷ []))
+other-counts : (c : Collection) (rs : List Result) → Counts c rs → withinLimits (rs ++ (other ∷ [])) ≡ true → Counts (collections.withOther c) (rs ++ (other ∷ []))
 other-counts c rs h e =
     record {
       same = with-other c ∙ ap (λ (d : Collection). together d (counted (other ∷ []))) (h .same) ∙ sym (counted-append rs (other ∷ []));
       bounds = bounds-append rs (other ∷ []) (h .bounds) bounds-other (leb-true _ _ e);
     }
 
-join-counts : (c d : Collection) (rs ss : List Result) → Counts c rs → Counts d ss → allowed (rs ++ ss) ≡ true → Counts (together c d) (rs ++ ss)
+join-counts : (c d : Collection) (rs ss : List Result) → Counts c rs → Counts d ss → withinLimits (rs ++ ss) ≡ true → Counts (together c d) (rs ++ ss)
 join-counts c d rs ss h k e =
     record {
       same = ap₂ together (h .same) (k .same) ∙ sym (counted-append rs ss);

@@ -22,7 +22,7 @@ use Rattle.figures.specs.Year.{
   joined,
   collection,
   results,
-  allowed,
+  withinLimits,
   addEach,
   Figure,
   MeanExact,
@@ -167,15 +167,15 @@ small : (y : Year) → Small (results y)
 unfolding results
 small nothing = tt
 small (addedSafe y n) =
-    small-kept (allowed (results y ++ (safe n ∷ [])) && leb n 524288) (results y) (results y ++ (safe n ∷ [])) (small y)
-    (λ e. small-append (results y) (safe n ∷ []) (small y) (leb-true n 524288 (and-right (allowed (results y ++ (safe n ∷ []))) (leb n 524288) e), tt))
+    small-kept (withinLimits (results y ++ (safe n ∷ [])) && leb n 524288) (results y) (results y ++ (safe n ∷ [])) (small y)
+    (λ e. small-append (results y) (safe n ∷ []) (small y) (leb-true n 524288 (and-right (withinLimits (results y ++ (safe n ∷ []))) (leb n 524288) e), tt))
 small (addedOther y) =
-    small-kept (allowed (results y ++ (other ∷ []))) (results y) (results y ++ (other ∷ [])) (small y) (λ e. small-append (results y) (other ∷ []) (small y) tt)
+    small-kept (withinLimits (results y ++ (other ∷ []))) (results y) (results y ++ (other ∷ [])) (small y) (λ e. small-append (results y) (other ∷ []) (small y) tt)
 small (joined y z) =
-    small-kept (allowed (results y ++ results z)) (results y) (results y ++ results z) (small y) (λ e. small-append (results y) (results z) (small y) (small z))
+    small-kept (withinLimits (results y ++ results z)) (results y) (results y ++ results z) (small y) (λ e. small-append (results y) (results z) (small y) (small z))
 
--- the first of several more is allowed
-allowed-first : (rs : List Result) (r : Result) (ss : List Result) → allowed (rs ++ (r ∷ ss)) ≡ true → allowed (rs ++ (r ∷ [])) ≡ true
+-- the first of several more is withinLimits
+allowed-first : (rs : List Result) (r : Result) (ss : List Result) → withinLimits (rs ++ (r ∷ ss)) ≡ true → withinLimits (rs ++ (r ∷ [])) ≡ true
 allowed-first rs r ss e =
     let l : length (rs ++ (r ∷ ss)) ≤ 4096 = leb-true _ _ e in
     le-leb (length (rs ++ (r ∷ []))) 4096 (omega (arith, length-append rs (r ∷ ss), length-append rs (r ∷ [])))
@@ -183,27 +183,27 @@ allowed-first rs r ss e =
 regrouped : (rs : List Result) (r : Result) (ss : List Result) → rs ++ (r ∷ []) ++ ss ≡ rs ++ (r ∷ ss)
 regrouped rs r ss = append-assoc rs (r ∷ []) ss
 
-safe-added : (y : Year) (n : ℕ) → n ≤ 524288 → allowed (results y ++ (safe n ∷ [])) ≡ true → results (addedSafe y n) ≡ results y ++ (safe n ∷ [])
+safe-added : (y : Year) (n : ℕ) → n ≤ 524288 → withinLimits (results y ++ (safe n ∷ [])) ≡ true → results (addedSafe y n) ≡ results y ++ (safe n ∷ [])
 unfolding results
 safe-added y n l e = ap (λ (t : Bool). cond t (results y ++ (safe n ∷ [])) (results y)) (ap (λ (t : Bool). t && leb n 524288) e ∙ le-leb n 524288 l)
 
-other-added : (y : Year) → allowed (results y ++ (other ∷ [])) ≡ true → results (addedOther y) ≡ results y ++ (other ∷ [])
+other-added : (y : Year) → withinLimits (results y ++ (other ∷ [])) ≡ true → results (addedOther y) ≡ results y ++ (other ∷ [])
 unfolding results
 other-added y e = ap (λ (t : Bool). cond t (results y ++ (other ∷ [])) (results y)) e
 
-each-added : (y : Year) (rs : List Result) → Small rs → allowed (results y ++ rs) ≡ true → results (addEach y rs) ≡ results y ++ rs
+each-added : (y : Year) (rs : List Result) → Small rs → withinLimits (results y ++ rs) ≡ true → results (addEach y rs) ≡ results y ++ rs
 unfolding addEach
 each-added y [] s e = sym (append-nil (results y))
 each-added y (safe n ∷ rs) s e =
     let f = safe-added y n (s .0) (allowed-first (results y) (safe n) rs e) in
     let g = ap {B = List Result} (λ l. l ++ rs) f ∙ regrouped (results y) (safe n) rs in
-    each-added (addedSafe y n) rs (s .1) (ap {B = Bool} (λ l. allowed l) g ∙ e) ∙ g
+    each-added (addedSafe y n) rs (s .1) (ap {B = Bool} (λ l. withinLimits l) g ∙ e) ∙ g
 each-added y (other ∷ rs) s e =
     let f = other-added y (allowed-first (results y) other rs e) in
     let g = ap {B = List Result} (λ l. l ++ rs) f ∙ regrouped (results y) other rs in
-    each-added (addedOther y) rs s (ap {B = Bool} (λ l. allowed l) g ∙ e) ∙ g
+    each-added (addedOther y) rs s (ap {B = Bool} (λ l. withinLimits l) g ∙ e) ∙ g
 
-join-added : (y z : Year) → allowed (results y ++ results z) ≡ true → results (joined y z) ≡ results y ++ results z
+join-added : (y z : Year) → withinLimits (results y ++ results z) ≡ true → results (joined y z) ≡ results y ++ results z
 unfolding results
 join-added y z e = ap (λ (t : Bool). cond t (results y ++ results z) (results y)) e
 

@@ -40,19 +40,19 @@ collection (addedOther y) = addOther (collection y) .collection
 collection (joined y z) = join (collection y) (collection z) .collection
 
 -- "beyond 4,096"
-abbrev pub allowed : List Result → Bool
-allowed rs = leb (length rs) mostResults
+abbrev pub withinLimits : List Result → Bool
+withinLimits rs = leb (length rs) mostResults
 
--- the second list if that is allowed; a refusal leaves the first
+-- the second list if that is withinLimits; a refusal leaves the first
 abbrev pub unlessRefused : Bool → List Result → List Result → List Result
 unlessRefused fine rs next = cond fine next rs
 
 -- the results that were added, as a list: no sums, no squares
 unfoldable pub results : Year → List Result
 results nothing = []
-results (addedSafe y n) = unlessRefused (allowed (results y ++ (safe n ∷ [])) && leb n mostEntries) (results y) (results y ++ (safe n ∷ []))
-results (addedOther y) = unlessRefused (allowed (results y ++ (other ∷ []))) (results y) (results y ++ (other ∷ []))
-results (joined y z) = unlessRefused (allowed (results y ++ results z)) (results y) (results y ++ results z)
+results (addedSafe y n) = unlessRefused (withinLimits (results y ++ (safe n ∷ [])) && leb n mostEntries) (results y) (results y ++ (safe n ∷ []))
+results (addedOther y) = unlessRefused (withinLimits (results y ++ (other ∷ []))) (results y) (results y ++ (other ∷ []))
+results (joined y z) = unlessRefused (withinLimits (results y ++ results z)) (results y) (results y ++ results z)
 
 -- results added one by one
 unfoldable pub addEach : Year → List Result → Year
@@ -100,7 +100,7 @@ AnyOrder = (y z : Year) → List·Permᴰ (results y) (results z) → collection
 
 -- joining equals adding all the second one's results to the first, one by one
 abbrev pub JoinAddsEach : Type 0
-JoinAddsEach = (y z : Year) → allowed (results y ++ results z) ≡ true → collection (joined y z) ≡ collection (addEach y (results z))
+JoinAddsEach = (y z : Year) → withinLimits (results y ++ results z) ≡ true → collection (joined y z) ≡ collection (addEach y (results z))
 
 -- ---- refusals
 

@@ -6,7 +6,7 @@ use mathlib.Core.List.{List, [], _∷_, _++_}
 use lib.ListN.{length}
 use lib.Dec.{eqb, ltb}
 use Rattle.io.specs.Digits.{digits, Fewest}
-use Rattle.records.specs.Bytes.{choose}
+use Rattle.program_part.specs.Bytes.{choose}
 use Rattle.judge.specs.Judge.{Verdict, safe, reachable, refused, judged}
 
 -- `safe`, `reachable` and `refused`

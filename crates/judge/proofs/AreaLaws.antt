@@ -9,17 +9,17 @@ use lib.Seq.{length-take-le, take-all, drop-at, drop-drop}
 use lib.Dec.{eqb, leb}
 use borrow.Author.Tests.{lt-ltb, le-ltb}
 use Rattle.pws.specs.Machine.{Configuration}
-use Rattle.records.specs.declared.program.Shape.{Shape}
-use Rattle.records.specs.declared.program.Checked.{Checked}
-use Rattle.records.specs.declared.program.Checked.the-variants.{Fine, Refused}
-use Rattle.records.specs.declared.program.Program.{Program}
-use Rattle.records.specs.Bytes.{choose, byte, put32}
-use Rattle.records.specs.Records.{checked, claimNumber, entryNumber}
-use Rattle.records.specs.ProgramPart.{unlessEnd, programFrom}
-use Rattle.reading.specs.EvidencePart.{EntryRead, whole, bad, entryRead, EntriesRead, headThen, entryThen, entriesFrom, entriesAllowed, wroteFrom}
-use Rattle.reading.specs.Reading as reading
-use Rattle.reading.specs.Reading.{Evidence, refusal, entries, steps, claimThen, evidenceFrom, Parts, partsOf, evidenceArea}
-use Rattle.reading.proofs.ReadingLaws.{parts-refused, parts-both}
+use Rattle.program_part.specs.declared.program.Shape.{Shape}
+use Rattle.program_part.specs.declared.program.Checked.{Checked}
+use Rattle.program_part.specs.declared.program.Checked.the-variants.{Fine, Refused}
+use Rattle.program_part.specs.declared.program.Program.{Program}
+use Rattle.program_part.specs.Bytes.{choose, byte, put32}
+use Rattle.program_part.specs.Records.{checked, claimNumber, entryNumber}
+use Rattle.program_part.specs.ProgramPart.{unlessEnd, programFrom}
+use Rattle.whole_file.specs.EvidencePart.{EntryRead, whole, bad, entryRead, EntriesRead, headThen, entryThen, entriesFrom, entriesAllowed, wroteFrom}
+use Rattle.whole_file.specs.Reading as reading
+use Rattle.whole_file.specs.Reading.{Evidence, refusal, entries, steps, claimThen, evidenceFrom, Parts, partsOf, evidenceArea}
+use Rattle.whole_file.proofs.ReadingLaws.{parts-refused, parts-both}
 use Rattle.judge.specs.Judge.{usedOf, areaAfter}
 use Rattle.judge.proofs.Numbers.{each-choice}
 

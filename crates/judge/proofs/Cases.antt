@@ -8,9 +8,9 @@ use lib.Dec.{eqb}
 use borrow.Author.Tests.{le-ltb}
 use Rattle.pws.specs.Order.{QueueBelow}
 use Rattle.pws.proofs.Queues.{keep, skip, nothing, queue-of}
-use Rattle.records.specs.declared.program.Program.{Program}
-use Rattle.records.specs.Bytes.{choose, byte, cut}
-use Rattle.records.specs.Records.{
+use Rattle.program_part.specs.declared.program.Program.{Program}
+use Rattle.program_part.specs.Bytes.{choose, byte, cut}
+use Rattle.program_part.specs.Records.{
   firstNumber,
   checked,
   isKind,
@@ -41,8 +41,8 @@ use Rattle.records.specs.Records.{
   messageNumber,
   waitingNumber,
 }
-use Rattle.records.specs.ProgramPart.{unlessEnd, statesFrom, rowFrom, transitionsFrom, atClaim, targetsFrom, rowsFrom, restFrom, programFrom}
-use Rattle.reading.specs.EvidencePart.{
+use Rattle.program_part.specs.ProgramPart.{unlessEnd, statesFrom, rowFrom, transitionsFrom, atClaim, targetsFrom, rowsFrom, restFrom, programFrom}
+use Rattle.whole_file.specs.EvidencePart.{
   stepsFrom,
   stepsOf,
   extended,
@@ -60,7 +60,7 @@ use Rattle.reading.specs.EvidencePart.{
   entriesFrom,
   entriesAllowed,
 }
-use Rattle.reading.specs.Reading.{Evidence, entries, steps, claimThen, evidenceFrom, programThen, partsOf, partsRead, readFile}
+use Rattle.whole_file.specs.Reading.{Evidence, entries, steps, claimThen, evidenceFrom, programThen, partsOf, partsRead, readFile}
 use Rattle.replay.specs.Causes.{firstCause}
 use Rattle.judge.specs.Judge.{Verdict, ofFile, judged}
 use Rattle.judge.specs.Cases.{Row, file, below, notBelow, Holds, caseA, Each, no-row, row, cases}

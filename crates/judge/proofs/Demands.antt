@@ -14,9 +14,9 @@ use Rattle.pws.proofs.Simulation.{simulation}
 use Rattle.lists.specs.Verdict as lists
 use Rattle.lists.specs.Decision as decision
 use Rattle.lists.proofs.Verdict.{verdict-unique, verdict-judged, safe-visited}
-use Rattle.reading.specs.Reading as reading
-use Rattle.contents.specs.Contents.{ListRead}
-use Rattle.contents.proofs.Contents.{list-read, run-read}
+use Rattle.whole_file.specs.Reading as reading
+use Rattle.by_number.specs.Contents.{ListRead}
+use Rattle.by_number.proofs.Contents.{list-read, run-read}
 use Rattle.replay.specs.declared.step.Cause.{Cause}
 use Rattle.replay.specs.declared.step.Cause.the-variants.{State, Queue, Pointer, Value, Nothing}
 use Rattle.replay.specs.declared.run.RunAnswer.{RunAnswer}

@@ -10,11 +10,11 @@ use borrow.Author.Tests.{eq-eqb, lt-ltb}
 use Rattle.pws.specs.Program.{Shape}
 use Rattle.pws.specs.Machine.{Configuration, allBelow}
 use Rattle.pws.specs.Entries.{Above, AboveList, entry}
-use Rattle.records.specs.declared.program.Program.{Program}
-use Rattle.records.specs.Bytes.{choose}
-use Rattle.records.specs.ProgramPart.{tableFrom, programOf}
-use Rattle.reading.specs.Cube.{configurationOf}
-use Rattle.contents.specs.Again.{cubeAt, entriesOf}
+use Rattle.program_part.specs.declared.program.Program.{Program}
+use Rattle.program_part.specs.Bytes.{choose}
+use Rattle.program_part.specs.ProgramPart.{tableFrom, programOf}
+use Rattle.whole_file.specs.Cube.{configurationOf}
+use Rattle.by_number.specs.Again.{cubeAt, entriesOf}
 use Rattle.matching.proofs.Below.{all-true}
 use Rattle.summary.specs.Slots.{countAt}
 use Rattle.summary.specs.Groups.{sameStates, statesAt, leads, inGroup}

@@ -5,19 +5,19 @@ use mathlib.Core.List.{List, [], _++_, append-nil}
 use native.Mathlib.Omega.{arith}
 use lib.ListN.{length, take, drop, length-drop, drop-of-length-le}
 use Rattle.pws.specs.Program as pws
-use Rattle.records.specs.declared.program.Refusal.{Refusal}
-use Rattle.records.specs.declared.program.Checked.the-variants.{Fine, Refused}
-use Rattle.records.specs.declared.program.Program.{Program}
-use Rattle.reading.specs.declared.evidence.Reading.{Reading}
-use Rattle.records.specs.ProgramPart.{refusalOf, programOf, targetsOf}
-use Rattle.reading.specs.EvidencePart.{stepsOf, entriesAllowed}
-use Rattle.reading.specs.Cube.{configurationOf}
-use Rattle.reading.specs.Reading as reading
-use Rattle.contents.specs.Again.{cubeAt, entriesOf}
-use Rattle.contents.proofs.Tables.{table-length}
-use Rattle.contents.proofs.Rows.{steps-length}
-use Rattle.contents.proofs.Contents.{list-read, run-read}
-use Rattle.contents.proofs.Again.{reading-refused, reading-sizes, reading-run, reading-list, reading-count, reading-cube}
+use Rattle.program_part.specs.declared.program.Refusal.{Refusal}
+use Rattle.program_part.specs.declared.program.Checked.the-variants.{Fine, Refused}
+use Rattle.program_part.specs.declared.program.Program.{Program}
+use Rattle.whole_file.specs.declared.evidence.Reading.{Reading}
+use Rattle.program_part.specs.ProgramPart.{refusalOf, programOf, targetsOf}
+use Rattle.whole_file.specs.EvidencePart.{stepsOf, entriesAllowed}
+use Rattle.whole_file.specs.Cube.{configurationOf}
+use Rattle.whole_file.specs.Reading as reading
+use Rattle.by_number.specs.Again.{cubeAt, entriesOf}
+use Rattle.by_number.proofs.Tables.{table-length}
+use Rattle.by_number.proofs.Rows.{steps-length}
+use Rattle.by_number.proofs.Contents.{list-read, run-read}
+use Rattle.by_number.proofs.Again.{reading-refused, reading-sizes, reading-run, reading-list, reading-count, reading-cube}
 use Rattle.replay.specs.declared.run.RunAnswer.{RunAnswer}
 use Rattle.replay.specs.Answers.{RunOf}
 use Rattle.judge.specs.declared.answer.Answer.{Answer}

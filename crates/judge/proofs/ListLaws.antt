@@ -13,14 +13,14 @@ use Rattle.lists.specs.Lists.{lowest}
 use Rattle.lists.specs.Verdict as lists
 use Rattle.lists.specs.Verdict.{noTarget}
 use Rattle.lists.specs.Decision.{targetHeld, looksStarted, closed}
-use Rattle.records.specs.declared.program.Program.{Program}
-use Rattle.reading.specs.declared.entry.Cube.{Cube}
-use Rattle.records.specs.Records.{stateAt}
-use Rattle.records.specs.ProgramPart.{shapeOf, programOf, targetsOf}
-use Rattle.reading.specs.Cube.{configurationOf}
-use Rattle.contents.specs.Again.{cubeAt, entriesOf, targetOf}
-use Rattle.contents.proofs.Tables.{table-length, table-number}
-use Rattle.contents.proofs.Again.{target-again}
+use Rattle.program_part.specs.declared.program.Program.{Program}
+use Rattle.whole_file.specs.declared.entry.Cube.{Cube}
+use Rattle.program_part.specs.Records.{stateAt}
+use Rattle.program_part.specs.ProgramPart.{shapeOf, programOf, targetsOf}
+use Rattle.whole_file.specs.Cube.{configurationOf}
+use Rattle.by_number.specs.Again.{cubeAt, entriesOf, targetOf}
+use Rattle.by_number.proofs.Tables.{table-length, table-number}
+use Rattle.by_number.proofs.Again.{target-again}
 use Rattle.targets.specs.Sizes.{Small, startsOf}
 use Rattle.targets.specs.Walk.{Searches}
 use Rattle.closing.specs.Walk.{Walkable}

@@ -9,16 +9,16 @@ use lib.ListN.{length}
 use lib.Dec.{eqb, leb}
 use borrow.Author.Tests.{eq-eqb, ne-eqb}
 use Rattle.pws.specs.Machine.{Configuration}
-use Rattle.records.specs.declared.program.Shape.{Shape}
-use Rattle.records.specs.declared.program.Refusal.{Refusal}
-use Rattle.records.specs.declared.program.Checked.{Checked}
-use Rattle.records.specs.declared.program.Checked.the-variants.{Fine, Refused}
-use Rattle.records.specs.declared.program.Counted.{Counted}
-use Rattle.records.specs.declared.program.Counted.the-variants.{Records, Stopped}
-use Rattle.records.specs.declared.program.Program.{Program}
-use Rattle.records.specs.declared.program.ProgramRead.{ProgramRead}
-use Rattle.records.specs.Bytes.{choose, byte}
-use Rattle.records.specs.Records.{
+use Rattle.program_part.specs.declared.program.Shape.{Shape}
+use Rattle.program_part.specs.declared.program.Refusal.{Refusal}
+use Rattle.program_part.specs.declared.program.Checked.{Checked}
+use Rattle.program_part.specs.declared.program.Checked.the-variants.{Fine, Refused}
+use Rattle.program_part.specs.declared.program.Counted.{Counted}
+use Rattle.program_part.specs.declared.program.Counted.the-variants.{Records, Stopped}
+use Rattle.program_part.specs.declared.program.Program.{Program}
+use Rattle.program_part.specs.declared.program.ProgramRead.{ProgramRead}
+use Rattle.program_part.specs.Bytes.{choose, byte}
+use Rattle.program_part.specs.Records.{
   firstNumber,
   checked,
   isKind,
@@ -32,7 +32,7 @@ use Rattle.records.specs.Records.{
   messageNumber,
   waitingNumber,
 }
-use Rattle.records.specs.ProgramPart.{
+use Rattle.program_part.specs.ProgramPart.{
   unlessEnd,
   andThen,
   countThen,
@@ -46,7 +46,7 @@ use Rattle.records.specs.ProgramPart.{
   restFrom,
   programFrom,
 }
-use Rattle.reading.specs.EvidencePart.{
+use Rattle.whole_file.specs.EvidencePart.{
   stepsFrom,
   bodyNumber,
   EntryRead,
@@ -63,8 +63,8 @@ use Rattle.reading.specs.EvidencePart.{
   entryThen,
   entriesFrom,
 }
-use Rattle.reading.specs.Reading.{Evidence, refusal, entries, steps, claimThen, evidenceFrom, twoParts, partsOf, FileRead, refused, list, run, listRead, partsRead, readFile}
-use Rattle.reading.proofs.ReadingLaws.{parts-short, parts-refused, parts-both}
+use Rattle.whole_file.specs.Reading.{Evidence, refusal, entries, steps, claimThen, evidenceFrom, twoParts, partsOf, FileRead, refused, list, run, listRead, partsRead, readFile}
+use Rattle.whole_file.proofs.ReadingLaws.{parts-short, parts-refused, parts-both}
 
 -- ---- what a refusal is
 

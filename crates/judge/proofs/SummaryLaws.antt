@@ -10,17 +10,17 @@ use lib.Dec.{eqb, leb, ltb}
 use borrow.Author.Tests.{le-leb, ltb-false, eqb-false}
 use Rattle.pws.specs.Machine.{Configuration}
 use Rattle.pws.specs.Entries.{entry}
-use Rattle.records.specs.declared.program.Program.{Program}
-use Rattle.records.specs.declared.program.Shape.{Shape}
-use Rattle.reading.specs.declared.entry.Cube.{Cube}
-use Rattle.records.specs.Bytes.{choose, byte, le32, put32}
-use Rattle.records.specs.ProgramPart.{tableFrom, programOf, targetsOf}
+use Rattle.program_part.specs.declared.program.Program.{Program}
+use Rattle.program_part.specs.declared.program.Shape.{Shape}
+use Rattle.whole_file.specs.declared.entry.Cube.{Cube}
+use Rattle.program_part.specs.Bytes.{choose, byte, le32, put32}
+use Rattle.program_part.specs.ProgramPart.{tableFrom, programOf, targetsOf}
 use Rattle.lists.specs.Decision.{verdictOf}
-use Rattle.reading.specs.Cube.{configurationOf, loadEntry}
-use Rattle.contents.specs.Again.{offsetAt, cubeAt, entriesOf}
-use Rattle.contents.specs.Contents.{EntryRange, CubeRange}
-use Rattle.matching.specs.Number.{numberOf, statesNumber}
-use Rattle.summary.specs.Slots.{word, putWord, linked, headLink, nextLink, countAt, hung, counted, homeOf, markOf}
+use Rattle.whole_file.specs.Cube.{configurationOf, loadEntry}
+use Rattle.by_number.specs.Again.{offsetAt, cubeAt, entriesOf}
+use Rattle.by_number.specs.Contents.{EntryRange, CubeRange}
+use Rattle.matching.specs.Number.{numberOf, statesMixed}
+use Rattle.summary.specs.Slots.{word, putWord, linked, headLink, nextLink, countAt, hung, putCount, homeOf, markIn}
 use Rattle.summary.specs.Groups.{statesAt, sameStates, leaderFrom, leaderOf, added, addedFrom, summarised}
 use Rattle.summary.specs.Summary.{Summed}
 use Rattle.summary.proofs.ChainLaws.{home-below}
@@ -88,8 +88,8 @@ drop-hung : (sum : List ℕ) (n home k mark : ℕ) → home < n → k < n → dr
 unfolding hung
 drop-hung sum n home k mark a b = drop-word _ (8 * n) (2 * k + 1) _ (omega arith) ∙ drop-word sum (8 * n) (2 * home) _ (omega arith)
 
-drop-counted : (sum : List ℕ) (n k x : ℕ) → k < n → drop (8 * n) (counted sum k x) ≡ drop (8 * n) sum
-unfolding counted
+drop-counted : (sum : List ℕ) (n k x : ℕ) → k < n → drop (8 * n) (putCount sum k x) ≡ drop (8 * n) sum
+unfolding putCount
 drop-counted sum n k x b = drop-word _ (8 * n) (2 * k + 1) _ (omega arith) ∙ drop-word sum (8 * n) (2 * k) _ (omega arith)
 
 module _ (f list : List ℕ) (s : Shape) where
@@ -111,14 +111,14 @@ module _ (f list : List ℕ) (s : Shape) where
   drop-added sum n k l = go (eqb leader 0) refl
     where
       leader : ℕ
-      leader = leaderFrom f list s sum (statesAt f list s k) (suc n) n (headLink sum (homeOf (statesNumber s (statesAt f list s k)) n))
+      leader = leaderFrom f list s sum (statesAt f list s k) (suc n) n (headLink sum (homeOf (statesMixed s (statesAt f list s k)) n))
 
       most : leader ≤ n
-      most = leader-most sum (statesAt f list s k) n (suc n) n (headLink sum (homeOf (statesNumber s (statesAt f list s k)) n)) (omega arith)
+      most = leader-most sum (statesAt f list s k) n (suc n) n (headLink sum (homeOf (statesMixed s (statesAt f list s k)) n)) (omega arith)
 
       go : (b : Bool) → eqb leader 0 ≡ b
-          → drop (8 * n) (choose b (λ _. counted (hung sum (homeOf (statesNumber s (statesAt f list s k)) n) k (markOf (statesNumber s (statesAt f list s k)))) k 1)
-          (λ _. hung (counted sum (leader - 1) (countAt sum (leader - 1) + 1)) (homeOf (numberOf s (cubeAt f list k)) n) k (markOf (numberOf s (cubeAt f list k))))) ≡ drop (8 * n) sum
+          → drop (8 * n) (choose b (λ _. putCount (hung sum (homeOf (statesMixed s (statesAt f list s k)) n) k (markIn (statesMixed s (statesAt f list s k)))) k 1)
+          (λ _. hung (putCount sum (leader - 1) (countAt sum (leader - 1) + 1)) (homeOf (numberOf s (cubeAt f list k)) n) k (markIn (numberOf s (cubeAt f list k))))) ≡ drop (8 * n) sum
       go true e = drop-counted _ n k 1 l ∙ drop-hung sum n _ k _ (home-below _ n (omega arith)) l
       go false e =
           let u = eqb-false leader 0 e in

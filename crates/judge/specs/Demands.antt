@@ -18,7 +18,7 @@ use Rattle.pws.specs.Order.{Below}
 use Rattle.pws.specs.Entries.{AboveList}
 use Rattle.pws.specs.Sequences.{Takes, Visited, Answers}
 use Rattle.lists.specs.Verdict.{target, SafeList, Unheld, Started, Entered}
-use Rattle.reading.specs.Reading as reading
+use Rattle.whole_file.specs.Reading as reading
 use Rattle.judge.specs.Judge.{Verdict, safe, reachable, refused, Judged, judged}
 
 -- ---- what the bytes of a file give

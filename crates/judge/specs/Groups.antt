@@ -9,10 +9,10 @@ use lib.Dec.{eqb}
 use Rattle.pws.specs.Program.{Shape}
 use Rattle.pws.specs.Machine.{Configuration, allBelow}
 use Rattle.pws.specs.Entries.{AboveList, entry}
-use Rattle.records.specs.declared.program.Program.{Program}
-use Rattle.records.specs.Bytes.{choose}
-use Rattle.records.specs.ProgramPart.{programOf}
-use Rattle.contents.specs.Again.{entriesOf}
+use Rattle.program_part.specs.declared.program.Program.{Program}
+use Rattle.program_part.specs.Bytes.{choose}
+use Rattle.program_part.specs.ProgramPart.{programOf}
+use Rattle.by_number.specs.Again.{entriesOf}
 use Rattle.summary.specs.Slots.{countAt}
 use Rattle.summary.specs.Groups.{leads}
 use Rattle.judge.specs.Ready.{Ready}

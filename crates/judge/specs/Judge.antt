@@ -6,9 +6,9 @@ use lib.ListN.{length, drop, replicate}
 use lib.Dec.{ltb}
 use Rattle.lists.specs.Verdict as lists
 use Rattle.lists.specs.Decision as decision
-use Rattle.records.specs.Bytes.{choose}
-use Rattle.reading.specs.EvidencePart.{entriesAllowed}
-use Rattle.reading.specs.Reading as reading
+use Rattle.program_part.specs.Bytes.{choose}
+use Rattle.whole_file.specs.EvidencePart.{entriesAllowed}
+use Rattle.whole_file.specs.Reading as reading
 use Rattle.replay.specs.declared.run.RunAnswer.{RunAnswer}
 use Rattle.replay.specs.declared.run.RunAnswer.the-variants.{Reachable, Stopped, Missed}
 use Rattle.replay.specs.Causes.{causeNumber}

@@ -7,10 +7,10 @@ use lib.ListN.{length, take, drop, replicate}
 use Rattle.pws.specs.Entries.{entry}
 use Rattle.lists.specs.Verdict.{target}
 use Rattle.lists.specs.Decision.{targetHeld, looksStarted, closed, verdictOf}
-use Rattle.records.specs.declared.program.Program.{Program}
-use Rattle.records.specs.ProgramPart.{programOf, targetsOf}
-use Rattle.contents.specs.Again.{cubeAt, entriesOf}
-use Rattle.contents.specs.Contents.{ProgramPartRead, EntryRange, ProgramSizes, CubeRange}
+use Rattle.program_part.specs.declared.program.Program.{Program}
+use Rattle.program_part.specs.ProgramPart.{programOf, targetsOf}
+use Rattle.by_number.specs.Again.{cubeAt, entriesOf}
+use Rattle.by_number.specs.Contents.{ProgramPartRead, EntryRange, ProgramSizes, CubeRange}
 use Rattle.summary.specs.Summary.{Summed}
 use Rattle.judge.specs.Judge.{Verdict, ofList}
 

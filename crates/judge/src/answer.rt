@@ -2,7 +2,7 @@
 ghost use mathlib.Core.Path.{_≡_};
 ghost use Rattle.judge.specs.Judge.{ofRun};
 ghost use Rattle.judge.specs.Answers.{verdictIn, inC};
-use records::program::Refusal;
+use program_part::program::Refusal;
 use replay::run::RunAnswer;
 use replay::step::Cause;
 use replay::step::cause_number;

@@ -4,10 +4,10 @@ ghost use mathlib.Core.Path.{_≡_};
 ghost use Rattle.judge.specs.Answers.{verdictIn};
 ghost use Rattle.judge.specs.Ready.{LowestFailing, Ready, heldTest, startTest, closedTest, listSaid};
 use crate::answer::Answer;
+use by_number::entry_at;
+use by_number::target_of;
 use closing::entry_closed;
-use contents::entry_at;
-use contents::target_of;
-use records::program::Program;
+use program_part::program::Program;
 use targets::looks_started;
 use targets::target_held;
 

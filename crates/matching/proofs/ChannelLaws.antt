@@ -11,11 +11,11 @@ use borrow.Author.Tests.{le-leb, lt-leb}
 use Rattle.pws.specs.declared.Message.{Message}
 use Rattle.pws.specs.Machine.{noMessage}
 use Rattle.pws.specs.Tagged.{Tagged, anyBelow, roles, isLive, taggedFrom}
-use Rattle.records.specs.declared.program.Shape.{Shape}
-use Rattle.reading.specs.declared.entry.Cube.{Cube}
-use Rattle.records.specs.ProgramPart.{shapeOf}
-use Rattle.reading.specs.Cube.{channelOf, configurationOf}
-use Rattle.reading.proofs.CubeParts.{channel-length}
+use Rattle.program_part.specs.declared.program.Shape.{Shape}
+use Rattle.whole_file.specs.declared.entry.Cube.{Cube}
+use Rattle.program_part.specs.ProgramPart.{shapeOf}
+use Rattle.whole_file.specs.Cube.{channelOf, configurationOf}
+use Rattle.whole_file.proofs.CubeParts.{channel-length}
 use Rattle.lists.specs.Matching.{same, subsequence, messageMatches, tagMatches}
 use Rattle.matching.specs.Relation.{relation}
 use Rattle.matching.specs.Tags.{mask, labelNumber, tagOf, tagsOf, lowestBelow, lowestPointer}

@@ -13,10 +13,10 @@ use lib.Pow.{pow-mono}
 use borrow.Author.Tests.{ltb-true, leb-true, lt-ltb, le-ltb, le-leb, eq-eqb, ne-eqb}
 use Rattle.pws.specs.declared.Message.{Message}
 use Rattle.pws.specs.Machine.{Memory, noMessage}
-use Rattle.records.specs.declared.program.Shape.{Shape}
-use Rattle.records.proofs.ProgramLaws.{and-true}
-use Rattle.reading.specs.declared.entry.Cube.{Cube}
-use Rattle.matching.specs.Tags.{listBelow, roleAt, mask, labelNumber, memoryOf, tagOf, tagsOf}
+use Rattle.program_part.specs.declared.program.Shape.{Shape}
+use Rattle.program_part.proofs.ProgramLaws.{and-true}
+use Rattle.whole_file.specs.declared.entry.Cube.{Cube}
+use Rattle.matching.specs.Tags.{listBelow, roleAt, mask, labelNumber, cubeMemory, tagOf, tagsOf}
 use Rattle.matching.proofs.SumLaws.{bits}
 use Rattle.matching.proofs.TagLaws.{role-exists, role-absent}
 use Rattle.matching.proofs.RoleLaws.{Roles}
@@ -182,15 +182,15 @@ pub bit-small : (q : ℕ) → q < 20 → 2 ^ q ≤ 524288
 bit-small q l = pow-mono {i = q} {j = 19} (omega arith)
 
 marked-all : (s : Shape) (c : Cube) {tags : List ℕ} {k : ℕ}
-    → Marked (min (s .variables) 4) (min (c .count) 20) (memoryOf c) (c .messages) tags (5 * min (s .processes) 4) k → tags ≡ tagsOf s c
+    → Marked (min (s .variables) 4) (min (c .count) 20) (cubeMemory c) (c .messages) tags (5 * min (s .processes) 4) k → tags ≡ tagsOf s c
 unfolding tagsOf tagOf mask
 marked-all s c {tags} w = ext-getD 0 tags (tagsOf s c) (w .room ∙ sym (tags-length s c)) each
   where
     f : ℕ → ℕ
     f i = cond (ltb i (min (c .count) 20)) (tagOf s c (suc i)) 0
 
-    tag : (i : ℕ) → tagOf s c (suc i) ≡ 65536 * mask (min (s .processes) 4) (min (s .variables) 4) (memoryOf c) (suc i) + labelNumber (getD (c .messages) i noMessage)
-    tag i = ap (λ (k : ℕ). 65536 * mask (min (s .processes) 4) (min (s .variables) 4) (memoryOf c) (suc i) + labelNumber (getD (c .messages) k noMessage)) (omega arith)
+    tag : (i : ℕ) → tagOf s c (suc i) ≡ 65536 * mask (min (s .processes) 4) (min (s .variables) 4) (cubeMemory c) (suc i) + labelNumber (getD (c .messages) i noMessage)
+    tag i = ap (λ (k : ℕ). 65536 * mask (min (s .processes) 4) (min (s .variables) 4) (cubeMemory c) (suc i) + labelNumber (getD (c .messages) k noMessage)) (omega arith)
 
     each : (i : ℕ) → i < length tags → getD tags i 0 ≡ getD (tagsOf s c) i 0
     each i l = elim (decLt i (min (c .count) 20)) [
@@ -199,8 +199,8 @@ marked-all s c {tags} w = ext-getD 0 tags (tagsOf s c) (w .room ∙ sym (tags-le
     ]
 
 pub marked-end : (s : Shape) (c : Cube) {variables n q k : ℕ} {tags : List ℕ} → variables ≡ min (s .variables) 4 → n ≡ min (c .count) 20 → q ≡ 5 * min (s .processes) 4
-    → Marked variables n (memoryOf c) (c .messages) tags q k → tags ≡ tagsOf s c
+    → Marked variables n (cubeMemory c) (c .messages) tags q k → tags ≡ tagsOf s c
 marked-end s c {variables} {n} {q} {k} {tags} e f g w =
-    marked-all s c (subst (λ (x : ℕ). Marked (min (s .variables) 4) (min (c .count) 20) (memoryOf c) (c .messages) tags x k) g
-    (subst (λ (x : ℕ). Marked (min (s .variables) 4) x (memoryOf c) (c .messages) tags q k) f
-    (subst (λ (x : ℕ). Marked x n (memoryOf c) (c .messages) tags q k) e w)))
+    marked-all s c (subst (λ (x : ℕ). Marked (min (s .variables) 4) (min (c .count) 20) (cubeMemory c) (c .messages) tags x k) g
+    (subst (λ (x : ℕ). Marked (min (s .variables) 4) x (cubeMemory c) (c .messages) tags q k) f
+    (subst (λ (x : ℕ). Marked x n (cubeMemory c) (c .messages) tags q k) e w)))

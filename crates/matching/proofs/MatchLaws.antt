@@ -7,12 +7,12 @@ use native.Mathlib.Omega.{arith}
 use lib.ListN.{getD}
 use lib.Dec.{eqb}
 use Rattle.pws.specs.Machine.{allBelow}
-use Rattle.records.specs.declared.program.Shape.{Shape}
-use Rattle.reading.specs.declared.entry.Queue.{Queue}
-use Rattle.reading.specs.declared.entry.Cube.{Cube}
-use Rattle.records.specs.ProgramPart.{shapeOf}
-use Rattle.reading.specs.Cube.{noQueue, waitingOf, configurationOf}
-use Rattle.reading.proofs.CubeParts.{queue-of}
+use Rattle.program_part.specs.declared.program.Shape.{Shape}
+use Rattle.whole_file.specs.declared.entry.Queue.{Queue}
+use Rattle.whole_file.specs.declared.entry.Cube.{Cube}
+use Rattle.program_part.specs.ProgramPart.{shapeOf}
+use Rattle.whole_file.specs.Cube.{noQueue, waitingOf, configurationOf}
+use Rattle.whole_file.proofs.CubeParts.{queue-of}
 use Rattle.lists.specs.Matching.{queueMatches, matches}
 use Rattle.matching.specs.Relation.{relation}
 use Rattle.matching.specs.Match.{Sizes, queueRow, channelMatches}

@@ -15,18 +15,18 @@ use Rattle.pws.specs.Entries.{ValueOrFF}
 use Rattle.pws.specs.Tagged.{Tagged, table, roles, hasRole, isLive, taggedFrom}
 use Rattle.pws.proofs.Facts.{Proper, proper}
 use Rattle.pws.proofs.Tagged.{table-at, yes-live, role-live}
-use Rattle.records.specs.declared.program.Shape.{Shape}
-use Rattle.records.specs.ProgramPart.{shapeOf}
-use Rattle.reading.specs.declared.entry.Queue.{Queue}
-use Rattle.reading.specs.declared.entry.Cube.{Cube}
-use Rattle.reading.specs.Cube.{noQueue, channelOf, configurationOf}
-use Rattle.reading.proofs.CubeParts.{channel-length, channel-message, queue-of}
+use Rattle.program_part.specs.declared.program.Shape.{Shape}
+use Rattle.program_part.specs.ProgramPart.{shapeOf}
+use Rattle.whole_file.specs.declared.entry.Queue.{Queue}
+use Rattle.whole_file.specs.declared.entry.Cube.{Cube}
+use Rattle.whole_file.specs.Cube.{noQueue, channelOf, configurationOf}
+use Rattle.whole_file.proofs.CubeParts.{channel-length, channel-message, queue-of}
 use Rattle.lists.specs.Matching.{matches}
 use Rattle.lists.proofs.Matching.{matches-exact}
 use Rattle.matching.specs.Relation.{relation}
 use Rattle.matching.specs.Tags.{tagOf, tagsOf}
 use Rattle.matching.specs.Key.{Mark, markOf, someRole, marksOf, Key, key}
-use Rattle.matching.specs.Number.{stir, behind, packedStates, emptyBit, packedRow, packedQueues, withTags, statesNumber, numberOf}
+use Rattle.matching.specs.Number.{stir, behind, packedStates, emptyBit, packedRow, packedQueues, withTags, statesMixed, numberOf}
 use Rattle.matching.proofs.TagLaws.{mask-roles, ByteLabel, tag-is, tag-role, some-role}
 use Rattle.matching.proofs.MarkLaws.{tags-at}
 use Rattle.matching.proofs.KeyLaws.{match-key}
@@ -195,6 +195,6 @@ module _ (s : Shape) (exact : Bool) (a b : Cube) (R : ShapeInRange (shapeOf s))
         h : ℕ
         h = packedQueues (min (s .variables) 4) (b .queues) (min (s .processes) 4) (packedStates (min (s .processes) 4) (b .states))
 
-    pub match-states : statesNumber s (a .states) ≡ statesNumber s (b .states)
-    unfolding statesNumber
+    pub match-states : statesMixed s (a .states) ≡ statesMixed s (b .states)
+    unfolding statesMixed
     match-states = ap stir same-states

@@ -9,8 +9,8 @@ use lib.Bits.{bitXor}
 use lib.ListN.{length, getD, replicate}
 use borrow.Author.Tests.{le-leb, lt-leb}
 use Rattle.pws.specs.Machine.{isEmpty}
-use Rattle.reading.specs.declared.entry.Queue.{Queue}
-use Rattle.reading.specs.Cube.{noQueue}
+use Rattle.whole_file.specs.declared.entry.Queue.{Queue}
+use Rattle.whole_file.specs.Cube.{noQueue}
 use Rattle.matching.specs.Tags.{lowestBelow}
 use Rattle.matching.specs.Number.{stir, behind, packedStates, emptyBit, packedRow, packedQueues, withTags}
 

@@ -12,12 +12,12 @@ use lib.Dec.{T, eqb, ltb}
 use borrow.Author.Tests.{ltb-true, eq-eqb, ne-eqb, lt-ltb}
 use Rattle.pws.specs.declared.Message.{Message}
 use Rattle.pws.specs.Machine.{Memory, noMessage, labelled, lastLabelled, lastWrite}
-use Rattle.reading.specs.declared.entry.Cube.{Cube}
-use Rattle.reading.specs.Cube.{channelOf}
-use Rattle.records.proofs.ProgramLaws.{and-true}
-use Rattle.reading.proofs.CubeParts.{channel-length}
+use Rattle.whole_file.specs.declared.entry.Cube.{Cube}
+use Rattle.whole_file.specs.Cube.{channelOf}
+use Rattle.program_part.proofs.ProgramLaws.{and-true}
+use Rattle.whole_file.proofs.CubeParts.{channel-length}
 use Rattle.matching.specs.Roles.{labelPlace}
-use Rattle.matching.specs.Tags.{memoryOf}
+use Rattle.matching.specs.Tags.{cubeMemory}
 use Rattle.matching.proofs.Below.{and-false}
 
 pub labels : (p v : ℕ) → ltb p 4 && ltb v 4 ≡ true → (p < 4) × (v < 4)
@@ -188,7 +188,7 @@ four-list (a ∷ b ∷ c ∷ d ∷ []) e = refl
 four-list (a ∷ b ∷ c ∷ d ∷ x ∷ xs) e = absurd (omega arith)
 
 pub roles-end : (c : Cube) {roles : List ℕ} {i : ℕ} → length (c .pointers) ≡ 4 → i ≡ min (c .count) 20
-    → RolesTo (λ p. getD (getD (c .pointers) 0 0 ∷ getD (c .pointers) 1 0 ∷ getD (c .pointers) 2 0 ∷ getD (c .pointers) 3 0 ∷ []) p 0) (c .messages) roles i → Roles roles (memoryOf c)
+    → RolesTo (λ p. getD (getD (c .pointers) 0 0 ∷ getD (c .pointers) 1 0 ∷ getD (c .pointers) 2 0 ∷ getD (c .pointers) 3 0 ∷ []) p 0) (c .messages) roles i → Roles roles (cubeMemory c)
 roles-end c {roles} {i} l e w =
     subst (λ (n : ℕ). Roles roles (record { channel = channelOf (c .messages) n; pointer = λ p. getD (c .pointers) p 0 })) e
     (subst (λ (zs : List ℕ). Roles roles (record { channel = channelOf (c .messages) i; pointer = λ p. getD zs p 0 })) (four-list (c .pointers) l)

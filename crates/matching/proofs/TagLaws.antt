@@ -14,13 +14,13 @@ use Rattle.pws.specs.Program as pws
 use Rattle.pws.specs.Machine.{Memory, noMessage, lastWrite}
 use Rattle.pws.specs.Tagged.{table, anyBelow, roles, hasRole}
 use Rattle.pws.proofs.Tagged.{table-ext, table-at, role-is, role-pointer, role-last}
-use Rattle.records.specs.declared.program.Shape.{Shape}
-use Rattle.records.specs.ProgramPart.{shapeOf}
-use Rattle.reading.specs.declared.entry.Cube.{Cube}
-use Rattle.reading.specs.Cube.{configurationOf}
+use Rattle.program_part.specs.declared.program.Shape.{Shape}
+use Rattle.program_part.specs.ProgramPart.{shapeOf}
+use Rattle.whole_file.specs.declared.entry.Cube.{Cube}
+use Rattle.whole_file.specs.Cube.{configurationOf}
 use Rattle.lists.specs.Values.{pairwise}
 use Rattle.lists.specs.Matching.{same, messageMatches}
-use Rattle.records.proofs.ProgramLaws.{and-true}
+use Rattle.program_part.proofs.ProgramLaws.{and-true}
 use Rattle.matching.specs.Tags.{roleOf, roleAt, mask, labelNumber, tagOf}
 use Rattle.matching.specs.Key.{someTrue, someRole}
 use Rattle.matching.proofs.SumLaws.{sum-equal, bits-same, bits-some, bits-none}

@@ -12,8 +12,8 @@ use lib.Seq.{drop-cons, getD-take}
 use lib.Dec.{eqb, ltb}
 use borrow.Author.Tests.{ltb-true, ltb-false, eq-eqb, ne-eqb}
 use Rattle.pws.specs.Machine.{newestWaiting}
-use Rattle.reading.specs.declared.entry.Queue.{Queue}
-use Rattle.reading.specs.Cube.{waitingOf}
+use Rattle.whole_file.specs.declared.entry.Queue.{Queue}
+use Rattle.whole_file.specs.Cube.{waitingOf}
 use Rattle.lists.specs.Values.{pairwise}
 use Rattle.lists.specs.Matching.{subsequence, queueMatches}
 

@@ -6,11 +6,11 @@ use mathlib.Core.List.{List}
 use lib.ListN.{getD}
 use Rattle.pws.specs.Machine.{allBelow}
 use Rattle.pws.specs.Tagged.{tagged}
-use Rattle.records.specs.declared.program.Shape.{Shape}
-use Rattle.reading.specs.declared.entry.Cube.{Cube}
-use Rattle.records.specs.ProgramPart.{shapeOf}
-use Rattle.reading.specs.declared.entry.Queue.{Queue}
-use Rattle.reading.specs.Cube.{noQueue, waitingOf, configurationOf}
+use Rattle.program_part.specs.declared.program.Shape.{Shape}
+use Rattle.whole_file.specs.declared.entry.Cube.{Cube}
+use Rattle.program_part.specs.ProgramPart.{shapeOf}
+use Rattle.whole_file.specs.declared.entry.Queue.{Queue}
+use Rattle.whole_file.specs.Cube.{noQueue, waitingOf, configurationOf}
 use Rattle.lists.specs.Matching.{subsequence, queueMatches, tagMatches}
 use Rattle.matching.specs.Relation.{relation}
 use Rattle.matching.specs.Tags.{tagsOf}

@@ -6,10 +6,10 @@ use lib.Bits.{bitXor}
 use lib.ListN.{getD}
 use lib.Dec.{leb}
 use Rattle.pws.specs.Machine.{isEmpty}
-use Rattle.records.specs.declared.program.Shape.{Shape}
-use Rattle.reading.specs.declared.entry.Queue.{Queue}
-use Rattle.reading.specs.declared.entry.Cube.{Cube}
-use Rattle.reading.specs.Cube.{noQueue, waitingOf}
+use Rattle.program_part.specs.declared.program.Shape.{Shape}
+use Rattle.whole_file.specs.declared.entry.Queue.{Queue}
+use Rattle.whole_file.specs.declared.entry.Cube.{Cube}
+use Rattle.whole_file.specs.Cube.{noQueue, waitingOf}
 use Rattle.matching.specs.Tags.{tagsOf}
 
 -- in 64 bits
@@ -52,8 +52,8 @@ abbrev pub withTags : List ℕ → ℕ → ℕ → ℕ
 withTags ts zero h = h
 withTags ts (suc n) h = withTags ts n (withTag (getD ts n 0) h)
 
-unfoldable pub statesNumber : Shape → List ℕ → ℕ
-statesNumber s zs = stir (packedStates (min (s .processes) 4) zs)
+unfoldable pub statesMixed : Shape → List ℕ → ℕ
+statesMixed s zs = stir (packedStates (min (s .processes) 4) zs)
 
 unfoldable pub numberOf : Shape → Cube → ℕ
 numberOf s c =

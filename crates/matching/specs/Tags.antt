@@ -7,9 +7,9 @@ use lib.ListN.{getD}
 use lib.Dec.{eqb, ltb}
 use Rattle.pws.specs.declared.Message.{Message}
 use Rattle.pws.specs.Machine.{Memory, noMessage, lastWrite}
-use Rattle.records.specs.declared.program.Shape.{Shape}
-use Rattle.reading.specs.declared.entry.Cube.{Cube}
-use Rattle.reading.specs.Cube.{channelOf}
+use Rattle.program_part.specs.declared.program.Shape.{Shape}
+use Rattle.whole_file.specs.declared.entry.Cube.{Cube}
+use Rattle.whole_file.specs.Cube.{channelOf}
 
 -- f 0 + .. + f (n - 1)
 abbrev pub sumBelow : ℕ → (ℕ → ℕ) → ℕ
@@ -38,12 +38,12 @@ abbrev pub labelNumber : Message → ℕ
 labelNumber x = 256 * x .process + x .variable
 
 -- the memory of a cube, of which the code has twenty messages
-abbrev pub memoryOf : Cube → Memory
-memoryOf c = record { channel = channelOf (c .messages) (min (c .count) 20); pointer = λ p. getD (c .pointers) p 0 }
+abbrev pub cubeMemory : Cube → Memory
+cubeMemory c = record { channel = channelOf (c .messages) (min (c .count) 20); pointer = λ p. getD (c .pointers) p 0 }
 
 -- the tag of message i, counted from 1
 unfoldable pub tagOf : Shape → Cube → ℕ → ℕ
-tagOf s c i = 65536 * mask (min (s .processes) 4) (min (s .variables) 4) (memoryOf c) i + labelNumber (getD (c .messages) (i - 1) noMessage)
+tagOf s c i = 65536 * mask (min (s .processes) 4) (min (s .variables) 4) (cubeMemory c) i + labelNumber (getD (c .messages) (i - 1) noMessage)
 
 -- the tag of message i at i - 1, and 0 where there is no message
 unfoldable pub tagsOf : Shape → Cube → List ℕ

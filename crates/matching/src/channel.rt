@@ -3,8 +3,8 @@ ghost use mathlib.Core.Path.{_≡_};
 ghost use Prim.Native.Nat.{ℕ, _+_, _*_};
 ghost use mathlib.Core.Bool.{_&&_};
 ghost use lib.Dec.{eqb};
-ghost use Rattle.reading.specs.Cube.{configurationOf};
-ghost use Rattle.records.specs.ProgramPart.{shapeOf};
+ghost use Rattle.whole_file.specs.Cube.{configurationOf};
+ghost use Rattle.program_part.specs.ProgramPart.{shapeOf};
 ghost use Rattle.lists.specs.Matching.{messageMatches, matches};
 ghost use Rattle.matching.specs.Relation.{relation};
 ghost use Rattle.matching.specs.Tags.{labelNumber};
@@ -14,10 +14,10 @@ use crate::queues::states_match;
 use crate::tags::lowest;
 use crate::values::least;
 use crate::values::values_related;
+use program_part::bytes::wide;
+use program_part::program::Shape;
 use pws::Message;
-use reading::entry::Cube;
-use records::bytes::wide;
-use records::program::Shape;
+use whole_file::entry::Cube;
 
 // Two messages with their tags: labels are bytes, so equal tags have equal labels and equal roles.
 fn message_matches(exact: bool, a: Message, left: u64, b: Message, right: u64) -> bool

@@ -2,12 +2,12 @@
 ghost use mathlib.Core.Path.{_≡_};
 ghost use Prim.Native.Nat.{min};
 ghost use Rattle.matching.specs.Tags.{tagsOf};
-ghost use Rattle.matching.specs.Number.{stir, packedStates, emptyBit, packedQueues, statesNumber, numberOf};
+ghost use Rattle.matching.specs.Number.{stir, packedStates, emptyBit, packedQueues, statesMixed, numberOf};
 use crate::values::least;
 use crate::values::waiting;
-use reading::entry::Cube;
-use reading::entry::Queue;
-use records::program::Shape;
+use program_part::program::Shape;
+use whole_file::entry::Cube;
+use whole_file::entry::Queue;
 
 fn stir(h: u64) -> u64
     ensures { λ r. ⌜ r ≡ stir h ⌝ }
@@ -63,7 +63,7 @@ fn packed_queues(shape: Shape, queues: [Queue; 16], h: u64) -> u64
 
 // The number of the local states.
 pub fn states_number(shape: Shape, states: [u8; 4]) -> u64
-    ensures { λ r. ⌜ r ≡ statesNumber shape states ⌝ }
+    ensures { λ r. ⌜ r ≡ statesMixed shape states ⌝ }
 {
     stir(packed_states(shape.processes, states))
 }

@@ -4,16 +4,16 @@ ghost use Prim.Native.Nat.{min};
 ghost use lib.ListN.{getD};
 ghost use lib.Dec.{eqb};
 ghost use Rattle.pws.specs.Machine.{allBelow};
-ghost use Rattle.reading.specs.Cube.{waitingOf};
+ghost use Rattle.whole_file.specs.Cube.{waitingOf};
 ghost use Rattle.lists.specs.Matching.{queueMatches};
 ghost use Rattle.matching.specs.Relation.{relation};
 ghost use Rattle.matching.specs.Match.{queueRow};
 use crate::values::least;
 use crate::values::related;
 use crate::values::waiting;
-use reading::entry::Queue;
-use records::bytes::both;
-use records::program::Shape;
+use program_part::bytes::both;
+use program_part::program::Shape;
+use whole_file::entry::Queue;
 
 pub fn states_match(processes: usize, a: [u8; 4], b: [u8; 4]) -> bool
     ensures { λ r. ⌜ r ≡ allBelow (min processes 4) (λ p. eqb (getD a p 0) (getD b p 0)) ⌝ }

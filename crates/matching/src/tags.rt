@@ -4,11 +4,11 @@ ghost use Prim.Native.Nat.{_+_, _*_, _%_, _^_, _<_, min};
 ghost use Rattle.matching.specs.Roles.{labelPlace};
 ghost use Rattle.matching.specs.Tags.{labelNumber, tagsOf, lowestPointer};
 use crate::values::least;
+use program_part::bytes::both;
+use program_part::bytes::wide;
+use program_part::program::Shape;
 use pws::Message;
-use reading::entry::Cube;
-use records::bytes::both;
-use records::bytes::wide;
-use records::program::Shape;
+use whole_file::entry::Cube;
 
 fn label_number(message: Message) -> u64
     ensures { λ r. ⌜ (r ≡ labelNumber message) × (r < 65536) ⌝ }

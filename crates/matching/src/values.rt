@@ -2,13 +2,13 @@
 ghost use mathlib.Core.Path.{_≡_};
 ghost use Prim.Native.Nat.{min};
 ghost use lib.ListN.{length};
-ghost use Rattle.reading.specs.Cube.{waitingOf};
+ghost use Rattle.whole_file.specs.Cube.{waitingOf};
 ghost use Rattle.lists.specs.Values.{pairwise};
 ghost use Rattle.matching.specs.Relation.{relation};
-use reading::entry::Queue;
-use reading::evidence::either;
-use records::bytes::both;
-use records::bytes::wide;
+use program_part::bytes::both;
+use program_part::bytes::either;
+use program_part::bytes::wide;
+use whole_file::entry::Queue;
 
 pub fn least(a: usize, b: usize) -> usize
     ensures { λ r. ⌜ r ≡ min a b ⌝ }

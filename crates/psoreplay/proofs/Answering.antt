@@ -13,8 +13,8 @@ use Rattle.pws.specs.declared.Transition.{Transition}
 use Rattle.pws.specs.Program as pws
 use Rattle.pws.specs.Machine.{allBelow}
 use Rattle.pso.specs.Machine.{PsoConfiguration, noItem, valueFirst, markFirst, psoSees}
-use Rattle.records.specs.declared.program.Shape.{Shape}
-use Rattle.records.specs.ProgramPart.{shapeOf}
+use Rattle.program_part.specs.declared.program.Shape.{Shape}
+use Rattle.program_part.specs.ProgramPart.{shapeOf}
 use Rattle.replay.proofs.Answering.{all-four, queue-is}
 use Rattle.psoreplay.specs.declared.step.PsoRun.{PsoRun}
 use Rattle.psoreplay.specs.Causes.{psoQueueFits, psoValueFits, psoOperateAnswer}

@@ -5,10 +5,10 @@ use mathlib.Core.List.{List}
 use lib.ListN.{length, length-set}
 use Rattle.pws.specs.declared.Operation.{Operation}
 use Rattle.pws.specs.declared.Operation.the-variants.{Nop, Read, Write, Mfence, Sfence, Arw}
-use Rattle.records.specs.declared.program.Shape.{Shape}
+use Rattle.program_part.specs.declared.program.Shape.{Shape}
 use Rattle.psoreplay.specs.declared.step.PsoMove.{PsoMove}
 use Rattle.psoreplay.specs.declared.step.PsoMove.the-variants.{Absent, Operate, UpdateVariable, RemoveMark}
-use Rattle.psoreplay.specs.Layout.{markedBelow, areaOperated, areaAfter}
+use Rattle.psoreplay.specs.Layout.{markedBelow, areaOperated, lowerAfterMove}
 
 pub marked-length : (a tails : List ℕ) (p n : ℕ) → length (markedBelow a tails p n) ≡ length a
 unfolding markedBelow
@@ -23,7 +23,7 @@ operated-length a tails s p Mfence = refl
 operated-length a tails s p Sfence = marked-length a tails p (s .variables)
 operated-length a tails s p (Arw v old new) = refl
 
-pub area-length : (a tails : List ℕ) (s : Shape) (m : PsoMove) → length (areaAfter a tails s m) ≡ length a
+pub area-length : (a tails : List ℕ) (s : Shape) (m : PsoMove) → length (lowerAfterMove a tails s m) ≡ length a
 area-length a tails s Absent = refl
 area-length a tails s (Operate t) = operated-length a tails s (t .process) (t .operation)
 area-length a tails s (UpdateVariable p v) = refl

@@ -21,7 +21,7 @@ use Rattle.replay.specs.declared.step.Cause.the-variants.{State, Queue, Pointer
 use Rattle.replay.specs.declared.step.Answer.{Answer}
 use Rattle.replay.specs.declared.step.Answer.the-variants.{Permitted, Refused}
 use Rattle.replay.specs.Causes.{firstCause}
-use Rattle.psoreplay.specs.Causes.{InState, NotEmpty, OtherValue, MemoryCause, Because, psoQueueFits, psoValueFits, psoStepAnswer}
+use Rattle.psoreplay.specs.Causes.{PsoInState, NotEmpty, PsoOtherValue, MemoryCause, Because, psoQueueFits, psoValueFits, psoStepAnswer}
 
 -- what an answer says of a step
 abbrev pub Answers : Program → PsoConfiguration → PsoStep → Answer → Type 0
@@ -75,7 +75,7 @@ queue-fits S d p Mfence t n = n .2 (no-item (d .buffer p (n .0)) (all-yes (S .va
 queue-fits S d p Sfence t n = n
 queue-fits S d p (Arw v x y) t n = n (no-item (d .buffer p v) t)
 
-value-refused : (d : PsoConfiguration) (p : ℕ) (o : Operation) → psoValueFits d p o ≡ false → OtherValue d p o
+value-refused : (d : PsoConfiguration) (p : ℕ) (o : Operation) → psoValueFits d p o ≡ false → PsoOtherValue d p o
 value-refused d p Nop e = T-is false (sym e)
 value-refused d p (Read v x) e = eqb-not (psoSees d p v) x e
 value-refused d p (Write v x) e = T-is false (sym e)
@@ -83,7 +83,7 @@ value-refused d p Mfence e = T-is false (sym e)
 value-refused d p Sfence e = T-is false (sym e)
 value-refused d p (Arw v x y) e = eqb-not (getD (d .memory) v 0) x e
 
-value-fits : (d : PsoConfiguration) (p : ℕ) (o : Operation) → T (psoValueFits d p o) → OtherValue d p o → ⊥
+value-fits : (d : PsoConfiguration) (p : ℕ) (o : Operation) → T (psoValueFits d p o) → PsoOtherValue d p o → ⊥
 value-fits d p Nop t n = n
 value-fits d p (Read v x) t n = n (eqb→eq (psoSees d p v) x t)
 value-fits d p (Write v x) t n = n
@@ -106,7 +106,7 @@ operate-fits S d p (Arw v x y) = refl
 -- ---- the answer to a step
 
 module _ (P : Program) (d : PsoConfiguration) where
-  in-state : (n : ℕ) → T (ltb n (length (P .transitions))) → T (eqb (d .state (transition P n .process)) (transition P n .from)) → InState P d n
+  in-state : (n : ℕ) → T (ltb n (length (P .transitions))) → T (eqb (d .state (transition P n .process)) (transition P n .from)) → PsoInState P d n
   in-state n e s = (ltb→lt n (length (P .transitions)) e, eqb→eq (d .state (transition P n .process)) (transition P n .from) s)
 
   operate-answers : (n : ℕ) (e s q v : Bool) → ltb n (length (P .transitions)) ≡ e → eqb (d .state (transition P n .process)) (transition P n .from) ≡ s
@@ -147,9 +147,9 @@ module _ (P : Program) (d : PsoConfiguration) where
 
   -- what a permitted transition finds
   record Finds (n : ℕ) : Type 0 where
-    state : InState P d n
+    state : PsoInState P d n
     queue : NotEmpty (P .shape) d (transition P n .process) (transition P n .operation) → ⊥
-    value : OtherValue d (transition P n .process) (transition P n .operation) → ⊥
+    value : PsoOtherValue d (transition P n .process) (transition P n .operation) → ⊥
 
   finds : (n : ℕ) → T (psoMay P d (Operate n)) → Finds n
   finds n t =

@@ -10,7 +10,7 @@ use lib.Dec.{T, eqb, leb, ltb}
 use borrow.Author.Tests.{ne-eqb, le-leb, lt-leb, lt-ltb, le-ltb}
 use Rattle.pws.specs.Machine.{newestOr}
 use Rattle.pso.specs.Machine.{Item, value, mark, noItem, valueFirst, markFirst, oldestValue, withoutFirst, newestValue}
-use Rattle.records.specs.ProgramPart.{tableFrom}
+use Rattle.program_part.specs.ProgramPart.{tableFrom}
 use Rattle.psoreplay.specs.Layout.{itemAt}
 use Rattle.psoreplay.specs.Represents.{itemOf, itemsIn}
 

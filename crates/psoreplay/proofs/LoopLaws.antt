@@ -4,9 +4,9 @@ use mathlib.Core.Path.{_≡_, refl, sym, ap, _∙_}
 use mathlib.Core.List.{List}
 use native.Mathlib.Omega.{arith}
 use lib.ListN.{length}
-use Rattle.records.specs.declared.program.Shape.{Shape}
-use Rattle.records.specs.declared.program.Row.{Row}
-use Rattle.records.specs.Records.{stepAt}
+use Rattle.program_part.specs.declared.program.Shape.{Shape}
+use Rattle.program_part.specs.declared.program.Row.{Row}
+use Rattle.program_part.specs.Records.{stepAt}
 use Rattle.replay.specs.declared.step.Cause.{Cause}
 use Rattle.replay.specs.declared.step.Answer.{Answer}
 use Rattle.replay.specs.declared.step.Answer.the-variants.{Permitted, Refused}
@@ -15,7 +15,7 @@ use Rattle.replay.specs.Answers.{answerThen}
 use Rattle.replay.specs.Loop.{nextStep, lastIn, stoppedBy}
 use Rattle.psoreplay.specs.declared.step.PsoMove.{PsoMove}
 use Rattle.psoreplay.specs.declared.step.PsoRun.{PsoRun}
-use Rattle.psoreplay.specs.Layout.{psoMoveOf, answerIn, runAfter, areaAfter}
+use Rattle.psoreplay.specs.Layout.{psoMoveOf, answerIn, runAfter, lowerAfterMove}
 use Rattle.psoreplay.specs.Loop.{runFrom}
 use Rattle.psoreplay.proofs.AreaLaws.{area-length}
 
@@ -38,7 +38,7 @@ module _ (f : List ℕ) (s : Shape) (transitions targets : Row) (steps k place :
   run-step : k < steps → (let m = psoMoveOf f transitions (stepAt f place) in
       runFrom f s transitions targets steps k place run a (steps - k)
       ≡ answerThen (answerIn run a s m) k (λ _.
-      runFrom f s transitions targets steps (k + 1) (nextStep f place) (runAfter run a s m) (areaAfter a (run .tails) s m) (steps - (k + 1))))
+      runFrom f s transitions targets steps (k + 1) (nextStep f place) (runAfter run a s m) (lowerAfterMove a (run .tails) s m) (steps - (k + 1))))
   unfolding runFrom
   run-step l = let e : steps - k ≡ suc (steps - (k + 1)) = omega arith in ap (runFrom f s transitions targets steps k place run a) e
 
@@ -51,16 +51,16 @@ module _ {f : List ℕ} {s : Shape} {transitions targets : Row} {steps at : ℕ}
       → stoppedBy k x ≡ runFrom f s transitions targets steps 0 at run₀ a₀ steps
   replaying-stopped x cause l e q =
       let m = psoMoveOf f transitions (stepAt f place) in
-      let goes : RunAnswer = runFrom f s transitions targets steps (k + 1) (nextStep f place) (runAfter run a s m) (areaAfter a (run .tails) s m) (steps - (k + 1)) in
+      let goes : RunAnswer = runFrom f s transitions targets steps (k + 1) (nextStep f place) (runAfter run a s m) (lowerAfterMove a (run .tails) s m) (steps - (k + 1)) in
       ap (stoppedBy k) q
       ∙ sym (run-step f s transitions targets steps k place run a l ∙ ap (λ (z : Answer). answerThen z k (λ _. goes)) (sym e ∙ q)) ∙ r .rest
 
   pub replaying-next : {place′ : ℕ} {run′ : PsoRun} {a′ : List ℕ} (m : PsoMove) → k < steps → m ≡ psoMoveOf f transitions (stepAt f place)
-      → answerIn run a s m ≡ Permitted → place′ ≡ nextStep f place → run′ ≡ runAfter run a s m → a′ ≡ areaAfter a (run .tails) s m
+      → answerIn run a s m ≡ Permitted → place′ ≡ nextStep f place → run′ ≡ runAfter run a s m → a′ ≡ lowerAfterMove a (run .tails) s m
       → Replaying f s transitions targets steps at run₀ a₀ (k + 1) place′ run′ a′
   replaying-next {place′} {run′} {a′} m l em e ep er ea =
       let goes : PsoMove → RunAnswer =
-      λ x. runFrom f s transitions targets steps (k + 1) (nextStep f place) (runAfter run a s x) (areaAfter a (run .tails) s x) (steps - (k + 1)) in
+      λ x. runFrom f s transitions targets steps (k + 1) (nextStep f place) (runAfter run a s x) (lowerAfterMove a (run .tails) s x) (steps - (k + 1)) in
       record {
         most = omega arith;
         same = ap length ea ∙ area-length a (run .tails) s m ∙ r .same;

@@ -13,11 +13,11 @@ use Rattle.pws.specs.Program as pws
 use Rattle.pws.specs.Machine.{Configuration}
 use Rattle.pso.specs.Machine.{PsoConfiguration, psoMay, psoAfter}
 use Rattle.pso.specs.Runs.{psoStartWith, psoInTarget}
-use Rattle.records.specs.declared.program.Shape.{Shape}
-use Rattle.records.specs.declared.program.Program.{Program}
-use Rattle.records.specs.Records.{stepAt}
-use Rattle.records.specs.ProgramPart.{shapeOf, programOf, targetsOf}
-use Rattle.reading.specs.EvidencePart.{stepsOf}
+use Rattle.program_part.specs.declared.program.Shape.{Shape}
+use Rattle.program_part.specs.declared.program.Program.{Program}
+use Rattle.program_part.specs.Records.{stepAt}
+use Rattle.program_part.specs.ProgramPart.{shapeOf, programOf, targetsOf}
+use Rattle.whole_file.specs.EvidencePart.{stepsOf}
 use Rattle.replay.specs.declared.step.Answer.{Answer}
 use Rattle.replay.specs.declared.step.Answer.the-variants.{Permitted, Refused}
 use Rattle.replay.specs.declared.run.RunAnswer.{RunAnswer}
@@ -28,7 +28,7 @@ use Rattle.replay.proofs.Replaying.{zeros-at, steps-next, steps-length, targets
 use Rattle.psoreplay.specs.declared.step.PsoRun.{PsoRun}
 use Rattle.psoreplay.specs.Causes.{psoStepAnswer}
 use Rattle.psoreplay.specs.Answers.{psoStep, psoSteps, psoLowestMet, psoAnswerFrom, psoRunAnswer}
-use Rattle.psoreplay.specs.Layout.{psoMoveOf, runAfter, areaAfter}
+use Rattle.psoreplay.specs.Layout.{psoMoveOf, runAfter, lowerAfterMove}
 use Rattle.psoreplay.specs.Loop.{firstRun, runFrom, replayIn}
 use Rattle.psoreplay.proofs.CauseLaws.{Answers, answers}
 use Rattle.psoreplay.proofs.Answering.{Kept}
@@ -87,8 +87,8 @@ module _ (f : List ℕ) (p : Program) (R : pws.ProgramInRange (programOf f p)) (
       let w = psoMoveOf f (p .transitions) s in
       one-step k d s _ _ _ (psoStepAnswer P₁ d (psoStep s)) refl (answer-is f p R k run a d K s) (λ t.
       let e : suc k ≡ k + 1 = omega arith in
-      all-steps m (k + 1) (nextStep f at) (runAfter run a (p .shape) w) (areaAfter a (run .tails) (p .shape) w) (psoAfter P₁ d (psoStep s))
-      (subst (λ (j : ℕ). Kept (shapeOf (p .shape)) j (runAfter run a (p .shape) w) (areaAfter a (run .tails) (p .shape) w) (psoAfter P₁ d (psoStep s))) e
+      all-steps m (k + 1) (nextStep f at) (runAfter run a (p .shape) w) (lowerAfterMove a (run .tails) (p .shape) w) (psoAfter P₁ d (psoStep s))
+      (subst (λ (j : ℕ). Kept (shapeOf (p .shape)) j (runAfter run a (p .shape) w) (lowerAfterMove a (run .tails) (p .shape) w) (psoAfter P₁ d (psoStep s))) e
       (step-kept f p R k run a d K (omega arith) s t)) (omega arith)
       ∙ ap₂ (λ (j : ℕ) (ss : List Step). psoAnswerFrom P₁ (targetsOf f p) n j (psoAfter P₁ d (psoStep s)) (psoSteps ss)) (sym e) (sym (steps-next f m at)))
 

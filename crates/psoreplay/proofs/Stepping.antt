@@ -21,9 +21,9 @@ use Rattle.pws.specs.Machine.{put, allBelow}
 use Rattle.pws.proofs.Facts.{put-same, put-other}
 use Rattle.pws.proofs.Cases.{all-yes}
 use Rattle.pso.specs.Machine.{Item, value, mark, PsoConfiguration, valueFirst, markFirst, withoutFirst, bufferAfter, psoMemoryAfter, mayOperateBy, afterOperate, afterUpdateVariable, afterRemoveMark, psoMay, psoAfter}
-use Rattle.records.specs.declared.program.Shape.{Shape}
-use Rattle.records.specs.declared.program.Program.{Program}
-use Rattle.records.specs.ProgramPart.{shapeOf, programOf}
+use Rattle.program_part.specs.declared.program.Shape.{Shape}
+use Rattle.program_part.specs.declared.program.Program.{Program}
+use Rattle.program_part.specs.ProgramPart.{shapeOf, programOf}
 use Rattle.replay.specs.declared.step.Cause.the-variants.{State}
 use Rattle.replay.specs.declared.step.Answer.the-variants.{Refused}
 use Rattle.replay.specs.Causes.{firstCause}
@@ -48,7 +48,7 @@ use Rattle.psoreplay.specs.Layout.{
   runAfter,
   markedBelow,
   areaOperated,
-  areaAfter,
+  lowerAfterMove,
 }
 use Rattle.psoreplay.proofs.AreaLaws.{area-length}
 use Rattle.psoreplay.proofs.Items.{BufferHeld, held-keep, held-value, held-mark, held-pop, oldest-held, marked-held}
@@ -183,7 +183,7 @@ module _ (s : Shape) (pl : s .processes ≤ 4) (vl : s .variables ≤ 4) (xl : (
   ]
 
   pub kept-operated : (w : Transition) → w .process < s .processes → pws.OperationOf (shapeOf s) (w .operation)
-      → Kept (shapeOf s) (suc k) (runAfter run a s (Operate w)) (areaAfter a (run .tails) s (Operate w)) (afterOperate (shapeOf s) d w)
+      → Kept (shapeOf s) (suc k) (runAfter run a s (Operate w)) (lowerAfterMove a (run .tails) s (Operate w)) (afterOperate (shapeOf s) d w)
   kept-operated w pe oe =
       record {
         states = states-operated (w .process) (w .to) pe;
@@ -202,7 +202,7 @@ module _ (s : Shape) (pl : s .processes ≤ 4) (vl : s .variables ≤ 4) (xl : (
   head-few q u qe ue = omega (arith, K .buffers q u qe ue .order, tail-few q u qe ue)
 
   pub kept-updated : (p v : ℕ) → p < s .processes → v < s .variables → T (valueFirst (d .buffer p v))
-      → Kept (shapeOf s) (suc k) (runAfter run a s (UpdateVariable p v)) (areaAfter a (run .tails) s (UpdateVariable p v)) (afterUpdateVariable d p v)
+      → Kept (shapeOf s) (suc k) (runAfter run a s (UpdateVariable p v)) (lowerAfterMove a (run .tails) s (UpdateVariable p v)) (afterUpdateVariable d p v)
   unfolding headItem
   kept-updated p v pe ve y =
       let o = oldest-held (K .buffers p v pe ve) y in
@@ -224,7 +224,7 @@ module _ (s : Shape) (pl : s .processes ≤ 4) (vl : s .variables ≤ 4) (xl : (
       }
 
   pub kept-removed : (p : ℕ) → p < s .processes → ((v : ℕ) → v < s .variables → T (markFirst (d .buffer p v)))
-      → Kept (shapeOf s) (suc k) (runAfter run a s (RemoveMark p)) (areaAfter a (run .tails) s (RemoveMark p)) (afterRemoveMark (shapeOf s) d p)
+      → Kept (shapeOf s) (suc k) (runAfter run a s (RemoveMark p)) (lowerAfterMove a (run .tails) s (RemoveMark p)) (afterRemoveMark (shapeOf s) d p)
   kept-removed p pe y =
       let n = s .variables in
       record {
@@ -269,14 +269,14 @@ module _ (f : List ℕ) (p : Program) where
 
     -- a permitted step leaves a representation of the configuration after it
     pub step-kept : k < 1024 → (u : Step) → T (psoMay (programOf f p) d (psoStep u))
-        → Kept (shapeOf (p .shape)) (suc k) (runAfter run a (p .shape) (psoMoveOf f (p .transitions) u)) (areaAfter a (run .tails) (p .shape) (psoMoveOf f (p .transitions) u))
+        → Kept (shapeOf (p .shape)) (suc k) (runAfter run a (p .shape) (psoMoveOf f (p .transitions) u)) (lowerAfterMove a (run .tails) (p .shape) (psoMoveOf f (p .transitions) u))
         (psoAfter (programOf f p) d (psoStep u))
     step-kept few (steps.Take n) t =
         let y = and-yes (ltb n (length (programOf f p .transitions))) (mayOperateBy (shapeOf (p .shape)) d (pws.transition (programOf f p) n)) t in
         let l = ltb→lt n (length (programOf f p .transitions)) (y .0) in
         let o = R .transitions n l in
         let w = pws.transition (programOf f p) n in
-        subst (λ (m : PsoMove). Kept (shapeOf (p .shape)) (suc k) (runAfter run a (p .shape) m) (areaAfter a (run .tails) (p .shape) m) (afterOperate (shapeOf (p .shape)) d w))
+        subst (λ (m : PsoMove). Kept (shapeOf (p .shape)) (suc k) (runAfter run a (p .shape) m) (lowerAfterMove a (run .tails) (p .shape) m) (afterOperate (shapeOf (p .shape)) d w))
         (sym (move-operate n (omega (arith, transition-count f p))))
         (kept-operated (p .shape) (R .shape .processes) (R .shape .variables) (R .shape .values) k run a d K few w (o .process) (o .operation))
     step-kept few (steps.Serialise q v) t =

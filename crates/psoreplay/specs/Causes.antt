@@ -25,8 +25,8 @@ use Rattle.replay.specs.Causes.{firstCause}
 -- ---- the causes, in the machine's words
 
 -- the transition of number n exists, and its process is in its first local state
-abbrev pub InState : Program → PsoConfiguration → ℕ → Type 0
-InState P d n = (n < length (P .transitions)) × (d .state (transition P n .process) ≡ transition P n .from)
+abbrev pub PsoInState : Program → PsoConfiguration → ℕ → Type 0
+PsoInState P d n = (n < length (P .transitions)) × (d .state (transition P n .process) ≡ transition P n .from)
 
 -- a buffer of p that the operation asks to be empty is not
 abbrev pub NotEmpty : Shape → PsoConfiguration → ℕ → Operation → Type 0
@@ -38,22 +38,22 @@ NotEmpty S d p Sfence = ⊥
 NotEmpty S d p (Arw v old new) = d .buffer p v ≢ []
 
 -- the value that p reads, or that an arw finds in memory, is another
-abbrev pub OtherValue : PsoConfiguration → ℕ → Operation → Type 0
-OtherValue d p Nop = ⊥
-OtherValue d p (Read v x) = psoSees d p v ≢ x
-OtherValue d p (Write v x) = ⊥
-OtherValue d p Mfence = ⊥
-OtherValue d p Sfence = ⊥
-OtherValue d p (Arw v old new) = getD (d .memory) v 0 ≢ old
+abbrev pub PsoOtherValue : PsoConfiguration → ℕ → Operation → Type 0
+PsoOtherValue d p Nop = ⊥
+PsoOtherValue d p (Read v x) = psoSees d p v ≢ x
+PsoOtherValue d p (Write v x) = ⊥
+PsoOtherValue d p Mfence = ⊥
+PsoOtherValue d p Sfence = ⊥
+PsoOtherValue d p (Arw v old new) = getD (d .memory) v 0 ≢ old
 
 -- the first of them that applies to a transition
 abbrev pub OperateCause : Program → PsoConfiguration → ℕ → Cause → Type 0
-OperateCause P d n State = InState P d n → ⊥
-OperateCause P d n Queue = InState P d n × NotEmpty (P .shape) d (transition P n .process) (transition P n .operation)
+OperateCause P d n State = PsoInState P d n → ⊥
+OperateCause P d n Queue = PsoInState P d n × NotEmpty (P .shape) d (transition P n .process) (transition P n .operation)
 OperateCause P d n Pointer = ⊥
 OperateCause P d n Value =
-    InState P d n × (NotEmpty (P .shape) d (transition P n .process) (transition P n .operation) → ⊥)
-    × OtherValue d (transition P n .process) (transition P n .operation)
+    PsoInState P d n × (NotEmpty (P .shape) d (transition P n .process) (transition P n .operation) → ⊥)
+    × PsoOtherValue d (transition P n .process) (transition P n .operation)
 OperateCause P d n Nothing = ⊥
 
 -- the memory's own steps have one

@@ -10,9 +10,9 @@ use Rattle.pws.specs.declared.Operation.the-variants.{Nop, Read, Write, Mfence,
 use Rattle.pws.specs.declared.Transition.{Transition}
 use Rattle.pws.specs.declared.Step as pws
 use Rattle.pws.specs.declared.Step.the-variants as steps
-use Rattle.records.specs.declared.program.Shape.{Shape}
-use Rattle.records.specs.declared.program.Row.{Row}
-use Rattle.records.specs.Bytes.{choose, byte}
+use Rattle.program_part.specs.declared.program.Shape.{Shape}
+use Rattle.program_part.specs.declared.program.Row.{Row}
+use Rattle.program_part.specs.Bytes.{choose, byte}
 use Rattle.replay.specs.declared.step.Cause.the-variants.{State}
 use Rattle.replay.specs.declared.step.Answer.{Answer}
 use Rattle.replay.specs.declared.step.Answer.the-variants.{Refused}
@@ -189,8 +189,8 @@ areaOperated a tails s p Mfence = a
 areaOperated a tails s p Sfence = markedBelow a tails p (s .variables)
 areaOperated a tails s p (Arw v old new) = a
 
-abbrev pub areaAfter : List ℕ → List ℕ → Shape → PsoMove → List ℕ
-areaAfter a tails s Absent = a
-areaAfter a tails s (Operate t) = areaOperated a tails s (t .process) (t .operation)
-areaAfter a tails s (UpdateVariable p v) = a
-areaAfter a tails s (RemoveMark p) = a
+abbrev pub lowerAfterMove : List ℕ → List ℕ → Shape → PsoMove → List ℕ
+lowerAfterMove a tails s Absent = a
+lowerAfterMove a tails s (Operate t) = areaOperated a tails s (t .process) (t .operation)
+lowerAfterMove a tails s (UpdateVariable p v) = a
+lowerAfterMove a tails s (RemoveMark p) = a

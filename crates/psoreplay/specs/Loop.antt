@@ -3,15 +3,15 @@
 use Prim.Native.Nat.{ℕ, zero, suc, _+_}
 use mathlib.Core.List.{List}
 use lib.ListN.{replicate}
-use Rattle.records.specs.declared.program.Shape.{Shape}
-use Rattle.records.specs.declared.program.Row.{Row}
-use Rattle.records.specs.declared.program.Program.{Program}
-use Rattle.records.specs.Records.{stepAt}
+use Rattle.program_part.specs.declared.program.Shape.{Shape}
+use Rattle.program_part.specs.declared.program.Row.{Row}
+use Rattle.program_part.specs.declared.program.Program.{Program}
+use Rattle.program_part.specs.Records.{stepAt}
 use Rattle.replay.specs.declared.run.RunAnswer.{RunAnswer}
 use Rattle.replay.specs.Answers.{answerThen}
 use Rattle.replay.specs.Loop.{nextStep, lastIn}
 use Rattle.psoreplay.specs.declared.step.PsoRun.{PsoRun}
-use Rattle.psoreplay.specs.Layout.{psoMoveOf, answerIn, runAfter, areaAfter}
+use Rattle.psoreplay.specs.Layout.{psoMoveOf, answerIn, runAfter, lowerAfterMove}
 
 abbrev pub firstRun : List ℕ → List ℕ → PsoRun
 firstRun states memory = record { states = states; memory = memory; heads = replicate 16 0; tails = replicate 16 0; lasts = replicate 16 0 }
@@ -22,7 +22,7 @@ runFrom f s transitions targets steps k at run a zero = lastIn f targets s (run 
 runFrom f s transitions targets steps k at run a (suc n) =
     let m = psoMoveOf f transitions (stepAt f at) in
     answerThen (answerIn run a s m) k (λ _.
-    runFrom f s transitions targets steps (k + 1) (nextStep f at) (runAfter run a s m) (areaAfter a (run .tails) s m) n)
+    runFrom f s transitions targets steps (k + 1) (nextStep f at) (runAfter run a s m) (lowerAfterMove a (run .tails) s m) n)
 
 abbrev pub replayIn : List ℕ → Program → List ℕ → ℕ → ℕ → List ℕ → RunAnswer
 replayIn f p memory at count a =

@@ -7,7 +7,7 @@ use lib.ListN.{getD}
 use lib.Dec.{eqb}
 use Rattle.pws.specs.Program.{Shape}
 use Rattle.pso.specs.Machine.{Item, value, mark, PsoConfiguration}
-use Rattle.records.specs.ProgramPart.{tableFrom}
+use Rattle.program_part.specs.ProgramPart.{tableFrom}
 use Rattle.psoreplay.specs.declared.step.PsoRun.{PsoRun}
 use Rattle.psoreplay.specs.Layout.{itemAt}
 

@@ -1,12 +1,12 @@
 // What a step of the PSO machine gives: `run_after` the small part of the configuration, and `store` puts the items into the buffers.
 ghost use mathlib.Core.Path.{_≡_};
-ghost use Rattle.psoreplay.specs.Layout.{advancedBelow, statesAfter, memoryOperated, memoryAfter, headsAfter, tailsOperated, tailsAfter, lastsOperated, lastsAfter, runAfter, markedBelow, areaOperated, areaAfter};
+ghost use Rattle.psoreplay.specs.Layout.{advancedBelow, statesAfter, memoryOperated, memoryAfter, headsAfter, tailsOperated, tailsAfter, lastsOperated, lastsAfter, runAfter, markedBelow, areaOperated, lowerAfterMove};
 use crate::area::put_item;
 use crate::step::PsoMove;
 use crate::step::PsoRun;
 use crate::step::head_item;
+use program_part::program::Shape;
 use pws::Operation;
-use records::program::Shape;
 use replay::after::advanced;
 use replay::area::next_number;
 use replay::area::queue_number;
@@ -195,7 +195,7 @@ fn store_operated(lower: &mut [u8], tails: [u16; 16], shape: Shape, p: usize, op
 
 // `tails` are those before the step.
 pub(crate) fn store(lower: &mut [u8], tails: [u16; 16], shape: Shape, step: PsoMove)
-    ensures { λ _. ⌜ now (lower .exit) ≡ areaAfter (now (lower .entry)) tails shape step ⌝ }
+    ensures { λ _. ⌜ now (lower .exit) ≡ lowerAfterMove (now (lower .entry)) tails shape step ⌝ }
 {
     match step {
         PsoMove::Absent => {}

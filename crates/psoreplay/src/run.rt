@@ -3,8 +3,8 @@ ghost use mathlib.Core.Path.{_≡_};
 ghost use Prim.Native.Nat.{_≤_};
 ghost use lib.ListN.{length, replicate};
 ghost use Rattle.pws.specs.Program.{ProgramInRange};
-ghost use Rattle.records.specs.ProgramPart.{programOf, targetsOf};
-ghost use Rattle.reading.specs.EvidencePart.{stepsOf};
+ghost use Rattle.program_part.specs.ProgramPart.{programOf, targetsOf};
+ghost use Rattle.whole_file.specs.EvidencePart.{stepsOf};
 ghost use Rattle.psoreplay.specs.Answers.{psoSteps, psoRunAnswer};
 ghost use Rattle.psoreplay.specs.Loop.{firstRun, replayIn};
 use crate::after::run_after;
@@ -12,14 +12,14 @@ use crate::after::store;
 use crate::step::PsoRun;
 use crate::step::pso_move;
 use crate::step::step_answer;
-use reading::steps::step_at;
-use records::program::Program;
+use program_part::program::Program;
 use replay::area::clear;
 use replay::run::RunAnswer;
 use replay::run::last_answer;
 use replay::run::next_step;
 use replay::run::stopped_by;
 use replay::step::Answer;
+use whole_file::steps::step_at;
 
 // Initial local states, empty buffers, and this memory.
 fn first_run(states: [u8; 4], memory: [u8; 4]) -> PsoRun

@@ -15,8 +15,8 @@ use Rattle.pws.specs.declared.Transition.{Transition}
 use Rattle.pws.specs.Program as pws
 use Rattle.pws.specs.Machine.{Configuration, message, newest, lastWrite, isEmpty, newestWaiting, newestOr, allBelow, noneWaiting, atNewest, sees}
 use Rattle.pws.proofs.Facts.{last-is}
-use Rattle.records.specs.declared.program.Shape.{Shape}
-use Rattle.records.specs.ProgramPart.{tableFrom, shapeOf}
+use Rattle.program_part.specs.declared.program.Shape.{Shape}
+use Rattle.program_part.specs.ProgramPart.{tableFrom, shapeOf}
 use Rattle.replay.specs.declared.step.Run.{Run}
 use Rattle.replay.specs.Causes.{queueFits, pointerFits, valueFits, takeAnswer}
 use Rattle.replay.specs.Layout.{

@@ -13,8 +13,8 @@ use Rattle.replay.specs.declared.step.Move.{Move}
 use Rattle.replay.specs.declared.step.Move.the-variants.{Absent, Take, Serialise, Update}
 use Rattle.replay.specs.declared.step.Run.{Run}
 use Rattle.replay.specs.Layout.{putSnapshot, appended, lowerTaken, lowerAfter}
-use Rattle.records.specs.Bytes.{choose, byte}
-use Rattle.records.specs.Records.{transitionAt, operationOf, isKind, stepBody}
+use Rattle.program_part.specs.Bytes.{choose, byte}
+use Rattle.program_part.specs.Records.{transitionAt, operationOf, isKind, stepBody}
 use native.Mathlib.Decide.{ℕ-discrete}
 
 -- ---- cleared up to i

@@ -1,7 +1,7 @@
 -- Each row of the table of worked cases holds.
 use mathlib.Core.Path.{refl}
-use Rattle.records.specs.Bytes.{cut}
-use Rattle.records.specs.Records.{
+use Rattle.program_part.specs.Bytes.{cut}
+use Rattle.program_part.specs.Records.{
   firstNumber,
   checked,
   isKind,
@@ -23,9 +23,9 @@ use Rattle.records.specs.Records.{
   stepNumber,
   stepAt,
 }
-use Rattle.records.specs.ProgramPart.{unlessEnd, statesFrom, rowFrom, transitionsFrom, atClaim, targetsFrom, rowsFrom, restFrom, programFrom}
-use Rattle.reading.specs.EvidencePart.{stepsFrom, stepsOf}
-use Rattle.reading.specs.Reading.{evidenceFrom, partsOf, readFile}
+use Rattle.program_part.specs.ProgramPart.{unlessEnd, statesFrom, rowFrom, transitionsFrom, atClaim, targetsFrom, rowsFrom, restFrom, programFrom}
+use Rattle.whole_file.specs.EvidencePart.{stepsFrom, stepsOf}
+use Rattle.whole_file.specs.Reading.{evidenceFrom, partsOf, readFile}
 use Rattle.replay.specs.Cases.{ofRun, Holds, Each, no-row, row, cases}
 
 pub cases-hold : Each Holds cases

@@ -12,7 +12,7 @@ use Rattle.pws.specs.declared.Message.{Message}
 use Rattle.pws.specs.Program.{Shape}
 use Rattle.pws.specs.Machine.{Memory, put, putQueue, message, newest, lastLabelled, lastWrite, copyWith, append, point, withoutOldest}
 use Rattle.pws.proofs.Facts.{put-same, put-other, put-each, putQueue-each, last-is}
-use Rattle.records.specs.ProgramPart.{tableFrom}
+use Rattle.program_part.specs.ProgramPart.{tableFrom}
 use Rattle.replay.specs.Layout.{
   nextNumber,
   queueNumber,

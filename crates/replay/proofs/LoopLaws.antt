@@ -5,9 +5,9 @@ use mathlib.Core.Bool.{true, false}
 use mathlib.Core.List.{List}
 use native.Mathlib.Omega.{arith}
 use lib.ListN.{length}
-use Rattle.records.specs.declared.program.Shape.{Shape}
-use Rattle.records.specs.declared.program.Row.{Row}
-use Rattle.records.specs.Records.{stepAt}
+use Rattle.program_part.specs.declared.program.Shape.{Shape}
+use Rattle.program_part.specs.declared.program.Row.{Row}
+use Rattle.program_part.specs.Records.{stepAt}
 use Rattle.replay.specs.declared.step.Cause.{Cause}
 use Rattle.replay.specs.declared.step.Answer.{Answer}
 use Rattle.replay.specs.declared.step.Answer.the-variants.{Permitted, Refused}

@@ -15,12 +15,12 @@ use Rattle.pws.specs.Program as pws
 use Rattle.pws.specs.Machine.{Configuration, lastWrite, may, after}
 use Rattle.pws.specs.Configurations.{inTarget, startWith}
 use Rattle.pws.specs.Sequences as sequences
-use Rattle.records.specs.declared.program.Shape.{Shape}
-use Rattle.records.specs.declared.program.Program.{Program}
-use Rattle.records.specs.Bytes.{choose, byte}
-use Rattle.records.specs.Records.{isKind, stateAt, stepBody, stepAt}
-use Rattle.records.specs.ProgramPart.{tableFrom, shapeOf, programOf, targetsOf}
-use Rattle.reading.specs.EvidencePart.{stepsOf}
+use Rattle.program_part.specs.declared.program.Shape.{Shape}
+use Rattle.program_part.specs.declared.program.Program.{Program}
+use Rattle.program_part.specs.Bytes.{choose, byte}
+use Rattle.program_part.specs.Records.{isKind, stateAt, stepBody, stepAt}
+use Rattle.program_part.specs.ProgramPart.{tableFrom, shapeOf, programOf, targetsOf}
+use Rattle.whole_file.specs.EvidencePart.{stepsOf}
 use Rattle.replay.specs.declared.step.Answer.{Answer}
 use Rattle.replay.specs.declared.step.Answer.the-variants.{Permitted, Refused}
 use Rattle.replay.specs.declared.step.Run.{Run}

@@ -19,10 +19,10 @@ use Rattle.pws.specs.declared.Step.the-variants as step
 use Rattle.pws.specs.Program as pws
 use Rattle.pws.specs.Machine.{Configuration, put, isEmpty, queueAfter, memoryAfter, afterTake, afterSerialise, afterUpdate, mayTake, may, after}
 use Rattle.pws.proofs.Facts.{put-same, put-other}
-use Rattle.records.specs.declared.program.Shape.{Shape}
-use Rattle.records.specs.declared.program.Program.{Program}
-use Rattle.records.specs.Records.{transitionAt}
-use Rattle.records.specs.ProgramPart.{tableFrom, shapeOf, programOf}
+use Rattle.program_part.specs.declared.program.Shape.{Shape}
+use Rattle.program_part.specs.declared.program.Program.{Program}
+use Rattle.program_part.specs.Records.{transitionAt}
+use Rattle.program_part.specs.ProgramPart.{tableFrom, shapeOf, programOf}
 use Rattle.replay.specs.declared.step.Answer.the-variants.{Refused}
 use Rattle.replay.specs.declared.step.Cause.the-variants.{State}
 use Rattle.replay.specs.declared.step.Move.{Move}

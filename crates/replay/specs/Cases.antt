@@ -4,7 +4,7 @@ use Prim.Native.Nat.{ℕ}
 use mathlib.Core.Path.{_≡_}
 use mathlib.Core.Option.{Option, none, some}
 use mathlib.Core.List.{List, [], _∷_, _++_}
-use Rattle.reading.specs.Reading.{FileRead, refused, list, run, readFile}
+use Rattle.whole_file.specs.Reading.{FileRead, refused, list, run, readFile}
 use Rattle.replay.specs.Replay.{RunVerdict, reachable, stopped, missed, runVerdict}
 
 -- ---- rows and what they say

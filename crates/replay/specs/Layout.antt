@@ -10,10 +10,10 @@ use Rattle.pws.specs.declared.Operation.the-variants.{Nop, Read, Write, Mfence,
 use Rattle.pws.specs.declared.Transition.{Transition}
 use Rattle.pws.specs.declared.Step as pws
 use Rattle.pws.specs.declared.Step.the-variants as steps
-use Rattle.records.specs.declared.program.Shape.{Shape}
-use Rattle.records.specs.declared.program.Row.{Row}
-use Rattle.records.specs.Bytes.{choose, byte}
-use Rattle.records.specs.Records.{transitionAt}
+use Rattle.program_part.specs.declared.program.Shape.{Shape}
+use Rattle.program_part.specs.declared.program.Row.{Row}
+use Rattle.program_part.specs.Bytes.{choose, byte}
+use Rattle.program_part.specs.Records.{transitionAt}
 use Rattle.replay.specs.declared.step.Cause.the-variants.{State}
 use Rattle.replay.specs.declared.step.Answer.{Answer}
 use Rattle.replay.specs.declared.step.Answer.the-variants.{Refused}

@@ -5,11 +5,11 @@ use mathlib.Core.Bool.{Bool, cond, _&&_, _||_}
 use mathlib.Core.List.{List}
 use lib.ListN.{length, getD, replicate}
 use lib.Dec.{eqb, leb}
-use Rattle.records.specs.declared.program.Shape.{Shape}
-use Rattle.records.specs.declared.program.Row.{Row}
-use Rattle.records.specs.declared.program.Program.{Program}
-use Rattle.records.specs.Bytes.{choose, byte}
-use Rattle.records.specs.Records.{stepBody, stepAt}
+use Rattle.program_part.specs.declared.program.Shape.{Shape}
+use Rattle.program_part.specs.declared.program.Row.{Row}
+use Rattle.program_part.specs.declared.program.Program.{Program}
+use Rattle.program_part.specs.Bytes.{choose, byte}
+use Rattle.program_part.specs.Records.{stepBody, stepAt}
 use Rattle.replay.specs.declared.step.Cause.the-variants.{Nothing}
 use Rattle.replay.specs.declared.step.Answer.{Answer}
 use Rattle.replay.specs.declared.step.Answer.the-variants.{Permitted, Refused}

@@ -5,7 +5,7 @@ use mathlib.Core.List.{List, []}
 use lib.ListN.{length, getD}
 use Rattle.pws.specs.Program.{Shape}
 use Rattle.pws.specs.Machine.{Configuration, message, lastWrite}
-use Rattle.records.specs.ProgramPart.{tableFrom}
+use Rattle.program_part.specs.ProgramPart.{tableFrom}
 use Rattle.replay.specs.declared.step.Run.{Run}
 use Rattle.replay.specs.Layout.{snapshotAt, waitingAt}
 

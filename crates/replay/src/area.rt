@@ -7,8 +7,8 @@ ghost use mathlib.Core.Path.{_≡_};
 ghost use Prim.Native.Nat.{_+_, _*_, _<_};
 ghost use lib.ListN.{length, set, replicate};
 ghost use Rattle.replay.specs.Layout.{queueNumber, snapshotAt, putSnapshot, waitingAt, waitingPlace, halves, putWaiting, nextNumber};
-use records::bytes::byte_at;
-use records::bytes::wide;
+use program_part::bytes::byte_at;
+use program_part::bytes::wide;
 
 pub fn widen(x: u16) -> usize
     ensures { λ r. ⌜ r ≡ x ⌝ }

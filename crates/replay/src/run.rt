@@ -3,8 +3,8 @@ ghost use mathlib.Core.Path.{_≡_};
 ghost use Prim.Native.Nat.{_+_, _≤_};
 ghost use lib.ListN.{length, replicate};
 ghost use Rattle.pws.specs.Program.{ProgramInRange};
-ghost use Rattle.records.specs.ProgramPart.{programOf, targetsOf};
-ghost use Rattle.reading.specs.EvidencePart.{stepsOf};
+ghost use Rattle.program_part.specs.ProgramPart.{programOf, targetsOf};
+ghost use Rattle.whole_file.specs.EvidencePart.{stepsOf};
 ghost use Rattle.replay.specs.Answers.{runAnswer, RunOf};
 ghost use Rattle.replay.specs.Loop.{agreesIn, inTargetIn, nextTarget, nextStep, lastIn, stoppedBy, firstRun, firstRows, replayIn};
 use crate::after::rows_after;
@@ -16,16 +16,16 @@ use crate::step::Cause;
 use crate::step::Run;
 use crate::step::move_of;
 use crate::step::step_answer;
-use reading::evidence::Contents;
-use reading::evidence::either;
-use reading::steps::step_at;
-use reading::steps::step_body;
-use records::bytes::both;
-use records::bytes::field;
-use records::program::Program;
-use records::program::Row;
-use records::program::Shape;
-use records::program::of_four;
+use program_part::bytes::both;
+use program_part::bytes::either;
+use program_part::bytes::field;
+use program_part::program::Program;
+use program_part::program::Row;
+use program_part::program::Shape;
+use program_part::program::of_four;
+use whole_file::evidence::Contents;
+use whole_file::steps::step_at;
+use whole_file::steps::step_body;
 
 // The verdict of a run: reachable with the number of steps and the lowest target met; the number of the step that is refused, and why; or
 // the number of steps, after which no target is met.

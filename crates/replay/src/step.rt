@@ -6,16 +6,16 @@ ghost use Rattle.replay.specs.Layout.{moveOf, transitionIn, pointerOf, l
 use crate::area::queue_number;
 use crate::area::snapshot_at;
 use crate::area::waiting_at;
+use program_part::bytes::both;
+use program_part::bytes::either;
+use program_part::bytes::wide;
+use program_part::program::Row;
+use program_part::program::Shape;
+use program_part::program::of_four;
+use program_part::record::transition_at;
 use pws::Operation;
 use pws::Step;
 use pws::Transition;
-use reading::evidence::either;
-use records::bytes::both;
-use records::bytes::wide;
-use records::program::Row;
-use records::program::Shape;
-use records::program::of_four;
-use records::record::transition_at;
 
 // Why the machine refuses a step, in the order in which it is tested: the process is in another local state; a queue is not empty; the
 // pointer is not at the newest message; another value is there; there is nothing to serialise, or no newer message.

@@ -10,11 +10,11 @@ use lib.ListN.{length, getD}
 use lib.Dec.{T, eqb, ltb}
 use borrow.Author.Tests.{eq-eqb, ne-eqb, eqb-true, eqb-false, lt-ltb, le-ltb, ltb-true, ltb-false}
 use Rattle.pws.specs.Machine.{put}
-use Rattle.records.specs.declared.program.Shape.{Shape}
-use Rattle.records.specs.Bytes.{choose, byte, le32}
-use Rattle.contents.specs.Again.{cubeAt}
-use Rattle.matching.specs.Number.{numberOf, statesNumber}
-use Rattle.summary.specs.Slots.{word, linked, linkTo, headLink, nextLink, countAt, hung, counted, homeOf, markOf, Met}
+use Rattle.program_part.specs.declared.program.Shape.{Shape}
+use Rattle.program_part.specs.Bytes.{choose, byte, le32}
+use Rattle.by_number.specs.Again.{cubeAt}
+use Rattle.matching.specs.Number.{numberOf, statesMixed}
+use Rattle.summary.specs.Slots.{word, linked, linkTo, headLink, nextLink, countAt, hung, putCount, homeOf, markIn, Met}
 use Rattle.summary.specs.Groups.{sameStates, statesAt, leads, inGroup, leaderOf, added, addedFrom, summaryOf}
 use Rattle.summary.specs.Summary.{sumBelow, Grouped, Summed}
 use Rattle.summary.proofs.WordLaws.{put-is, put-is-not, put-ext, hung-length, hung-head, hung-next, hung-count, counted-length, counted-head, counted-next, counted-count}
@@ -32,20 +32,20 @@ module _ {f list sum : List ℕ} {n : ℕ} {s : Shape} {m : ℕ} (G : Grouped f 
 
   -- entry m hangs first on the chain of a home, and the number of one group, that of entry j, goes up by one
   module _ (new : List ℕ) (number j : ℕ) (len : length new ≡ length sum) (jl : j < n)
-      (head : (i : ℕ) → headLink new i ≡ put (headLink sum) (homeOf number n) (linkTo m (markOf number)) i)
+      (head : (i : ℕ) → headLink new i ≡ put (headLink sum) (homeOf number n) (linkTo m (markIn number)) i)
       (next : (i : ℕ) → nextLink new i ≡ put (nextLink sum) m (headLink sum (homeOf number n)) i)
       (count : (i : ℕ) → countAt new i ≡ put (countAt sum) j (countAt sum j + 1) i) where
     home : ℕ
     home = homeOf number n
 
     old : (number′ i mark : ℕ) → Met sum n (headLink sum (homeOf number′ n)) i mark → Met new n (headLink new (homeOf number′ n)) i mark
-    old number′ i mark r = met-old sum new n (homeOf number n) m (markOf number) l (omega arith) head next (homeOf number′ n) (G .heads (homeOf number′ n) (home-below number′ n (omega arith))) r
+    old number′ i mark r = met-old sum new n (homeOf number n) m (markIn number) l (omega arith) head next (homeOf number′ n) (G .heads (homeOf number′ n) (home-below number′ n (omega arith))) r
 
-    joins : Met new n (headLink new (homeOf number n)) m (markOf number)
-    joins = met-new sum new n (homeOf number n) m (markOf number) l (omega arith) head next
+    joins : Met new n (headLink new (homeOf number n)) m (markIn number)
+    joins = met-new sum new n (homeOf number n) m (markIn number) l (omega arith) head next
 
     heads : (h : ℕ) → h < n → linked (headLink new h) ≤ suc m
-    heads h x = heads-new sum new n (homeOf number n) m (markOf number) l (omega arith) head next h (G .heads h x)
+    heads h x = heads-new sum new n (homeOf number n) m (markIn number) l (omega arith) head next h (G .heads h x)
 
     total : sumBelow n (countAt new) ≡ suc m
     total =
@@ -54,7 +54,7 @@ module _ {f list sum : List ℕ} {n : ℕ} {s : Shape} {m : ℕ} (G : Grouped f 
 
     -- the entry goes where it is looked for, and the group is its own
     pub grouped-more : ((k : ℕ) → k < n → countAt new k ≡ cond (ltb k (suc m) && leads f list s k) (inGroup f list s (suc m) (st k)) 0)
-        → (leads f list s m ≡ true → number ≡ statesNumber s (st m)) → (leads f list s m ≡ false → number ≡ numberOf s (cubeAt f list m)) → Grouped f list new n s (suc m)
+        → (leads f list s m ≡ true → number ≡ statesMixed s (st m)) → (leads f list s m ≡ false → number ≡ numberOf s (cubeAt f list m)) → Grouped f list new n s (suc m)
     grouped-more numbers a b =
         record {
           most = l;
@@ -62,12 +62,12 @@ module _ {f list sum : List ℕ} {n : ℕ} {s : Shape} {m : ℕ} (G : Grouped f 
           numbers = numbers;
           total = total;
           first = λ k x e. elim (ℕ-discrete k m) [
-            | yes d ↦ (markOf number, rw d (subst (λ (h : ℕ). Met new n (headLink new (homeOf h n)) m (markOf number)) (a (sym (ap (leads f list s) d) ∙ e)) joins))
-            | no d ↦ let r = G .first k (omega arith) e in (r .0, old (statesNumber s (st k)) k (r .0) (r .1))
+            | yes d ↦ (markIn number, rw d (subst (λ (h : ℕ). Met new n (headLink new (homeOf h n)) m (markIn number)) (a (sym (ap (leads f list s) d) ∙ e)) joins))
+            | no d ↦ let r = G .first k (omega arith) e in (r .0, old (statesMixed s (st k)) k (r .0) (r .1))
           ];
           others = λ k x e. elim (ℕ-discrete k m) [
-            | yes d ↦ rw d (subst (λ (h : ℕ). Met new n (headLink new (homeOf h n)) m (markOf h)) (b (sym (ap (leads f list s) d) ∙ e)) joins)
-            | no d ↦ old (numberOf s (cubeAt f list k)) k (markOf (numberOf s (cubeAt f list k))) (G .others k (omega arith) e)
+            | yes d ↦ rw d (subst (λ (h : ℕ). Met new n (headLink new (homeOf h n)) m (markIn h)) (b (sym (ap (leads f list s) d) ∙ e)) joins)
+            | no d ↦ old (numberOf s (cubeAt f list k)) k (markIn (numberOf s (cubeAt f list k))) (G .others k (omega arith) e)
           ];
           heads = heads;
         }
@@ -89,20 +89,20 @@ module _ {f list sum : List ℕ} {n : ℕ} {s : Shape} {m : ℕ} (G : Grouped f 
 
   module _ (none : leaderOf f list s sum n (st m) ≡ 0) where
     number : ℕ
-    number = statesNumber s (st m)
+    number = statesMixed s (st m)
 
     hangs : List ℕ
-    hangs = hung sum (homeOf number n) m (markOf number)
+    hangs = hung sum (homeOf number n) m (markIn number)
 
     leading : List ℕ
-    leading = counted hangs m 1
+    leading = putCount hangs m 1
 
     led-home : homeOf number n < n
     led-home = home-below number n (omega arith)
 
     led-room : 8 * n ≤ length hangs
     unfolding hangs
-    led-room = omega (arith, hung-length sum n (G .room) (homeOf number n) m (markOf number) led-home l (omega arith) (omega arith), G .room)
+    led-room = omega (arith, hung-length sum n (G .room) (homeOf number n) m (markIn number) led-home l (omega arith) (omega arith), G .room)
 
     no-same : (k : ℕ) → k < m → sameStates s (st k) (st m) ≡ true → ⊥
     no-same = no-leader G (st m) none
@@ -115,15 +115,15 @@ module _ {f list sum : List ℕ} {n : ℕ} {s : Shape} {m : ℕ} (G : Grouped f 
     led-numbers i =
         counted-count hangs n led-room m 1 l (omega arith) i
         ∙ put-ext (countAt hangs) (countAt sum) m 1 (countAt sum m + 1) i (omega (arith, m-none))
-        (hung-count sum n (G .room) (homeOf number n) m (markOf number) led-home l (omega arith) (omega arith) i)
+        (hung-count sum n (G .room) (homeOf number n) m (markIn number) led-home l (omega arith) (omega arith) i)
 
     grouped-first : Grouped f list leading n s (suc m)
     unfolding leading hangs number
     grouped-first =
         grouped-more leading number m
-        (counted-length hangs n led-room m 1 l (omega arith) ∙ hung-length sum n (G .room) (homeOf number n) m (markOf number) led-home l (omega arith) (omega arith)) l
-        (λ i. counted-head hangs n led-room m 1 l (omega arith) i ∙ hung-head sum n (G .room) (homeOf number n) m (markOf number) led-home l (omega arith) (omega arith) i)
-        (λ i. counted-next hangs n led-room m 1 l (omega arith) i ∙ hung-next sum n (G .room) (homeOf number n) m (markOf number) led-home l (omega arith) (omega arith) i) led-numbers
+        (counted-length hangs n led-room m 1 l (omega arith) ∙ hung-length sum n (G .room) (homeOf number n) m (markIn number) led-home l (omega arith) (omega arith)) l
+        (λ i. counted-head hangs n led-room m 1 l (omega arith) i ∙ hung-head sum n (G .room) (homeOf number n) m (markIn number) led-home l (omega arith) (omega arith) i)
+        (λ i. counted-next hangs n led-room m 1 l (omega arith) i ∙ hung-next sum n (G .room) (homeOf number n) m (markIn number) led-home l (omega arith) (omega arith) i) led-numbers
         (λ k x. elim (ℕ-discrete k m) [
           | yes d ↦ rw d (led-numbers m ∙ put-is (countAt sum) m (countAt sum m + 1) ∙ rw (lt-ltb m (suc m) (omega arith), m-leads)
               (omega (arith, m-none, in-more f list s m (st m) (same-refl s (st m)), in-none f list s m (st m) no-same)))
@@ -154,10 +154,10 @@ module _ {f list sum : List ℕ} {n : ℕ} {s : Shape} {m : ℕ} (G : Grouped f 
     key = numberOf s (cubeAt f list m)
 
     counts : List ℕ
-    counts = counted sum j (countAt sum j + 1)
+    counts = putCount sum j (countAt sum j + 1)
 
     joined : List ℕ
-    joined = hung counts (homeOf key n) m (markOf key)
+    joined = hung counts (homeOf key n) m (markIn key)
 
     join-room : 8 * n ≤ length counts
     unfolding counts
@@ -168,7 +168,7 @@ module _ {f list sum : List ℕ} {n : ℕ} {s : Shape} {m : ℕ} (G : Grouped f 
 
     join-numbers : (i : ℕ) → countAt joined i ≡ put (countAt sum) j (countAt sum j + 1) i
     unfolding joined counts
-    join-numbers i = hung-count counts n join-room (homeOf key n) m (markOf key) key-home l (omega arith) (omega arith) i ∙ counted-count sum n (G .room) j (countAt sum j + 1) (omega (arith, jm)) fits i
+    join-numbers i = hung-count counts n join-room (homeOf key n) m (markIn key) key-home l (omega arith) (omega arith) i ∙ counted-count sum n (G .room) j (countAt sum j + 1) (omega (arith, jm)) fits i
 
     m-follows : leads f list s m ≡ true → ⊥
     m-follows e = leads-none f list s m e j jm j-same
@@ -186,10 +186,10 @@ module _ {f list sum : List ℕ} {n : ℕ} {s : Shape} {m : ℕ} (G : Grouped f 
         let head = counted-head sum n (G .room) j (countAt sum j + 1) (omega (arith, jm)) fits in
         let next = counted-next sum n (G .room) j (countAt sum j + 1) (omega (arith, jm)) fits in
         grouped-more joined key j
-        (hung-length counts n join-room (homeOf key n) m (markOf key) key-home l (omega arith) (omega arith) ∙ counted-length sum n (G .room) j (countAt sum j + 1) (omega (arith, jm)) fits) (omega (arith, jm))
-        (λ i. hung-head counts n join-room (homeOf key n) m (markOf key) key-home l (omega arith) (omega arith) i
-        ∙ put-ext (headLink counts) (headLink sum) (homeOf key n) (linkTo m (markOf key)) (linkTo m (markOf key)) i refl (head i))
-        (λ i. hung-next counts n join-room (homeOf key n) m (markOf key) key-home l (omega arith) (omega arith) i
+        (hung-length counts n join-room (homeOf key n) m (markIn key) key-home l (omega arith) (omega arith) ∙ counted-length sum n (G .room) j (countAt sum j + 1) (omega (arith, jm)) fits) (omega (arith, jm))
+        (λ i. hung-head counts n join-room (homeOf key n) m (markIn key) key-home l (omega arith) (omega arith) i
+        ∙ put-ext (headLink counts) (headLink sum) (homeOf key n) (linkTo m (markIn key)) (linkTo m (markIn key)) i refl (head i))
+        (λ i. hung-next counts n join-room (homeOf key n) m (markIn key) key-home l (omega arith) (omega arith) i
         ∙ put-ext (nextLink counts) (nextLink sum) m (headLink counts (homeOf key n)) (headLink sum (homeOf key n)) i (head (homeOf key n)) (next i)) join-numbers
         (λ k x. elim (ℕ-discrete k j) [
           | yes d ↦ rw d (join-numbers j ∙ put-is (countAt sum) j (countAt sum j + 1) ∙ rw (lt-ltb j (suc m) (omega (arith, jm)), j-leads)

@@ -10,7 +10,7 @@ use lib.ListN.{length}
 use lib.Dec.{ltb, eqb}
 use lib.Count.{leadingZeros}
 use borrow.Author.Tests.{lt-ltb, le-ltb, ltb-true}
-use Rattle.records.specs.Bytes.{choose}
+use Rattle.program_part.specs.Bytes.{choose}
 use Rattle.pws.specs.Machine.{put}
 use Rattle.summary.specs.Slots.{linked, marked, linkTo, headLink, nextLink, homeOf, Met, here, later}
 use Rattle.summary.proofs.WordLaws.{put-is, put-is-not}

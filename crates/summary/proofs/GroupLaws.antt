@@ -10,7 +10,7 @@ use lib.ListN.{length, getD}
 use lib.Dec.{T, eqb, ltb}
 use borrow.Author.Tests.{eq-eqb, eqb-true, lt-ltb, le-ltb, not-true}
 use Rattle.pws.specs.Machine.{allBelow, put}
-use Rattle.records.specs.declared.program.Shape.{Shape}
+use Rattle.program_part.specs.declared.program.Shape.{Shape}
 use Rattle.matching.proofs.Below.{all-true, all-false}
 use Rattle.summary.specs.Groups.{sameStates, statesAt, leads, inGroup}
 use Rattle.summary.specs.Summary.{sumBelow}

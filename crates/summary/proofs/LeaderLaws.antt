@@ -9,9 +9,9 @@ use native.Mathlib.Decide.{decLe, ℕ-discrete}
 use lib.ListN.{length, getD}
 use lib.Dec.{T, eqb, ltb}
 use borrow.Author.Tests.{eq-eqb, ne-eqb, eqb-true, eqb-false, lt-ltb, le-ltb, ltb-true, ltb-false, not-true}
-use Rattle.records.specs.declared.program.Shape.{Shape}
-use Rattle.records.specs.Bytes.{choose}
-use Rattle.matching.specs.Number.{stir, behind, packedStates, statesNumber}
+use Rattle.program_part.specs.declared.program.Shape.{Shape}
+use Rattle.program_part.specs.Bytes.{choose}
+use Rattle.matching.specs.Number.{stir, behind, packedStates, statesMixed}
 use Rattle.summary.specs.Slots.{linked, headLink, nextLink, countAt, homeOf, Met, here, later}
 use Rattle.summary.specs.Groups.{sameStates, statesAt, leads, inGroup, leaderFrom, leaderOf}
 use Rattle.summary.specs.Summary.{Grouped}
@@ -23,8 +23,8 @@ packed-same zero a b g = refl
 packed-same (suc n) a b g = ap₂ (behind 8) (packed-same n a b (λ p l. g p (omega arith))) (g n (omega arith))
 
 -- the number of local states is theirs
-pub same-number : (s : Shape) (a b : List ℕ) → sameStates s a b ≡ true → statesNumber s a ≡ statesNumber s b
-unfolding statesNumber
+pub same-number : (s : Shape) (a b : List ℕ) → sameStates s a b ≡ true → statesMixed s a ≡ statesMixed s b
+unfolding statesMixed
 same-number s a b e = ap stir (packed-same (min (s .processes) 4) a b (same-at s a b e))
 
 both-true : (a b : Bool) → a && b ≡ true → (a ≡ true) × (b ≡ true)
@@ -121,7 +121,7 @@ module _ {f list sum : List ℕ} {n : ℕ} {s : Shape} {m : ℕ} (G : Grouped f 
     unfolding leaderOf
     leader-is =
         let r = G .first k kl ke in
-        leader-met (suc n) n (headLink sum (homeOf (statesNumber s states) n)) (r .0) (omega arith) (omega arith)
+        leader-met (suc n) n (headLink sum (homeOf (statesMixed s states) n)) (r .0) (omega arith) (omega arith)
         (subst (λ (h : ℕ). Met sum n (headLink sum (homeOf h n)) k (r .0)) (same-number s (st k) states ks) (r .1))
 
   -- none is found exactly where no entry has these states
@@ -133,4 +133,4 @@ module _ {f list sum : List ℕ} {n : ℕ} {s : Shape} {m : ℕ} (G : Grouped f 
 
   pub leader-leads : (states : List ℕ) (j : ℕ) → leaderOf f list s sum n states ≡ suc j → Leads states j
   unfolding leaderOf
-  leader-leads states j e = found-leads states (suc n) n (headLink sum (homeOf (statesNumber s states) n)) j (omega arith) e
+  leader-leads states j e = found-leads states (suc n) n (headLink sum (homeOf (statesMixed s states) n)) j (omega arith) e

@@ -5,11 +5,11 @@ use mathlib.Core.Logic.{_⊎_, inl, inr, ⊎-elim}
 use mathlib.Core.Bool.{Bool, true, false, cond}
 use mathlib.Core.List.{List}
 use native.Mathlib.Omega.{arith}
-use Rattle.records.specs.declared.program.Shape.{Shape}
-use Rattle.contents.specs.Again.{cubeAt}
-use Rattle.matching.specs.Number.{numberOf, statesNumber}
+use Rattle.program_part.specs.declared.program.Shape.{Shape}
+use Rattle.by_number.specs.Again.{cubeAt}
+use Rattle.matching.specs.Number.{numberOf, statesMixed}
 use Rattle.summary.specs.declared.walking.Walk.{Walk}
-use Rattle.summary.specs.Slots.{linked, marked, headLink, nextLink, homeOf, markOf, Met, here, later}
+use Rattle.summary.specs.Slots.{linked, marked, headLink, nextLink, homeOf, markIn, Met, here, later}
 use Rattle.summary.specs.Groups.{sameStates, statesAt, leads, leaderOf}
 use Rattle.summary.specs.Summary.{Grouped, Summed}
 use Rattle.summary.specs.Walks.{Left, ahead, Led, Onward}
@@ -57,7 +57,7 @@ module _ (f list sum : List ℕ) (n : ℕ) (s : Shape) (states : List ℕ) (numb
           ⊎-elim (λ x. inl (e ∙ c .1 ∙ ap suc (sym (x .0)), x .1))
           (λ x. inr (rw (a, j) x)) (c .3)
 
-      pub passing-found : marked at ≡ markOf number
+      pub passing-found : marked at ≡ markIn number
           → Onward f list sum n s states number below link led (record { entry = next; below = next - 1; link = after; led = led })
       passing-found q =
           record {
@@ -65,19 +65,19 @@ module _ (f list sum : List ℕ) (n : ℕ) (s : Shape) (states : List ℕ) (numb
             none = λ z. absurd (d z);
             exists = omega (arith, w .most, w .few);
             shorter = λ z. let u = w .most in less led;
-            rest = λ z k x. ⊎-elim (λ m. ⊎-elim (λ y. inl (y .0)) (λ y. inr (inl y)) (split k (markOf number) m)) (λ m. inr (inr m)) (w .kept k x);
+            rest = λ z k x. ⊎-elim (λ m. ⊎-elim (λ y. inl (y .0)) (λ y. inr (inl y)) (split k (markIn number) m)) (λ m. inr (inr m)) (w .kept k x);
           }
         where
           less : (b : Bool) → (next - 1) + cond b 0 1 < below + cond b 0 1
           less true = omega (arith, w .most, d)
           less false = omega (arith, w .most, d)
 
-      pub passing-on : (marked at ≡ markOf number → ⊥) → Passing (next - 1) after
+      pub passing-on : (marked at ≡ markIn number → ⊥) → Passing (next - 1) after
       passing-on q =
           record {
             few = w .few;
             most = omega (arith, w .most);
-            kept = λ k x. ⊎-elim (λ m. ⊎-elim (λ y. absurd (q (sym (y .1)))) (λ y. inl y) (split k (markOf number) m)) (λ m. inr m) (w .kept k x);
+            kept = λ k x. ⊎-elim (λ m. ⊎-elim (λ y. absurd (q (sym (y .1)))) (λ y. inl y) (split k (markIn number) m)) (λ m. inr m) (w .kept k x);
           }
 
 -- ---- what was not met does not match
@@ -95,4 +95,4 @@ module _ {f list sum : List ℕ} {n : ℕ} {s : Shape} (Z : Summed f list sum n 
           absurd (true-false (sym e ∙ g k (inr (refl, leader-is (Z .grouped) states k l q (r .1)))))
       go true e false q =
           let r = only k l e in
-          absurd (true-false (sym e ∙ g k (inl (subst (λ (x : ℕ). Met sum n (headLink sum (homeOf x n)) k (markOf x)) (r .0) (Z .grouped .others k l q)))))
+          absurd (true-false (sym e ∙ g k (inl (subst (λ (x : ℕ). Met sum n (headLink sum (homeOf x n)) k (markIn x)) (r .0) (Z .grouped .others k l q)))))

@@ -8,8 +8,8 @@ use lib.ListN.{length}
 use lib.Dec.{ltb}
 use lib.Count.{leadingZeros, leading-top}
 use borrow.Author.Tests.{lt-ltb, le-ltb}
-use Rattle.records.specs.Bytes.{choose, le32, put32}
-use Rattle.summary.specs.Slots.{word, putWord, linkTo, headLink, nextLink, countAt, withLink, withDigit, hung, counted, homeOf}
+use Rattle.program_part.specs.Bytes.{choose, le32, put32}
+use Rattle.summary.specs.Slots.{word, putWord, linkTo, headLink, nextLink, countAt, withLink, withDigit, hung, putCount, homeOf}
 
 pub word-far : (sum : List ℕ) (i : ℕ) → length sum / 4 ≤ i → word sum i ≡ 0
 unfolding word
@@ -75,6 +75,6 @@ unfolding hung
 hang-is sum led new home k mark old first own a b d e g = rw (← b, ← a, ← d, ← e) g
 
 pub count-is : (sum led new : List ℕ) (k x low high : ℕ) → low ≡ word sum (2 * k) → led ≡ putWord sum (2 * k) (withDigit low (x % 1024)) → high ≡ word led (2 * k + 1)
-    → new ≡ putWord led (2 * k + 1) (withDigit high (x / 1024 % 1024)) → new ≡ counted sum k x
-unfolding counted
+    → new ≡ putWord led (2 * k + 1) (withDigit high (x / 1024 % 1024)) → new ≡ putCount sum k x
+unfolding putCount
 count-is sum led new k x low high a b d e = rw (← a, ← b, ← d) e

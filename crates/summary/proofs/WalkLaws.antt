@@ -10,14 +10,14 @@ use lib.ListN.{length, take, drop, length-drop, length-append, take-append-drop,
 use lib.Seq.{take-all, take-at, drop-at, length-take-le}
 use lib.Dec.{eqb, ltb, leb}
 use borrow.Author.Tests.{eq-eqb, ne-eqb, lt-ltb, le-ltb, le-leb, lt-leb}
-use Rattle.records.specs.declared.program.Shape.{Shape}
-use Rattle.records.specs.Bytes.{choose}
-use Rattle.reading.specs.declared.entry.Cube.{Cube}
-use Rattle.contents.specs.Again.{cubeAt}
+use Rattle.program_part.specs.declared.program.Shape.{Shape}
+use Rattle.program_part.specs.Bytes.{choose}
+use Rattle.whole_file.specs.declared.entry.Cube.{Cube}
+use Rattle.by_number.specs.Again.{cubeAt}
 use Rattle.matching.specs.Tags.{tagsOf}
-use Rattle.matching.specs.Number.{numberOf, statesNumber}
+use Rattle.matching.specs.Number.{numberOf, statesMixed}
 use Rattle.summary.proofs.WordLaws.{put-length}
-use Rattle.summary.specs.Slots.{linked, headLink, nextLink, countAt, hung, counted, homeOf, markOf}
+use Rattle.summary.specs.Slots.{linked, headLink, nextLink, countAt, hung, putCount, homeOf, markIn}
 use Rattle.summary.specs.Groups.{sameStates, statesAt, leaderFrom, leaderOf, added, addedFrom, summaryOf, summarised, Joins}
 
 pub leads-no : (x : ℕ) (b : Bool) → x ≡ 0 → false ≡ (not (eqb x 0) && b)
@@ -35,7 +35,7 @@ module _ (f list sum : List ℕ) (n : ℕ) (s : Shape) (states : List ℕ) where
     pub enough : below < fuel
     pub rest : leaderOf f list s sum n states ≡ leaderFrom f list s sum states fuel below link
 
-  pub walking-begin : {number link : ℕ} → number ≡ statesNumber s states → link ≡ headLink sum (homeOf number n) → Walking n link
+  pub walking-begin : {number link : ℕ} → number ≡ statesMixed s states → link ≡ headLink sum (homeOf number n) → Walking n link
   unfolding leaderOf
   walking-begin e d = record { most = omega arith; fuel = suc n; enough = omega arith; rest = rw (d, e) }
 
@@ -97,13 +97,13 @@ module _ (f upper : List ℕ) (s : Shape) (at n : ℕ) where
   past : (x : List ℕ) → x ++ drop (length upper - at) (drop at upper) ≡ x
   past x = ap (λ (y : List ℕ). x ++ y) (drop-of-length-le (drop at upper) {i = length upper - at} (omega (arith, length-drop at upper))) ∙ append-nil x
 
-  pub place-first : {k leader number : ℕ} {cube : Cube} → cube ≡ cubeAt f list k → leader ≡ leaderOf f list s lent n (cube .states) → leader ≡ 0 → number ≡ statesNumber s (cube .states)
+  pub place-first : {k leader number : ℕ} {cube : Cube} → cube ≡ cubeAt f list k → leader ≡ leaderOf f list s lent n (cube .states) → leader ≡ 0 → number ≡ statesMixed s (cube .states)
       → Joins f list s (drop at upper) n k 0 number
   place-first {k = k} {number = number} {cube = cube} c l e d =
       record {
         leading = sym e ∙ l ∙ ap (λ (x : List ℕ). leaderOf f list s x n (cube .states)) (rest-part at upper) ∙ ap (λ (x : Cube). leaderOf f list s (drop at upper) n (x .states)) c;
         small = omega arith;
-        first = λ z. d ∙ ap (λ (x : Cube). statesNumber s (x .states)) c;
+        first = λ z. d ∙ ap (λ (x : Cube). statesMixed s (x .states)) c;
         other = λ z. absurd (z refl);
       }
 
@@ -118,14 +118,14 @@ module _ (f upper : List ℕ) (s : Shape) (at n : ℕ) where
       }
 
   pub joined-first : {k leader number : ℕ} {new : List ℕ} → Joins f list s (drop at upper) n k leader number → leader ≡ 0
-      → new ≡ counted (hung lent (homeOf number n) k (markOf number)) k 1 → list ++ (new ++ drop (length upper - at) (drop at upper)) ≡ list ++ added f list s (drop at upper) n k
+      → new ≡ putCount (hung lent (homeOf number n) k (markIn number)) k 1 → list ++ (new ++ drop (length upper - at) (drop at upper)) ≡ list ++ added f list s (drop at upper) n k
   unfolding added
   joined-first {k = k} J e d =
       ap (λ (x : List ℕ). list ++ x)
       (past _ ∙ d ∙ rw (rest-part at upper, J .first e, eq-eqb (leaderOf f list s (drop at upper) n (statesAt f list s k)) 0 (sym (J .leading) ∙ e)))
 
   pub joined-group : {k leader number : ℕ} {new : List ℕ} → Joins f list s (drop at upper) n k leader number → (leader ≡ 0 → ⊥)
-      → new ≡ hung (counted lent (leader - 1) (countAt lent (leader - 1) + 1)) (homeOf number n) k (markOf number)
+      → new ≡ hung (putCount lent (leader - 1) (countAt lent (leader - 1) + 1)) (homeOf number n) k (markIn number)
       → list ++ (new ++ drop (length upper - at) (drop at upper)) ≡ list ++ added f list s (drop at upper) n k
   unfolding added
   joined-group {k = k} J e d =
@@ -138,8 +138,8 @@ hung-same : (sum : List ℕ) (home k mark : ℕ) → length (hung sum home k mar
 unfolding hung
 hung-same sum home k mark = simp put-length
 
-counted-same : (sum : List ℕ) (k x : ℕ) → length (counted sum k x) ≡ length sum
-unfolding counted
+counted-same : (sum : List ℕ) (k x : ℕ) → length (putCount sum k x) ≡ length sum
+unfolding putCount
 counted-same sum k x = simp put-length
 
 pub added-length : (f list : List ℕ) (s : Shape) (sum : List ℕ) (n k : ℕ) → length (added f list s sum n k) ≡ length sum
@@ -147,12 +147,12 @@ unfolding added
 added-length f list s sum n k = go (eqb (leaderOf f list s sum n (statesAt f list s k)) 0)
   where
     a : List ℕ
-    a = counted (hung sum (homeOf (statesNumber s (statesAt f list s k)) n) k (markOf (statesNumber s (statesAt f list s k)))) k 1
+    a = putCount (hung sum (homeOf (statesMixed s (statesAt f list s k)) n) k (markIn (statesMixed s (statesAt f list s k)))) k 1
 
     j : ℕ
     j = leaderOf f list s sum n (statesAt f list s k) - 1
 
-    go : (b : Bool) → length (choose b (λ _. a) (λ _. hung (counted sum j (countAt sum j + 1)) (homeOf (numberOf s (cubeAt f list k)) n) k (markOf (numberOf s (cubeAt f list k))))) ≡ length sum
+    go : (b : Bool) → length (choose b (λ _. a) (λ _. hung (putCount sum j (countAt sum j + 1)) (homeOf (numberOf s (cubeAt f list k)) n) k (markIn (numberOf s (cubeAt f list k))))) ≡ length sum
     go true = simp (counted-same, hung-same)
     go false = simp (hung-same, counted-same)
 

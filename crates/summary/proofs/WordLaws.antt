@@ -9,10 +9,10 @@ use native.Mathlib.Decide.{decLe, ℕ-discrete}
 use lib.ListN.{length}
 use lib.Dec.{ltb, eqb}
 use borrow.Author.Tests.{lt-ltb, le-ltb, eq-eqb, ne-eqb}
-use Rattle.records.specs.Bytes.{choose, le32, put32}
-use Rattle.records.proofs.ByteLaws.{put32-length, le32-put32, le32-elsewhere}
+use Rattle.program_part.specs.Bytes.{choose, le32, put32}
+use Rattle.program_part.proofs.ByteLaws.{put32-length, le32-put32, le32-elsewhere}
 use Rattle.pws.specs.Machine.{put}
-use Rattle.summary.specs.Slots.{word, putWord, linked, marked, linkTo, headLink, nextLink, countAt, withLink, withDigit, hung, counted}
+use Rattle.summary.specs.Slots.{word, putWord, linked, marked, linkTo, headLink, nextLink, countAt, withLink, withDigit, hung, putCount}
 
 -- ---- words
 
@@ -162,36 +162,36 @@ module _ (sum : List ℕ) (n : ℕ) (room : 8 * n ≤ length sum) where
     unfolding low
     low-room = omega (arith, put-length sum (2 * k) (withDigit (word sum (2 * k)) (x % 1024)))
 
-    pub counted-length : length (counted sum k x) ≡ length sum
-    unfolding counted
+    pub counted-length : length (putCount sum k x) ≡ length sum
+    unfolding putCount
     counted-length = simp put-length
 
-    pub counted-head : (j : ℕ) → headLink (counted sum k x) j ≡ headLink sum j
-    unfolding counted headLink low
+    pub counted-head : (j : ℕ) → headLink (putCount sum k x) j ≡ headLink sum j
+    unfolding putCount headLink low
     counted-head j =
         let W = withDigit (word sum (2 * k)) (x % 1024) in
         let r = digit-of (word sum (2 * k)) (x % 1024) (omega arith) in
         ap lower (second-not low k (withDigit (word low (2 * k + 1)) (x / 1024 % 1024)) j) ∙ ap lower (first-word sum n room k W kl (r .2) j)
         ∙ put-ap lower (λ i. word sum (2 * i)) k W j ∙ put-own (λ i. lower (word sum (2 * i))) k (lower W) j (r .0)
 
-    pub counted-next : (j : ℕ) → nextLink (counted sum k x) j ≡ nextLink sum j
-    unfolding counted nextLink low
+    pub counted-next : (j : ℕ) → nextLink (putCount sum k x) j ≡ nextLink sum j
+    unfolding putCount nextLink low
     counted-next j =
         let W = withDigit (word low (2 * k + 1)) (x / 1024 % 1024) in
         let r = digit-of (word low (2 * k + 1)) (x / 1024 % 1024) (omega arith) in
         ap lower (second-word low n low-room k W kl (r .2) j) ∙ put-ap lower (λ i. word low (2 * i + 1)) k W j ∙ put-own (λ i. lower (word low (2 * i + 1))) k (lower W) j (r .0)
         ∙ ap lower (first-not sum k (withDigit (word sum (2 * k)) (x % 1024)) j)
 
-    low-counted : (j : ℕ) → upper (word (counted sum k x) (2 * j)) ≡ put (λ i. upper (word sum (2 * i))) k (x % 1024) j
-    unfolding counted low
+    low-counted : (j : ℕ) → upper (word (putCount sum k x) (2 * j)) ≡ put (λ i. upper (word sum (2 * i))) k (x % 1024) j
+    unfolding putCount low
     low-counted j =
         let W = withDigit (word sum (2 * k)) (x % 1024) in
         let r = digit-of (word sum (2 * k)) (x % 1024) (omega arith) in
         ap upper (second-not low k (withDigit (word low (2 * k + 1)) (x / 1024 % 1024)) j) ∙ ap upper (first-word sum n room k W kl (r .2) j)
         ∙ put-ap upper (λ i. word sum (2 * i)) k W j ∙ put-ext (λ i. upper (word sum (2 * i))) (λ i. upper (word sum (2 * i))) k (upper W) (x % 1024) j (r .1) refl
 
-    high-counted : (j : ℕ) → upper (word (counted sum k x) (2 * j + 1)) ≡ put (λ i. upper (word sum (2 * i + 1))) k (x / 1024) j
-    unfolding counted low
+    high-counted : (j : ℕ) → upper (word (putCount sum k x) (2 * j + 1)) ≡ put (λ i. upper (word sum (2 * i + 1))) k (x / 1024) j
+    unfolding putCount low
     high-counted j =
         let W = withDigit (word low (2 * k + 1)) (x / 1024 % 1024) in
         let r = digit-of (word low (2 * k + 1)) (x / 1024 % 1024) (omega arith) in
@@ -200,7 +200,7 @@ module _ (sum : List ℕ) (n : ℕ) (room : 8 * n ≤ length sum) where
         ∙ put-ext (λ i. upper (word low (2 * i + 1))) (λ i. upper (word sum (2 * i + 1))) k (upper W) (x / 1024) j e
         (ap upper (first-not sum k (withDigit (word sum (2 * k)) (x % 1024)) j))
 
-    pub counted-count : (j : ℕ) → countAt (counted sum k x) j ≡ put (countAt sum) k x j
+    pub counted-count : (j : ℕ) → countAt (putCount sum k x) j ≡ put (countAt sum) k x j
     unfolding countAt
     counted-count j = ap₂ (λ a b. a + 1024 * b) (low-counted j) (high-counted j) ∙ go (eqb j k)
       where

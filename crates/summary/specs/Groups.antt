@@ -6,11 +6,11 @@ use mathlib.Core.List.{List, _++_}
 use lib.ListN.{length, getD, take, drop}
 use lib.Dec.{eqb, ltb, leb}
 use Rattle.pws.specs.Machine.{allBelow}
-use Rattle.records.specs.declared.program.Shape.{Shape}
-use Rattle.records.specs.Bytes.{choose}
-use Rattle.contents.specs.Again.{cubeAt}
-use Rattle.matching.specs.Number.{numberOf, statesNumber}
-use Rattle.summary.specs.Slots.{linked, nextLink, headLink, countAt, hung, counted, homeOf, markOf, Met}
+use Rattle.program_part.specs.declared.program.Shape.{Shape}
+use Rattle.program_part.specs.Bytes.{choose}
+use Rattle.by_number.specs.Again.{cubeAt}
+use Rattle.matching.specs.Number.{numberOf, statesMixed}
+use Rattle.summary.specs.Slots.{linked, nextLink, headLink, countAt, hung, putCount, homeOf, markIn, Met}
 
 -- ---- groups
 
@@ -31,7 +31,7 @@ module _ (f list : List ℕ) (s : Shape) where
   inGroup zero states = 0
   inGroup (suc m) states = inGroup m states + cond (sameStates s (statesAt m) states) 1 0
 
-  -- ---- the first entry with these local states, counted from 1, or 0: on the chain of their number, one that leads a group
+  -- ---- the first entry with these local states, putCount from 1, or 0: on the chain of their number, one that leads a group
 
   unfoldable pub leaderFrom : List ℕ → List ℕ → ℕ → ℕ → ℕ → ℕ
   leaderFrom sum states zero below link = 0
@@ -42,22 +42,22 @@ module _ (f list : List ℕ) (s : Shape) where
       (λ _. leaderFrom sum states fuel (linked link - 1) (nextLink sum (linked link - 1)))))
 
   unfoldable pub leaderOf : List ℕ → ℕ → List ℕ → ℕ
-  leaderOf sum n states = leaderFrom sum states (suc n) n (headLink sum (homeOf (statesNumber s states) n))
+  leaderOf sum n states = leaderFrom sum states (suc n) n (headLink sum (homeOf (statesMixed s states) n))
 
   -- ---- additions
 
   -- entry k joins the summary of the entries before it; there will be n
   unfoldable pub added : List ℕ → ℕ → ℕ → List ℕ
   added sum n k =
-      choose (eqb (leaderOf sum n (statesAt k)) 0) (λ _. counted (hung sum (homeOf (statesNumber s (statesAt k)) n) k (markOf (statesNumber s (statesAt k)))) k 1)
+      choose (eqb (leaderOf sum n (statesAt k)) 0) (λ _. putCount (hung sum (homeOf (statesMixed s (statesAt k)) n) k (markIn (statesMixed s (statesAt k)))) k 1)
       (λ _. let j : ℕ = leaderOf sum n (statesAt k) - 1 in
-      hung (counted sum j (countAt sum j + 1)) (homeOf (numberOf s (cubeAt f list k)) n) k (markOf (numberOf s (cubeAt f list k))))
+      hung (putCount sum j (countAt sum j + 1)) (homeOf (numberOf s (cubeAt f list k)) n) k (markIn (numberOf s (cubeAt f list k))))
 
-  -- the first entry of its group, counted from 1, or 0; and the number of the chain where it joins
+  -- the first entry of its group, putCount from 1, or 0; and the number of the chain where it joins
   pub record Joins (sum : List ℕ) (n k leader number : ℕ) : Type 0 where
     pub leading : leader ≡ leaderOf sum n (statesAt k)
     pub small : leader < 1048576
-    pub first : leader ≡ 0 → number ≡ statesNumber s (statesAt k)
+    pub first : leader ≡ 0 → number ≡ statesMixed s (statesAt k)
     pub other : (leader ≡ 0 → ⊥) → number ≡ numberOf s (cubeAt f list k)
 
   unfoldable pub addedFrom : List ℕ → ℕ → ℕ → List ℕ

@@ -7,7 +7,7 @@ use mathlib.Core.List.{List}
 use lib.ListN.{length}
 use lib.Dec.{ltb}
 use lib.Count.{leadingZeros}
-use Rattle.records.specs.Bytes.{choose, le32, put32}
+use Rattle.program_part.specs.Bytes.{choose, le32, put32}
 
 -- ---- words
 
@@ -18,7 +18,7 @@ word sum i = cond (ltb i (length sum / 4)) (le32 sum (4 * i)) 0
 unfoldable pub putWord : List ℕ → ℕ → ℕ → List ℕ
 putWord sum i x = choose (ltb i (length sum / 4)) (λ _. put32 sum (4 * i) x) (λ _. sum)
 
--- ---- links: an entry, counted from 1, or 0 for none, in 20 bits; and a mark in two
+-- ---- links: an entry, putCount from 1, or 0 for none, in 20 bits; and a mark in two
 
 abbrev pub linked : ℕ → ℕ
 linked link = link % 1048576
@@ -56,8 +56,8 @@ hung sum home k mark =
     putWord led (2 * k + 1) (withLink (word led (2 * k + 1)) old)
 
 -- the group of entry k has x entries
-unfoldable pub counted : List ℕ → ℕ → ℕ → List ℕ
-counted sum k x =
+unfoldable pub putCount : List ℕ → ℕ → ℕ → List ℕ
+putCount sum k x =
     let low : List ℕ = putWord sum (2 * k) (withDigit (word sum (2 * k)) (x % 1024)) in
     putWord low (2 * k + 1) (withDigit (word low (2 * k + 1)) (x / 1024 % 1024))
 
@@ -70,8 +70,8 @@ homeOf number n =
     (λ _. choose (ltb (number / 2 ^ leadingZeros 64 (n - 1)) n) (λ _. number / 2 ^ leadingZeros 64 (n - 1))
     (λ _. choose (ltb (number / 2 ^ leadingZeros 64 (n - 1) - n) n) (λ _. number / 2 ^ leadingZeros 64 (n - 1) - n) (λ _. 0)))
 
-abbrev pub markOf : ℕ → ℕ
-markOf number = number % 4
+abbrev pub markIn : ℕ → ℕ
+markIn number = number % 4
 
 -- ---- chains
 

@@ -6,10 +6,10 @@ use mathlib.Core.Bool.{Bool, true, false, cond, _&&_}
 use mathlib.Core.List.{List}
 use lib.ListN.{length}
 use lib.Dec.{ltb}
-use Rattle.records.specs.declared.program.Shape.{Shape}
-use Rattle.contents.specs.Again.{cubeAt}
-use Rattle.matching.specs.Number.{numberOf, statesNumber}
-use Rattle.summary.specs.Slots.{linked, headLink, countAt, homeOf, markOf, Met}
+use Rattle.program_part.specs.declared.program.Shape.{Shape}
+use Rattle.by_number.specs.Again.{cubeAt}
+use Rattle.matching.specs.Number.{numberOf, statesMixed}
+use Rattle.summary.specs.Slots.{linked, headLink, countAt, homeOf, markIn, Met}
 use Rattle.summary.specs.Groups.{statesAt, leads, inGroup}
 
 abbrev pub sumBelow : ℕ → (ℕ → ℕ) → ℕ
@@ -25,9 +25,9 @@ pub record Grouped (f list sum : List ℕ) (n : ℕ) (s : Shape) (m : ℕ) : Typ
   -- they add up to the number of entries
   pub total : sumBelow n (countAt sum) ≡ m
   -- the first entry of a group is met on the chain of its states, and each other one on that of its key
-  pub first : (k : ℕ) → k < m → leads f list s k ≡ true → (mark : ℕ) × Met sum n (headLink sum (homeOf (statesNumber s (statesAt f list s k)) n)) k mark
+  pub first : (k : ℕ) → k < m → leads f list s k ≡ true → (mark : ℕ) × Met sum n (headLink sum (homeOf (statesMixed s (statesAt f list s k)) n)) k mark
   pub others : (k : ℕ) → k < m → leads f list s k ≡ false
-      → Met sum n (headLink sum (homeOf (numberOf s (cubeAt f list k)) n)) k (markOf (numberOf s (cubeAt f list k)))
+      → Met sum n (headLink sum (homeOf (numberOf s (cubeAt f list k)) n)) k (markIn (numberOf s (cubeAt f list k)))
   pub heads : (h : ℕ) → h < n → linked (headLink sum h) ≤ m
 
 -- `sum` is the summary of the n entries of `list`

@@ -4,15 +4,15 @@ use mathlib.Core.Path.{_≡_}
 use mathlib.Core.Logic.{_⊎_}
 use mathlib.Core.Bool.{Bool, true, false, cond}
 use mathlib.Core.List.{List}
-use Rattle.records.specs.declared.program.Shape.{Shape}
+use Rattle.program_part.specs.declared.program.Shape.{Shape}
 use Rattle.summary.specs.declared.walking.Walk.{Walk}
-use Rattle.summary.specs.Slots.{markOf, Met}
+use Rattle.summary.specs.Slots.{markIn, Met}
 use Rattle.summary.specs.Groups.{leaderOf}
 
 module _ (f list sum : List ℕ) (n : ℕ) (s : Shape) (states : List ℕ) where
   -- entry k is still to come
   abbrev pub Left : ℕ → ℕ → ℕ → Bool → ℕ → Type 0
-  Left number below link led k = Met sum below link k (markOf number) ⊎ ((led ≡ false) × (leaderOf f list s sum n states ≡ suc k))
+  Left number below link led k = Met sum below link k (markIn number) ⊎ ((led ≡ false) × (leaderOf f list s sum n states ≡ suc k))
 
   -- how far a walk can still go
   abbrev pub ahead : ℕ → Bool → ℕ

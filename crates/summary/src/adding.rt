@@ -5,7 +5,7 @@ ghost use mathlib.Core.List.{_++_};
 ghost use Prim.Native.Nat.{ℕ, _+_, _≤_, _<_};
 ghost use lib.ListN.{length, take, drop};
 ghost use lib.Dec.{eqb};
-ghost use Rattle.summary.specs.Slots.{countAt, hung, counted, homeOf, markOf};
+ghost use Rattle.summary.specs.Slots.{countAt, hung, putCount, homeOf, markIn};
 ghost use Rattle.summary.specs.Groups.{sameStates, statesAt, leaderOf, added, summarised, Joins};
 use crate::slots::count;
 use crate::slots::count_at;
@@ -15,14 +15,14 @@ use crate::slots::home_of;
 use crate::slots::linked;
 use crate::slots::mark_of;
 use crate::slots::next_link;
-use contents::entry_at;
-use contents::offset_at;
+use by_number::entry_at;
+use by_number::offset_at;
 use matching::number_of;
 use matching::states_match;
 use matching::states_number;
 use matching::tags_of;
-use records::bytes::field;
-use records::program::Shape;
+use program_part::bytes::field;
+use program_part::program::Shape;
 
 // The local states of entry k.
 fn states_at(file: &[u8], list: &[u8], shape: Shape, k: usize) -> [u8; 4]
@@ -82,7 +82,7 @@ pub(crate) fn leader_of(
 // Entry k is the first of its group.
 fn join_first(sum: &mut [u8], number: u64, n: usize, k: usize)
     requires { ⌜ (k < n) × (n ≤ 524288) ⌝ }
-    ensures { λ _. ⌜ now (sum .exit) ≡ counted (hung (now (sum .entry)) (homeOf number n) k (markOf number)) k 1 ⌝ }
+    ensures { λ _. ⌜ now (sum .exit) ≡ putCount (hung (now (sum .entry)) (homeOf number n) k (markIn number)) k 1 ⌝ }
 {
     hang(sum, home_of(number, n), k, mark_of(number));
     count(sum, k, 1);
@@ -91,7 +91,7 @@ fn join_first(sum: &mut [u8], number: u64, n: usize, k: usize)
 // Entry k joins the group that entry j leads.
 fn join_group(sum: &mut [u8], j: usize, number: u64, n: usize, k: usize)
     requires { ⌜ (k < n) × (n ≤ 524288) × (j < 1048575) ⌝ }
-    ensures { λ _. ⌜ now (sum .exit) ≡ hung (counted (now (sum .entry)) j (countAt (now (sum .entry)) j + 1)) (homeOf number n) k (markOf number) ⌝ }
+    ensures { λ _. ⌜ now (sum .exit) ≡ hung (putCount (now (sum .entry)) j (countAt (now (sum .entry)) j + 1)) (homeOf number n) k (markIn number) ⌝ }
 {
     let old = count_at(sum, j);
     count(sum, j, old + 1);

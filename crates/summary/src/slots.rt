@@ -2,8 +2,8 @@
 ghost use mathlib.Core.Path.{_≡_};
 ghost use Prim.Native.Nat.{ℕ, suc, _+_, _*_, _/_, _%_, _^_, _≤_, _<_};
 ghost use lib.ListN.{length};
-ghost use Rattle.summary.specs.Slots.{word, putWord, linked, marked, headLink, nextLink, countAt, withLink, withDigit, hung, counted, homeOf, markOf};
-use records::bytes::store_number;
+ghost use Rattle.summary.specs.Slots.{word, putWord, linked, marked, headLink, nextLink, countAt, withLink, withDigit, hung, putCount, homeOf, markIn};
+use program_part::bytes::store_number;
 
 // ---- words
 
@@ -104,7 +104,7 @@ pub(crate) fn hang(sum: &mut [u8], home: usize, k: usize, mark: usize)
 // The group of entry k has x entries.
 pub(crate) fn count(sum: &mut [u8], k: usize, x: usize)
     requires { ⌜ k < 1048575 ⌝ }
-    ensures { λ _. ⌜ now (sum .exit) ≡ counted (now (sum .entry)) k x ⌝ }
+    ensures { λ _. ⌜ now (sum .exit) ≡ putCount (now (sum .entry)) k x ⌝ }
 {
     let low = word_at(sum, 2 * k);
     put_word(sum, 2 * k, low % 4194304 + 4194304 * (x % 1024));
@@ -133,7 +133,7 @@ pub(crate) fn home_of(number: u64, n: usize) -> usize
 }
 
 pub(crate) fn mark_of(number: u64) -> usize
-    ensures { λ r. ⌜ r ≡ markOf number ⌝ }
+    ensures { λ r. ⌜ r ≡ markIn number ⌝ }
     ensures { λ r. ⌜ r < 4 ⌝ }
 {
     (number % 4) as usize

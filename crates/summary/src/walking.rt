@@ -10,7 +10,7 @@ use crate::slots::linked;
 use crate::slots::mark_of;
 use crate::slots::marked;
 use crate::slots::next_link;
-use records::program::Shape;
+use program_part::program::Shape;
 
 // An entry, counted from 1, or 0 where the walk ends; and where it goes on: below which entry and with which link, and whether the first entry
 // of the group was met.

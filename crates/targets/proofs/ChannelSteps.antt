@@ -10,9 +10,9 @@ use lib.ListN.{length, getD, set}
 use lib.Dec.{eqb}
 use Rattle.pws.specs.declared.Message.{Message}
 use Rattle.pws.specs.Machine.{Configuration, allBelow}
-use Rattle.records.specs.declared.program.Shape.{Shape}
-use Rattle.records.specs.ProgramPart.{shapeOf}
-use Rattle.reading.specs.Cube.{channelOf}
+use Rattle.program_part.specs.declared.program.Shape.{Shape}
+use Rattle.program_part.specs.ProgramPart.{shapeOf}
+use Rattle.whole_file.specs.Cube.{channelOf}
 use Rattle.lists.specs.Lists.{forBelow}
 use Rattle.lists.specs.Cubes.{anyMessage}
 use Rattle.lists.specs.Shapes.{allowed, longest, queueShapes}

@@ -15,10 +15,10 @@ use Rattle.pws.specs.Program as pws
 use Rattle.pws.specs.Machine.{Configuration, put, noMessage, allBelow}
 use Rattle.pws.specs.Configurations.{Fits}
 use Rattle.pws.specs.Entries.{ValueOrFF}
-use Rattle.records.specs.declared.program.Shape.{Shape}
-use Rattle.records.specs.ProgramPart.{shapeOf}
-use Rattle.reading.specs.Cube.{channelOf}
-use Rattle.reading.proofs.CubeParts.{channel-equal, four-put}
+use Rattle.program_part.specs.declared.program.Shape.{Shape}
+use Rattle.program_part.specs.ProgramPart.{shapeOf}
+use Rattle.whole_file.specs.Cube.{channelOf}
+use Rattle.whole_file.proofs.CubeParts.{channel-equal, four-put}
 use Rattle.lists.specs.Lists.{forBelow, forEach}
 use Rattle.lists.specs.Cubes.{anyMessage}
 use Rattle.lists.specs.Shapes.{Outline, choices, allowed, outlines, longest, outlineMemory, memoryShapes, queueShapes, shapeCubes}

@@ -6,14 +6,14 @@ use mathlib.Core.List.{List, [], _∷_, _++_, List·Memᴰ·head, Memᴰ·append
 use native.Mathlib.Omega.{arith}
 use native.Mathlib.Decide.{ℕ-discrete}
 use Rattle.pws.specs.Machine.{Configuration}
-use Rattle.records.specs.declared.program.Shape.{Shape}
-use Rattle.reading.specs.declared.entry.Cube.{Cube}
-use Rattle.records.specs.ProgramPart.{shapeOf}
-use Rattle.reading.specs.Cube.{configurationOf}
+use Rattle.program_part.specs.declared.program.Shape.{Shape}
+use Rattle.whole_file.specs.declared.entry.Cube.{Cube}
+use Rattle.program_part.specs.ProgramPart.{shapeOf}
+use Rattle.whole_file.specs.Cube.{configurationOf}
 use Rattle.lists.specs.Lists.{forBelow, every}
 use Rattle.lists.specs.Decision.{held}
 use Rattle.matching.proofs.Below.{and-false}
-use Rattle.contents.specs.Again.{entriesOf}
+use Rattle.by_number.specs.Again.{entriesOf}
 use Rattle.cover.specs.Search.{Searchable}
 use Rattle.targets.specs.ShapeCube.{Roomy}
 use Rattle.targets.specs.Walk.{Judges}

@@ -5,14 +5,14 @@ use mathlib.Core.Bool.{Bool, true, false}
 use mathlib.Core.List.{List, map}
 use native.Mathlib.Omega.{arith}
 use Rattle.pws.specs.declared.Message.{Message}
-use Rattle.records.specs.declared.program.Shape.{Shape}
-use Rattle.reading.specs.declared.entry.Cube.{Cube}
-use Rattle.records.specs.ProgramPart.{shapeOf}
-use Rattle.reading.specs.Cube.{configurationOf}
+use Rattle.program_part.specs.declared.program.Shape.{Shape}
+use Rattle.whole_file.specs.declared.entry.Cube.{Cube}
+use Rattle.program_part.specs.ProgramPart.{shapeOf}
+use Rattle.whole_file.specs.Cube.{configurationOf}
 use Rattle.lists.specs.Shapes.{queueShapes}
 use Rattle.lists.specs.Decision.{held}
 use Rattle.targets.specs.ShapeCube.{outlineOf, emptyShape, ShapeCube, withWaiting}
-use Rattle.contents.specs.Again.{entriesOf}
+use Rattle.by_number.specs.Again.{entriesOf}
 use Rattle.cover.specs.Search.{Searchable}
 use Rattle.targets.specs.Walk.{Judges, withQueues, queueCubes}
 use Rattle.targets.specs.Depth.{SmallShape, AtQueue}

@@ -8,10 +8,10 @@ use lib.ListN.{length, length-set}
 use Rattle.pws.specs.Machine.{Configuration, putQueue}
 use Rattle.pws.specs.Entries.{FF}
 use Rattle.pws.proofs.Facts.{putQueue-each}
-use Rattle.records.specs.declared.program.Shape.{Shape}
-use Rattle.reading.specs.declared.entry.Cube.{Cube}
-use Rattle.reading.specs.Cube.{queueOf, configurationOf}
-use Rattle.reading.proofs.CubeParts.{queue-put}
+use Rattle.program_part.specs.declared.program.Shape.{Shape}
+use Rattle.whole_file.specs.declared.entry.Cube.{Cube}
+use Rattle.whole_file.specs.Cube.{queueOf, configurationOf}
+use Rattle.whole_file.proofs.CubeParts.{queue-put}
 use Rattle.lists.specs.Lists.{forEach}
 use Rattle.lists.specs.Shapes.{Outline, rowShapes, queueShapes}
 use Rattle.targets.specs.ShapeCube.{Roomy, emptyShape, oneFree, withWaiting}

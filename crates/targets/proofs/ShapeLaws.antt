@@ -11,10 +11,10 @@ use lib.Dec.{ltb}
 use borrow.Author.Tests.{le-ltb}
 use Rattle.pws.specs.declared.Message.{Message}
 use Rattle.pws.specs.Machine.{Memory, noMessage}
-use Rattle.records.specs.declared.program.Shape.{Shape}
-use Rattle.records.specs.ProgramPart.{shapeOf}
-use Rattle.reading.specs.Cube.{noQueue, emptyQueue, waitingOf, channelOf, queueOf}
-use Rattle.reading.proofs.CubeParts.{queue-of, queue-none}
+use Rattle.program_part.specs.declared.program.Shape.{Shape}
+use Rattle.program_part.specs.ProgramPart.{shapeOf}
+use Rattle.whole_file.specs.Cube.{noQueue, emptyQueue, waitingOf, channelOf, queueOf}
+use Rattle.whole_file.proofs.CubeParts.{queue-of, queue-none}
 use Rattle.lists.specs.Lists.{anyOf}
 use Rattle.lists.specs.Shapes.{outlineMemory}
 use Rattle.lists.proofs.Lists.{early-or}

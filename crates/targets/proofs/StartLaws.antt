@@ -9,12 +9,12 @@ use lib.Dec.{eqb}
 use borrow.Author.Tests.{ne-eqb}
 use Rattle.pws.specs.Machine.{isEmpty, allBelow, noneWaiting, noMessage}
 use Rattle.pws.specs.Configurations.{inTarget}
-use Rattle.records.specs.declared.program.Shape.{Shape}
-use Rattle.reading.specs.declared.entry.Queue.{Queue}
-use Rattle.reading.specs.declared.entry.Cube.{Cube}
-use Rattle.records.specs.ProgramPart.{shapeOf}
-use Rattle.reading.specs.Cube.{waitingOf, queueOf, configurationOf}
-use Rattle.reading.proofs.CubeParts.{channel-length}
+use Rattle.program_part.specs.declared.program.Shape.{Shape}
+use Rattle.whole_file.specs.declared.entry.Queue.{Queue}
+use Rattle.whole_file.specs.declared.entry.Cube.{Cube}
+use Rattle.program_part.specs.ProgramPart.{shapeOf}
+use Rattle.whole_file.specs.Cube.{waitingOf, queueOf, configurationOf}
+use Rattle.whole_file.proofs.CubeParts.{channel-length}
 use Rattle.lists.specs.Values.{fills}
 use Rattle.lists.specs.Decision.{looksStarted}
 use Rattle.targets.specs.Sizes.{Small, startsOf}

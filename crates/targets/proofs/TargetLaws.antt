@@ -7,12 +7,12 @@ use native.Mathlib.Omega.{arith}
 use lib.ListN.{getD}
 use Rattle.pws.specs.declared.Message.{Message}
 use Rattle.pws.specs.Program as pws
-use Rattle.records.specs.declared.program.Shape.{Shape}
-use Rattle.records.specs.ProgramPart.{shapeOf}
+use Rattle.program_part.specs.declared.program.Shape.{Shape}
+use Rattle.program_part.specs.ProgramPart.{shapeOf}
 use Rattle.lists.specs.Lists.{every}
 use Rattle.lists.specs.Shapes.{shapeCubes}
 use Rattle.lists.specs.Decision.{held, targetHeld}
-use Rattle.contents.specs.Again.{entriesOf}
+use Rattle.by_number.specs.Again.{entriesOf}
 use Rattle.targets.specs.Walk.{Searches, Judges, outlineCubes}
 use Rattle.targets.proofs.ChannelWalk.{walk-all, shapes-fit}
 

@@ -1,9 +1,9 @@
 -- What the parts of the walk are handed.
 use Prim.Native.Nat.{ℕ, _<_, _≤_}
 use mathlib.Core.Path.{_≡_}
-use Rattle.records.specs.declared.program.Shape.{Shape}
-use Rattle.reading.specs.declared.entry.Cube.{Cube}
-use Rattle.records.specs.ProgramPart.{shapeOf}
+use Rattle.program_part.specs.declared.program.Shape.{Shape}
+use Rattle.whole_file.specs.declared.entry.Cube.{Cube}
+use Rattle.program_part.specs.ProgramPart.{shapeOf}
 use Rattle.lists.specs.Shapes.{longest}
 use Rattle.targets.specs.ShapeCube.{Roomy}
 

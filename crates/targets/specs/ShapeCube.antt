@@ -5,11 +5,11 @@ use mathlib.Core.List.{List, [], _∷_}
 use lib.ListN.{length, getD, set, take}
 use Rattle.pws.specs.declared.Message.{Message}
 use Rattle.pws.specs.Machine.{Configuration}
-use Rattle.records.specs.declared.program.Shape.{Shape}
-use Rattle.reading.specs.declared.entry.Queue.{Queue}
-use Rattle.reading.specs.declared.entry.Cube.{Cube}
-use Rattle.records.specs.ProgramPart.{shapeOf}
-use Rattle.reading.specs.Cube.{configurationOf}
+use Rattle.program_part.specs.declared.program.Shape.{Shape}
+use Rattle.whole_file.specs.declared.entry.Queue.{Queue}
+use Rattle.whole_file.specs.declared.entry.Cube.{Cube}
+use Rattle.program_part.specs.ProgramPart.{shapeOf}
+use Rattle.whole_file.specs.Cube.{configurationOf}
 use Rattle.lists.specs.Shapes.{Outline, outlineMemory}
 
 -- the cube has room for its messages and waiting values

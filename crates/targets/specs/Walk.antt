@@ -10,14 +10,14 @@ use Rattle.pws.specs.Program.{ShapeInRange}
 use Rattle.pws.specs.Machine.{Configuration, put, putQueue}
 use Rattle.pws.specs.Configurations.{Fits}
 use Rattle.pws.specs.Entries.{FF, ValueOrFF}
-use Rattle.records.specs.declared.program.Shape.{Shape}
-use Rattle.records.specs.ProgramPart.{shapeOf}
-use Rattle.reading.specs.Cube.{channelOf, configurationOf}
+use Rattle.program_part.specs.declared.program.Shape.{Shape}
+use Rattle.program_part.specs.ProgramPart.{shapeOf}
+use Rattle.whole_file.specs.Cube.{channelOf, configurationOf}
 use Rattle.lists.specs.Lists.{forEach, every}
 use Rattle.lists.specs.Cubes.{anyMessage}
 use Rattle.lists.specs.Shapes.{Outline, allowed, outlines, longest, queueShapes}
 use Rattle.lists.specs.Decision.{held}
-use Rattle.contents.specs.Again.{cubeAt, entriesOf}
+use Rattle.by_number.specs.Again.{cubeAt, entriesOf}
 use Rattle.summary.specs.Summary.{Summed}
 use Rattle.targets.specs.ShapeCube.{emptyShape}
 

@@ -7,8 +7,8 @@ ghost use mathlib.Core.Bool.{cond, not};
 ghost use lib.Dec.{eqb, ltb};
 ghost use Rattle.pws.specs.Program.{Program};
 ghost use Rattle.pws.specs.Machine.{isEmpty, allBelow, labelled};
-ghost use Rattle.records.specs.ProgramPart.{shapeOf};
-ghost use Rattle.reading.specs.Cube.{waitingOf, queueOf, channelOf, configurationOf};
+ghost use Rattle.program_part.specs.ProgramPart.{shapeOf};
+ghost use Rattle.whole_file.specs.Cube.{waitingOf, queueOf, channelOf, configurationOf};
 ghost use Rattle.lists.specs.Lists.{anyOf};
 ghost use Rattle.lists.specs.Values.{fills};
 ghost use Rattle.lists.specs.Cubes.{anyMessage};
@@ -16,18 +16,18 @@ ghost use Rattle.lists.specs.Shapes.{allowed, queueShapes};
 ghost use Rattle.lists.specs.Decision.{targetHeld, looksStarted};
 ghost use Rattle.targets.specs.Sizes.{Small, startsOf};
 ghost use Rattle.targets.specs.ShapeCube.{ShapeCube, outlineOf, emptyShape, withWaiting};
-ghost use Rattle.contents.specs.Again.{entriesOf};
+ghost use Rattle.by_number.specs.Again.{entriesOf};
 ghost use Rattle.targets.specs.Walk.{Searches, Judges, withQueues, queueCubes, outlineCubes, choiceCubes};
 ghost use Rattle.targets.specs.Depth.{SmallShape, AtQueue, AtMessage, AtPlace};
 use cover::search::search;
 use matching::least;
+use program_part::bytes::both;
+use program_part::bytes::either;
+use program_part::bytes::wide;
+use program_part::program::Shape;
 use pws::Message;
-use reading::entry::Cube;
-use reading::entry::Queue;
-use reading::evidence::either;
-use records::bytes::both;
-use records::bytes::wide;
-use records::program::Shape;
+use whole_file::entry::Cube;
+use whole_file::entry::Queue;
 
 // ---- starts (section 4)
 

@@ -1,11 +1,11 @@
 use Prim.Native.Nat.{ℕ, _+_, _<_, _≤_, min}
 use mathlib.Core.Path.{_≡_, sym, subst}
 use Rattle.pws.specs.declared.Step.{Step}
-use Rattle.records.specs.ProgramPart.{programOf}
-use Rattle.reading.specs.Cube.{configurationOf}
-use Rattle.contents.specs.Again.{entriesOf}
+use Rattle.program_part.specs.ProgramPart.{programOf}
+use Rattle.whole_file.specs.Cube.{configurationOf}
+use Rattle.by_number.specs.Again.{entriesOf}
 use Rattle.before.proofs.MessageLaws.{all-messages}
-use Rattle.closing.specs.Walk.{stepHeld, stepAt, LowestFailing}
+use Rattle.closing.specs.Walk.{stepHeld, walkStep, LowestFailing}
 use Rattle.closing.proofs.WalkLaws.{walk-take, walk-serialise, walk-update}
 use native.Mathlib.Omega.{arith}
 use borrow.Author.Needs.{needs}

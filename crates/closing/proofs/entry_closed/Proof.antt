@@ -1,7 +1,7 @@
 use Prim.Native.Nat.{ℕ, _+_}
 use mathlib.Core.Path.{ap, _∙_}
 use lib.Dec.{eqb}
-use Rattle.contents.specs.Again.{cubeAt}
+use Rattle.by_number.specs.Again.{cubeAt}
 use Rattle.closing.proofs.WalkLaws.{closed-is}
 use native.Mathlib.Omega.{arith}
 use borrow.Author.Needs.{needs}

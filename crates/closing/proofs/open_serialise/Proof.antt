@@ -4,9 +4,9 @@ use mathlib.Core.Bool.{Bool, true, cond}
 use Rattle.pws.specs.declared.Step.the-variants.{Serialise}
 use Rattle.pws.specs.Machine.{labelled}
 use Rattle.lists.specs.Cubes.{topmost}
-use Rattle.records.specs.ProgramPart.{programOf}
-use Rattle.reading.specs.Cube.{configurationOf}
-use Rattle.contents.specs.Again.{entriesOf}
+use Rattle.program_part.specs.ProgramPart.{programOf}
+use Rattle.whole_file.specs.Cube.{configurationOf}
+use Rattle.by_number.specs.Again.{entriesOf}
 use Rattle.closing.specs.Walk.{stepHeld, LowestFailing}
 use Rattle.closing.proofs.StepLaws.{cond-same}
 use Rattle.closing.proofs.WalkLaws.{lowest-end}

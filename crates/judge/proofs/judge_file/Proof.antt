@@ -1,5 +1,5 @@
 use Prim.Native.Nat.{ℕ, _*_}
-use Rattle.reading.specs.EvidencePart.{entriesAllowed}
+use Rattle.whole_file.specs.EvidencePart.{entriesAllowed}
 use mathlib.Core.Path.{sym, ap, _∙_}
 use native.Mathlib.Omega.{arith}
 use lib.ListN.{length, drop}
@@ -15,9 +15,9 @@ use Rattle.judge.proofs.judge_file.Reads as reads
 use Rattle.judge.proofs.judge_file.Lts as lts
 use Rattle.judge.proofs.answer.run_answer.Reads as run-answer-reads
 use Rattle.judge.proofs.list_judged.Reads as list-judged-reads
-use Rattle.reading.proofs.evidence.entries_allowed.Reads as entries-allowed-reads
-use Rattle.reading.proofs.evidence.read.Reads as read-reads
-use Rattle.records.proofs.program.refusal_of.Reads as refusal-of-reads
+use Rattle.whole_file.proofs.evidence.entries_allowed.Reads as entries-allowed-reads
+use Rattle.whole_file.proofs.evidence.read.Reads as read-reads
+use Rattle.program_part.proofs.program.refusal_of.Reads as refusal-of-reads
 use Rattle.replay.proofs.run.replay.Reads as replay-reads
 
 -- src/lib.rt:78:9

@@ -2,7 +2,7 @@ use Prim.Native.Nat.{ℕ, _+_, _*_}
 use mathlib.Core.Path.{_≡_, ap}
 use native.Mathlib.Omega.{arith}
 use borrow.Author.Needs.{needs}
-use Rattle.reading.specs.EvidencePart.{entriesAllowed}
+use Rattle.whole_file.specs.EvidencePart.{entriesAllowed}
 use Rattle.judge.specs.Judge.{usedOf}
 use Rattle.judge.proofs.AreaLaws.{few}
 use Rattle.judge.proofs.used_of.Statement.{statement}

@@ -3,7 +3,7 @@ use Prim.Native.Nat.{_-_}
 use borrow.Author.Tests.{not-true, not-false}
 use mathlib.Core.Path.{sym, _∙_}
 use Rattle.pws.specs.Machine.{isEmpty, allBelow}
-use Rattle.reading.specs.Cube.{queueOf}
+use Rattle.whole_file.specs.Cube.{queueOf}
 use Rattle.matching.proofs.Below.{all-false, Each, each-begin, each-next, each-all}
 use borrow.Author.Needs.{needs}
 use Rattle.targets.proofs.none_waiting.Statement.{statement}

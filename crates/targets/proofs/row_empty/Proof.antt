@@ -4,8 +4,8 @@ use native.Mathlib.Omega.{arith}
 use borrow.Author.Tests.{not-true, not-false}
 use mathlib.Core.Path.{sym, ap, _∙_}
 use Rattle.pws.specs.Machine.{isEmpty}
-use Rattle.reading.specs.Cube.{queueOf}
-use Rattle.reading.proofs.CubeParts.{queue-of}
+use Rattle.whole_file.specs.Cube.{queueOf}
+use Rattle.whole_file.proofs.CubeParts.{queue-of}
 use Rattle.matching.proofs.Below.{all-false, Each, each-begin, each-next, each-all}
 use borrow.Author.Needs.{needs}
 use Rattle.targets.proofs.row_empty.Statement.{statement}

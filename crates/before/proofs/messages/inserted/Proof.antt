@@ -1,7 +1,7 @@
 use Prim.Native.Nat.{ℕ, _-_, _+_}
 use mathlib.Core.Path.{_≡_, refl, ap, _∙_}
 use Rattle.pws.specs.Insertion.{putMessage}
-use Rattle.reading.specs.Cube.{channelOf}
+use Rattle.whole_file.specs.Cube.{channelOf}
 use native.Mathlib.Omega.{arith}
 use borrow.Author.Needs.{needs}
 use Rattle.before.proofs.messages.inserted.Statement.{statement}

@@ -3,7 +3,7 @@ use mathlib.Core.Path.{_≡_, refl, sym, ap, _∙_}
 use mathlib.Core.Bool.{cond}
 use lib.ListN.{getD}
 use Rattle.pws.specs.Machine.{noMessage, labelled, lastLabelled}
-use Rattle.reading.specs.Cube.{channelOf}
+use Rattle.whole_file.specs.Cube.{channelOf}
 use Rattle.before.proofs.MessageLaws.{last-next}
 use native.Mathlib.Omega.{arith}
 use borrow.Author.Needs.{needs}

@@ -3,7 +3,7 @@ use mathlib.Core.Path.{_≡_, sym, ap, ap₂, _∙_}
 use mathlib.Core.List.{List}
 use Rattle.pws.specs.declared.Message.{Message}
 use Rattle.pws.specs.Machine.{lastLabelled}
-use Rattle.reading.specs.Cube.{channelOf}
+use Rattle.whole_file.specs.Cube.{channelOf}
 use Rattle.before.proofs.NewestLaws.{older-channel}
 use native.Mathlib.Omega.{arith}
 use borrow.Author.Needs.{needs}

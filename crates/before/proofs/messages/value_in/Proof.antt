@@ -3,8 +3,8 @@ use mathlib.Core.Path.{_≡_, sym, ap, _∙_}
 use lib.ListN.{getD}
 use Rattle.pws.specs.declared.Message.{Message}
 use Rattle.pws.specs.Machine.{message}
-use Rattle.reading.specs.Cube.{configurationOf}
-use Rattle.reading.proofs.CubeParts.{channel-message}
+use Rattle.whole_file.specs.Cube.{configurationOf}
+use Rattle.whole_file.proofs.CubeParts.{channel-message}
 use native.Mathlib.Omega.{arith}
 use borrow.Author.Needs.{needs}
 use Rattle.before.proofs.messages.value_in.Statement.{statement}

@@ -5,7 +5,7 @@ use lib.ListN.{getD, set}
 use Rattle.pws.specs.declared.Message.{Message}
 use Rattle.pws.specs.Machine.{noMessage}
 use Rattle.lists.specs.Cubes.{withValues, setValue}
-use Rattle.reading.specs.Cube.{channelOf, configurationOf}
+use Rattle.whole_file.specs.Cube.{channelOf, configurationOf}
 use Rattle.before.proofs.MessageLaws.{set-value}
 use Rattle.before.proofs.QueueLaws.{length-mapped}
 use native.Mathlib.Omega.{arith}

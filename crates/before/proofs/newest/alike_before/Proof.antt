@@ -1,6 +1,6 @@
 use mathlib.Core.Path.{ap, _∙_}
 use Rattle.lists.specs.Cubes.{older, alikeNewest}
-use Rattle.reading.specs.Cube.{configurationOf}
+use Rattle.whole_file.specs.Cube.{configurationOf}
 use native.Mathlib.Omega.{arith}
 use borrow.Author.Needs.{needs}
 use Rattle.before.proofs.newest.alike_before.Statement.{statement}

@@ -1,5 +1,5 @@
 use Rattle.before.proofs.NewestLaws.{older-channel}
-use Rattle.reading.specs.Cube.{channelOf}
+use Rattle.whole_file.specs.Cube.{channelOf}
 use Rattle.lists.specs.Cubes.{alikeNewest}
 use Rattle.pws.specs.declared.Message.{Message}
 use native.Mathlib.Omega.{arith}

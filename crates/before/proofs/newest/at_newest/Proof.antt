@@ -1,4 +1,4 @@
-use Rattle.reading.proofs.CubeParts.{channel-length}
+use Rattle.whole_file.proofs.CubeParts.{channel-length}
 use lib.Dec.{eqb}
 use mathlib.Core.Path.{sym, ap₂}
 use borrow.Author.Needs.{needs}

@@ -1,5 +1,5 @@
 use Rattle.matching.proofs.Below.{all-false, Each, each-begin, each-next, each-all}
-use Rattle.reading.specs.Cube.{configurationOf}
+use Rattle.whole_file.specs.Cube.{configurationOf}
 use Rattle.pws.specs.Machine.{atNewest}
 use borrow.Author.Tests.{not-true, not-false}
 use lib.Dec.{eqb}

@@ -6,8 +6,8 @@ use Rattle.pws.specs.declared.Operation.the-variants.{Arw}
 use Rattle.pws.specs.Machine.{put}
 use Rattle.lists.specs.Cubes.{older, meetNewest}
 use Rattle.lists.specs.Predecessors.{before, undone}
-use Rattle.reading.specs.Cube.{configurationOf}
-use Rattle.reading.proofs.CubeParts.{four-put}
+use Rattle.whole_file.specs.Cube.{configurationOf}
+use Rattle.whole_file.proofs.CubeParts.{four-put}
 use Rattle.before.specs.Before.{takeBefore}
 use Rattle.before.proofs.NewestLaws.{older-length, older-some}
 use Rattle.before.proofs.CubeLaws.{made, few, room, nine}

@@ -5,8 +5,8 @@ use lib.ListN.{length}
 use Rattle.pws.specs.declared.Operation.the-variants.{Arw}
 use Rattle.lists.specs.Cubes.{messageOf, older}
 use Rattle.lists.specs.Predecessors.{onTop}
-use Rattle.reading.specs.Cube.{configurationOf}
-use Rattle.reading.proofs.CubeParts.{four-put}
+use Rattle.whole_file.specs.Cube.{configurationOf}
+use Rattle.whole_file.proofs.CubeParts.{four-put}
 use Rattle.before.specs.Before.{takeBefore}
 use Rattle.before.proofs.CubeLaws.{made, few, room, nine}
 use native.Mathlib.Omega.{arith}

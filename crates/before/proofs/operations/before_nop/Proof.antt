@@ -2,8 +2,8 @@ use mathlib.Core.Path.{_≡_, refl}
 use lib.ListN.{length}
 use Rattle.pws.specs.declared.Operation.the-variants.{Nop}
 use Rattle.lists.specs.Predecessors.{undone}
-use Rattle.reading.specs.Cube.{configurationOf}
-use Rattle.reading.proofs.CubeParts.{four-put}
+use Rattle.whole_file.specs.Cube.{configurationOf}
+use Rattle.whole_file.proofs.CubeParts.{four-put}
 use Rattle.before.specs.Before.{takeBefore}
 use Rattle.before.proofs.CubeLaws.{made, few, room, nine}
 use native.Mathlib.Omega.{arith}

@@ -5,7 +5,7 @@ use lib.ListN.{length}
 use borrow.Author.Tests.{not-true, not-false}
 use Rattle.pws.specs.Machine.{isEmpty, lastWrite}
 use Rattle.lists.specs.Cubes.{setValue, withLast}
-use Rattle.reading.specs.Cube.{configurationOf}
+use Rattle.whole_file.specs.Cube.{configurationOf}
 use Rattle.before.specs.Before.{Waits}
 use Rattle.before.proofs.MessageLaws.{write-some}
 use Rattle.before.proofs.QueueLaws.{length-mapped}

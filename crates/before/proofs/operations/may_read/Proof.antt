@@ -4,7 +4,7 @@ use mathlib.Core.List.{List}
 use lib.ListN.{getD}
 use Rattle.pws.specs.Machine.{message, newestOr, newestWaiting, lastWrite}
 use Rattle.lists.specs.Values.{alike}
-use Rattle.reading.specs.Cube.{configurationOf}
+use Rattle.whole_file.specs.Cube.{configurationOf}
 use Rattle.before.proofs.MessageLaws.{write-some}
 use Rattle.before.proofs.CubeLaws.{few, less, room}
 use native.Mathlib.Omega.{arith}

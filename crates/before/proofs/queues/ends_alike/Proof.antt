@@ -1,6 +1,6 @@
 use Rattle.before.proofs.QueueLaws.{ends-none, ends-some}
 use Rattle.lists.specs.Values.{alike}
-use Rattle.reading.specs.Cube.{waitingOf}
+use Rattle.whole_file.specs.Cube.{waitingOf}
 use mathlib.Core.Path.{sym, ap, _∙_}
 use Prim.Native.Nat.{ℕ}
 use borrow.Author.Needs.{needs}

@@ -1,6 +1,6 @@
 use Rattle.before.proofs.QueueLaws.{newest-none, newest-some}
 use Rattle.matching.proofs.ValueLaws.{waits, value-waits}
-use Rattle.reading.specs.Cube.{waitingOf}
+use Rattle.whole_file.specs.Cube.{waitingOf}
 use native.Mathlib.Omega.{arith}
 use mathlib.Core.Path.{sym, _∙_}
 use Prim.Native.Nat.{_-_}

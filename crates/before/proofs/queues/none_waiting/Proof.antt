@@ -4,7 +4,7 @@ use mathlib.Core.Bool.{true}
 use borrow.Author.Tests.{not-true, not-false}
 use Rattle.pws.specs.Machine.{isEmpty}
 use Rattle.matching.proofs.Below.{all-true, all-false, Each, each-begin, each-next}
-use Rattle.reading.specs.Cube.{queueOf}
+use Rattle.whole_file.specs.Cube.{queueOf}
 use Rattle.before.proofs.QueueLaws.{past-empty}
 use native.Mathlib.Omega.{arith}
 use borrow.Author.Needs.{needs}

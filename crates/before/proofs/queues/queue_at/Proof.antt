@@ -1,7 +1,7 @@
 use mathlib.Core.Path.{refl, sym, ap, _∙_}
 use borrow.Author.Tests.{not-true, not-false}
-use Rattle.reading.specs.Cube.{waitingOf}
-use Rattle.reading.proofs.CubeParts.{queue-of, queue-none}
+use Rattle.whole_file.specs.Cube.{waitingOf}
+use Rattle.whole_file.proofs.CubeParts.{queue-of, queue-none}
 use Rattle.before.proofs.WriteLaws.{labels}
 use Rattle.before.proofs.QueueLaws.{outside}
 use native.Mathlib.Omega.{arith}

@@ -3,8 +3,8 @@ use mathlib.Core.Path.{_≡_, refl, ap, _∙_}
 use Rattle.pws.specs.Entries.{FF}
 use Rattle.lists.specs.Cubes.{older, meetNewest}
 use Rattle.lists.specs.Predecessors.{before, undone}
-use Rattle.records.specs.ProgramPart.{shapeOf}
-use Rattle.reading.specs.Cube.{configurationOf}
+use Rattle.program_part.specs.ProgramPart.{shapeOf}
+use Rattle.whole_file.specs.Cube.{configurationOf}
 use Rattle.before.specs.Before.{serialiseBefore}
 use Rattle.before.proofs.NewestLaws.{older-some}
 use Rattle.before.proofs.CubeLaws.{made, few, less, room}

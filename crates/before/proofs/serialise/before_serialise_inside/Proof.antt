@@ -4,7 +4,7 @@ use lib.ListN.{length}
 use Rattle.pws.specs.Entries.{FF}
 use Rattle.lists.specs.Cubes.{older}
 use Rattle.lists.specs.Predecessors.{before}
-use Rattle.reading.specs.Cube.{configurationOf}
+use Rattle.whole_file.specs.Cube.{configurationOf}
 use Rattle.before.proofs.NewestLaws.{older-length, older-some}
 use Rattle.before.proofs.CubeLaws.{low, inside-number, inserted-cube, cube-count, meet-length}
 use native.Mathlib.Omega.{arith}

@@ -3,8 +3,8 @@ use mathlib.Core.Path.{refl, ap, _∙_}
 use mathlib.Core.List.{List, _∷_}
 use Rattle.lists.specs.Cubes.{messageOf, older}
 use Rattle.lists.specs.Predecessors.{onTop}
-use Rattle.records.specs.ProgramPart.{shapeOf}
-use Rattle.reading.specs.Cube.{configurationOf}
+use Rattle.program_part.specs.ProgramPart.{shapeOf}
+use Rattle.whole_file.specs.Cube.{configurationOf}
 use Rattle.before.specs.Before.{serialiseBefore}
 use Rattle.before.proofs.CubeLaws.{made, few, less, room}
 use borrow.Author.Needs.{needs}

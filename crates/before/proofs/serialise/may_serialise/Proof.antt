@@ -1,7 +1,7 @@
 use mathlib.Core.Path.{sym, ap, ap₂, _∙_}
 use mathlib.Core.Bool.{_&&_}
 use lib.Dec.{ltb}
-use Rattle.reading.proofs.CubeParts.{channel-length}
+use Rattle.whole_file.proofs.CubeParts.{channel-length}
 use borrow.Author.Needs.{needs}
 use Rattle.before.proofs.serialise.may_serialise.Statement.{statement}
 use Rattle.before.proofs.serialise.may_serialise.Tie as tie

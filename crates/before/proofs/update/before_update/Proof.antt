@@ -2,9 +2,9 @@ use Prim.Native.Nat.{_-_}
 use mathlib.Core.Path.{_≡_, refl}
 use lib.ListN.{length, getD}
 use Rattle.lists.specs.Predecessors.{undone}
-use Rattle.records.specs.ProgramPart.{shapeOf}
-use Rattle.reading.specs.Cube.{configurationOf}
-use Rattle.reading.proofs.CubeParts.{four-put}
+use Rattle.program_part.specs.ProgramPart.{shapeOf}
+use Rattle.whole_file.specs.Cube.{configurationOf}
+use Rattle.whole_file.proofs.CubeParts.{four-put}
 use Rattle.before.specs.Before.{updateBefore}
 use Rattle.before.proofs.CubeLaws.{made, few, room, nine}
 use native.Mathlib.Omega.{arith}

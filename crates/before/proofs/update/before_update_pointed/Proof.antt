@@ -2,7 +2,7 @@ use Prim.Native.Nat.{ℕ, _<_}
 use mathlib.Core.Path.{_≡_, ap, _∙_}
 use lib.ListN.{length, getD}
 use Rattle.pws.specs.Machine.{put}
-use Rattle.reading.proofs.CubeParts.{four-put}
+use Rattle.whole_file.proofs.CubeParts.{four-put}
 use Rattle.before.proofs.CubeLaws.{few, low, sound-cube, inserted-cube}
 use native.Mathlib.Omega.{arith}
 use borrow.Author.Needs.{needs}

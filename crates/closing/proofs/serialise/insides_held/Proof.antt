@@ -6,9 +6,9 @@ use borrow.Author.Tests.{not-true, not-false}
 use Rattle.pws.specs.Machine.{lastWrite}
 use Rattle.lists.specs.Predecessors.{withoutNewest, serialiseKind, undone, inside}
 use Rattle.lists.specs.Decision.{held}
-use Rattle.records.specs.ProgramPart.{shapeOf}
-use Rattle.reading.specs.Cube.{configurationOf}
-use Rattle.contents.specs.Again.{entriesOf}
+use Rattle.program_part.specs.ProgramPart.{shapeOf}
+use Rattle.whole_file.specs.Cube.{configurationOf}
+use Rattle.by_number.specs.Again.{entriesOf}
 use Rattle.matching.proofs.Below.{all-true, all-false}
 use Rattle.before.specs.Before.{serialiseBefore}
 use Rattle.closing.specs.Walk.{Serialising}

@@ -4,9 +4,9 @@ use borrow.Author.Tests.{not-true, not-false}
 use Rattle.pws.specs.declared.Operation.the-variants.{Arw}
 use Rattle.lists.specs.Predecessors.{onTop}
 use Rattle.lists.specs.Decision.{held}
-use Rattle.records.specs.ProgramPart.{shapeOf}
-use Rattle.reading.specs.Cube.{configurationOf}
-use Rattle.contents.specs.Again.{entriesOf}
+use Rattle.program_part.specs.ProgramPart.{shapeOf}
+use Rattle.whole_file.specs.Cube.{configurationOf}
+use Rattle.by_number.specs.Again.{entriesOf}
 use Rattle.before.specs.Before.{takeBefore}
 use Rattle.closing.proofs.StepLaws.{Passed, passed-begin, passed-next}
 use Rattle.closing.proofs.TakeLaws.{Swapping, take-false, top-has, arw-none, undone-fails, arw-all}

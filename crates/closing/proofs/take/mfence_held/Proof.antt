@@ -3,8 +3,8 @@ use mathlib.Core.Bool.{_&&_}
 use borrow.Author.Tests.{not-true, not-false}
 use Rattle.pws.specs.declared.Operation.the-variants.{Mfence}
 use Rattle.pws.specs.Machine.{noneWaiting, atNewest}
-use Rattle.records.specs.ProgramPart.{shapeOf}
-use Rattle.reading.specs.Cube.{configurationOf}
+use Rattle.program_part.specs.ProgramPart.{shapeOf}
+use Rattle.whole_file.specs.Cube.{configurationOf}
 use Rattle.closing.proofs.TakeLaws.{process-exists, plain-none, plain-held}
 use borrow.Author.Needs.{needs}
 use Rattle.closing.proofs.take.mfence_held.Statement.{statement}

@@ -3,7 +3,7 @@ use borrow.Author.Tests.{not-true, not-false}
 use Rattle.pws.specs.declared.Operation.the-variants.{Read}
 use Rattle.pws.specs.Machine.{sees}
 use Rattle.lists.specs.Values.{alike}
-use Rattle.reading.specs.Cube.{configurationOf}
+use Rattle.whole_file.specs.Cube.{configurationOf}
 use Rattle.closing.proofs.TakeLaws.{process-exists, operation-exists, plain-none, plain-held}
 use borrow.Author.Needs.{needs}
 use Rattle.closing.proofs.take.read_held.Statement.{statement}

@@ -2,8 +2,8 @@ use mathlib.Core.Path.{refl, sym, _∙_}
 use borrow.Author.Tests.{not-true, not-false}
 use Rattle.pws.specs.declared.Operation.the-variants.{Sfence}
 use Rattle.pws.specs.Machine.{noneWaiting}
-use Rattle.records.specs.ProgramPart.{shapeOf}
-use Rattle.reading.specs.Cube.{configurationOf}
+use Rattle.program_part.specs.ProgramPart.{shapeOf}
+use Rattle.whole_file.specs.Cube.{configurationOf}
 use Rattle.closing.proofs.TakeLaws.{process-exists, plain-none, plain-held}
 use borrow.Author.Needs.{needs}
 use Rattle.closing.proofs.take.sfence_held.Statement.{statement}

@@ -4,9 +4,9 @@ use mathlib.Core.Bool.{true, cond}
 use borrow.Author.Tests.{not-true, not-false}
 use Rattle.lists.specs.Predecessors.{updateKind, pointed}
 use Rattle.lists.specs.Decision.{held}
-use Rattle.records.specs.ProgramPart.{shapeOf}
-use Rattle.reading.specs.Cube.{configurationOf}
-use Rattle.contents.specs.Again.{entriesOf}
+use Rattle.program_part.specs.ProgramPart.{shapeOf}
+use Rattle.whole_file.specs.Cube.{configurationOf}
+use Rattle.by_number.specs.Again.{entriesOf}
 use Rattle.before.specs.Before.{LastWrites, updateBefore}
 use Rattle.closing.specs.Walk.{Walkable}
 use Rattle.closing.proofs.StepLaws.{Passed, passed-begin, passed-next}

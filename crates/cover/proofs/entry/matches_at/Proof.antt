@@ -6,13 +6,13 @@ use Rattle.cover.proofs.entry.matches_at.Statement.{statement}
 use Rattle.cover.proofs.entry.matches_at.Tie as tie
 use Rattle.cover.proofs.entry.matches_at.Reads as reads
 use Rattle.cover.proofs.entry.matches_at.Lts as lts
-use Rattle.contents.proofs.offset_at.Reads as offset-at-reads
+use Rattle.by_number.proofs.offset_at.Reads as offset-at-reads
 use Rattle.matching.proofs.channel_matches.Reads as channel-matches-reads
 use Rattle.matching.proofs.queues_match.Reads as queues-match-reads
 use Rattle.matching.proofs.states_match.Reads as states-match-reads
 use Rattle.matching.proofs.tags_of.Reads as tags-of-reads
-use Rattle.reading.proofs.entry.load_entry.Reads as load-entry-reads
-use Rattle.records.proofs.bytes.field.Reads as field-reads
+use Rattle.whole_file.proofs.entry.load_entry.Reads as load-entry-reads
+use Rattle.program_part.proofs.bytes.field.Reads as field-reads
 
 -- src/entry.rt:31:9
 offset-at-requires : tie.Need-offset-at-requires

@@ -9,7 +9,7 @@ use Rattle.cover.proofs.gaps.message_gaps.Reads as message-gaps-reads
 use Rattle.cover.proofs.gaps.tags_match.Reads as tags-match-reads
 use Rattle.matching.proofs.lowest.Reads as lowest-reads
 use Rattle.matching.proofs.least.Reads as least-reads
-use Rattle.records.proofs.bytes.wide.Reads as wide-reads
+use Rattle.program_part.proofs.bytes.wide.Reads as wide-reads
 
 abbrev Inv-loop : tie.InvT-loop
 Inv-loop a left b right first last all₀ i₀ j₀ all i j = (i ≤ 20) × (j ≤ 20)

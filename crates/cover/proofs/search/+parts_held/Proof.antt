@@ -2,7 +2,7 @@ use Prim.Native.Nat.{_-_}
 use mathlib.Core.Path.{_≡_, refl, sym, subst, _∙_}
 use native.Mathlib.Omega.{arith}
 use borrow.Author.Tests.{not-true, not-false}
-use Rattle.reading.specs.declared.entry.Cube.{Cube}
+use Rattle.whole_file.specs.declared.entry.Cube.{Cube}
 use Rattle.cover.specs.Places.{weight}
 use Rattle.cover.proofs.PlaceLaws.{fillings-few, true-not-false}
 use Rattle.cover.proofs.PartLaws.{part-less}

@@ -4,7 +4,7 @@ use Rattle.cover.proofs.split.gaps_at.Statement.{statement}
 use Rattle.cover.proofs.split.gaps_at.Tie as tie
 use Rattle.cover.proofs.split.gaps_at.Reads as reads
 use Rattle.cover.proofs.split.gaps_at.Lts as lts
-use Rattle.contents.proofs.entry_at.Reads as entry-at-reads
+use Rattle.by_number.proofs.entry_at.Reads as entry-at-reads
 use Rattle.cover.proofs.gaps.gaps_between.Reads as gaps-between-reads
 use Rattle.matching.proofs.tags_of.Reads as tags-of-reads
 

@@ -1,4 +1,4 @@
-use Rattle.drawing.specs.Reading.{has, labelAt}
+use Rattle.drawing.specs.Reading.{hasByte, labelAt}
 use mathlib.Core.Path.{sym, _∙_}
 use native.Mathlib.Omega.{arith}
 use borrow.Author.Needs.{needs}

@@ -1,5 +1,5 @@
 use Rattle.drawing.specs.declared.read.NodesRead.the-variants.{NoNodes}
-use Rattle.drawing.specs.Reading.{has, moreAt, wayPlace}
+use Rattle.drawing.specs.Reading.{hasByte, moreAt, wayPlace}
 use mathlib.Core.Path.{sym, ap, _∙_}
 use native.Mathlib.Omega.{arith}
 use borrow.Author.Needs.{needs}

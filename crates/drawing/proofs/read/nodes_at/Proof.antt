@@ -2,7 +2,7 @@ use borrow.Author.Tests.{not-true, not-false}
 use Rattle.drawing.proofs.WordLaws.{has-is}
 use Rattle.drawing.proofs.ScanLaws.{Scanning, scan-other, scan-edges, scan-broken, scan-next, scan-end}
 use Rattle.drawing.specs.declared.read.NodesRead.the-variants.{NoNodes}
-use Rattle.drawing.specs.Reading.{has, wayPlace}
+use Rattle.drawing.specs.Reading.{hasByte, wayPlace}
 use mathlib.Core.Path.{refl, sym, ap, _∙_}
 use Prim.Native.Nat.{_-_}
 use native.Mathlib.Omega.{arith}

@@ -1,5 +1,5 @@
 use Rattle.drawing.proofs.WordLaws.{has-is, Expecting, expecting-next, expecting-stuck, expecting-end}
-use Rattle.drawing.specs.Reading.{has}
+use Rattle.drawing.specs.Reading.{hasByte}
 use lib.ListN.{length}
 use mathlib.Core.Path.{refl, sym, _∙_}
 use Prim.Native.Nat.{_-_}

@@ -6,7 +6,7 @@ use Rattle.judge.proofs.LowestLaws.{SoFar, so-far-begin, so-far-next, s
 use mathlib.Core.Bool.{not}
 use Rattle.pws.specs.Entries.{entry}
 use Rattle.lists.specs.Decision.{looksStarted}
-use Rattle.contents.specs.Again.{entriesOf}
+use Rattle.by_number.specs.Again.{entriesOf}
 use Rattle.targets.specs.Sizes.{startsOf}
 use Rattle.judge.proofs.ListLaws.{start-by}
 use Rattle.judge.proofs.list.lowest_started.Statement.{statement}

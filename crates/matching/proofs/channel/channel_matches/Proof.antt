@@ -1,7 +1,7 @@
 use mathlib.Core.Path.{refl, _∙_}
 use native.Mathlib.Omega.{arith}
-use Rattle.records.specs.declared.program.Shape.{Shape}
-use Rattle.reading.specs.declared.entry.Cube.{Cube}
+use Rattle.program_part.specs.declared.program.Shape.{Shape}
+use Rattle.whole_file.specs.declared.entry.Cube.{Cube}
 use Rattle.matching.proofs.ChannelLaws.{Newest, newest-begin, Reads, reads-all, reads-none, reads-match, reads-skip, first-room, last-room}
 use borrow.Author.Needs.{needs}
 use Rattle.matching.proofs.channel.channel_matches.Statement.{statement}

@@ -1,6 +1,6 @@
 use mathlib.Core.Path.{sym, ap, _∙_}
 use mathlib.Core.Bool.{Bool, cond}
-use Rattle.reading.specs.Cube.{waitingOf}
+use Rattle.whole_file.specs.Cube.{waitingOf}
 use Rattle.matching.proofs.PackLaws.{empty-none, empty-some}
 use borrow.Author.Needs.{needs}
 use Rattle.matching.proofs.number.empty_bit.Statement.{statement}

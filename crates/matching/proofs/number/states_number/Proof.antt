@@ -1,11 +1,11 @@
 use mathlib.Core.Path.{ap, _∙_}
-use Rattle.matching.specs.Number.{stir, statesNumber}
+use Rattle.matching.specs.Number.{stir, statesMixed}
 use borrow.Author.Needs.{needs}
 use Rattle.matching.proofs.number.states_number.Statement.{statement}
 use Rattle.matching.proofs.number.states_number.Tie as tie
 
 pub states-number-spec : {M : Type 1} → statement M
-unfolding statesNumber
+unfolding statesMixed
 states-number-spec = tie.close (tie.spec
     -- packed-states-requires
     (λ c κs. search needs)

@@ -5,7 +5,7 @@ use mathlib.Core.Bool.{_&&_}
 use native.Mathlib.Omega.{arith}
 use lib.ListN.{length}
 use lib.Dec.{eqb}
-use Rattle.reading.specs.Cube.{waitingOf}
+use Rattle.whole_file.specs.Cube.{waitingOf}
 use Rattle.matching.specs.Relation.{relation}
 use Rattle.matching.proofs.ValueLaws.{Leftmost, leftmost-begin, leftmost-match, leftmost-skip, leftmost-done, queue-matched, queue-left, queue-right, waits, value-waits}
 use borrow.Author.Needs.{needs}

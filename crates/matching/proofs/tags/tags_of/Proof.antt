@@ -6,7 +6,7 @@ use native.Mathlib.Omega.{arith}
 use lib.ListN.{getD}
 use Rattle.pws.specs.declared.Message.{Message}
 use Rattle.pws.specs.Machine.{Memory}
-use Rattle.matching.specs.Tags.{memoryOf}
+use Rattle.matching.specs.Tags.{cubeMemory}
 use Rattle.matching.proofs.RoleLaws.{Roles, RolesTo, roles-begin, place-kept, place-moved, roles-end}
 use Rattle.matching.proofs.MarkLaws.{Labels, labels-begin, labels-next, Marked, marked-begin, hit-next, miss-next, hit-room, bit-small, marked-end}
 use Rattle.matching.proofs.PackLaws.{zeros-at}
@@ -95,7 +95,7 @@ tags-of-spec = tie.close (tie.spec
     -- array-read-tags
     (λ c. let r = hit-room (c .before .before .before .before .before .before .loop2 .k) (c .before .before .before .before .before .before .before .before .before .before .before .least3 .result) (c .before .before .before .before .wide .result) (c .before .before .before .before .before .before .before .before .before .before .before .before .before .least .result) (c .before .before .before .both .ensures) (c .before .before .both2 .ensures) (c .before .if2 .taken) in omega (arith, r .0, r .1, c .before .before .before .before .before .before .before .before .before .before .before .before .before .least .ensures))
     -- add-tags
-    (λ c. let w = c .before .before .before .before .before .before .loop2 .inv .1 (memoryOf (c .before .before .before .before .before .before .before .before .before .before .before .before .before .before .args .cube)) (c .before .before .before .before .before .before .before .before .before .before .before .before .before .before .args .cube .messages) (roles-end (c .before .before .before .before .before .before .before .before .before .before .before .before .before .before .args .cube) (search needs) (omega (arith, c .before .before .before .before .before .before .before .loop-test .left, c .before .before .before .before .before .before .before .before .loop .inv .0, c .before .before .before .before .before .before .before .before .before .before .before .before .before .least .ensures)) (c .before .before .before .before .before .before .before .before .loop .inv .1)) (let e : c .before .before .before .before .before .before .before .before .loop .i ≡ c .before .before .before .before .before .before .before .before .before .before .before .before .before .least .result = omega (arith, c .before .before .before .before .before .before .before .loop-test .left, c .before .before .before .before .before .before .before .before .loop .inv .0) in subst (Labels (c .before .before .before .before .before .before .before .before .loop .tags) (c .before .before .before .before .before .before .before .before .before .before .before .before .before .before .args .cube .messages)) e (c .before .before .before .before .before .before .before .before .loop .inv .2)) in omega (arith, w .low (c .before .before .before .before .wide .result - 1), c .role-bit .ensures, bit-small (c .before .before .before .before .before .before .loop2 .q) (omega (arith, c .before .before .before .before .before .loop2-test .taken, c .before .before .before .before .before .before .before .before .before .before .before .before .least2 .ensures))))
+    (λ c. let w = c .before .before .before .before .before .before .loop2 .inv .1 (cubeMemory (c .before .before .before .before .before .before .before .before .before .before .before .before .before .before .args .cube)) (c .before .before .before .before .before .before .before .before .before .before .before .before .before .before .args .cube .messages) (roles-end (c .before .before .before .before .before .before .before .before .before .before .before .before .before .before .args .cube) (search needs) (omega (arith, c .before .before .before .before .before .before .before .loop-test .left, c .before .before .before .before .before .before .before .before .loop .inv .0, c .before .before .before .before .before .before .before .before .before .before .before .before .before .least .ensures)) (c .before .before .before .before .before .before .before .before .loop .inv .1)) (let e : c .before .before .before .before .before .before .before .before .loop .i ≡ c .before .before .before .before .before .before .before .before .before .before .before .before .before .least .result = omega (arith, c .before .before .before .before .before .before .before .loop-test .left, c .before .before .before .before .before .before .before .before .loop .inv .0) in subst (Labels (c .before .before .before .before .before .before .before .before .loop .tags) (c .before .before .before .before .before .before .before .before .before .before .before .before .before .before .args .cube .messages)) e (c .before .before .before .before .before .before .before .before .loop .inv .2)) in omega (arith, w .low (c .before .before .before .before .wide .result - 1), c .role-bit .ensures, bit-small (c .before .before .before .before .before .before .loop2 .q) (omega (arith, c .before .before .before .before .before .loop2-test .taken, c .before .before .before .before .before .before .before .before .before .before .before .before .least2 .ensures))))
     -- array-write-tags-2
     (λ c. let r = hit-room (c .before .before .before .before .before .before .loop2 .k) (c .before .before .before .before .before .before .before .before .before .before .before .least3 .result) (c .before .before .before .before .wide .result) (c .before .before .before .before .before .before .before .before .before .before .before .before .before .least .result) (c .before .before .before .both .ensures) (c .before .before .both2 .ensures) (c .before .if2 .taken) in omega (arith, r .0, r .1, c .before .before .before .before .before .before .before .before .before .before .before .before .before .least .ensures))
     -- turned-requires
@@ -107,4 +107,4 @@ tags-of-spec = tie.close (tie.spec
     -- loop2-again
     (λ c. (omega (arith, c .before .before .before .before .before .loop2-test .taken), λ m ms R L. ⊎-elim (λ w. hit-next (c .before .before .before .before .before .before .before .before .before .before .before .least3 .result) (c .before .before .before .before .before .before .before .before .before .before .before .before .before .least .result) m ms (c .before .before .before .before .before .before .loop2 .inv .1 m ms R L) R (omega (arith, c .before .before .before .before .before .before .before .before .before .before .before .least3 .ensures)) (omega (arith, c .before .before .before .before .before .before .before .before .before .before .before .before .before .least .ensures)) (omega (arith, c .before .before .before .before .before .loop2-test .taken, c .before .before .before .before .before .before .before .before .before .before .before .before .least2 .ensures)) (c .before .before .before .before .wide .ensures) (c .before .before .before .both .ensures) (c .before .before .both2 .ensures) (c .turned .ensures) (w .0 .taken) (w .1 .ensures) (w .2)) (λ w. miss-next (c .before .before .before .before .before .before .before .before .before .before .before .least3 .result) (c .before .before .before .before .before .before .before .before .before .before .before .before .before .least .result) m ms (c .before .before .before .before .before .before .loop2 .inv .1 m ms R L) R (omega (arith, c .before .before .before .before .before .before .before .before .before .before .before .least3 .ensures)) (omega (arith, c .before .before .before .before .before .before .before .before .before .before .before .before .before .least .ensures)) (omega (arith, c .before .before .before .before .before .loop2-test .taken, c .before .before .before .before .before .before .before .before .before .before .before .before .least2 .ensures)) (c .before .before .before .before .wide .ensures) (c .before .before .before .both .ensures) (c .before .before .both2 .ensures) (c .turned .ensures) (w .0 .left) (w .1)) (c .before .if2 .came)))
     -- returns
-    (λ c. marked-end (c .before .before .before .before .before .before .before .before .before .args .shape) (c .before .before .before .before .before .before .before .before .before .args .cube) (c .before .before .before .before .before .before .least3 .ensures) (c .before .before .before .before .before .before .before .before .least .ensures) (omega (arith, c .loop2-test .left, c .before .loop2 .inv .0, c .before .before .before .before .before .before .before .least2 .ensures)) (c .before .loop2 .inv .1 (memoryOf (c .before .before .before .before .before .before .before .before .before .args .cube)) (c .before .before .before .before .before .before .before .before .before .args .cube .messages) (roles-end (c .before .before .before .before .before .before .before .before .before .args .cube) (search needs) (omega (arith, c .before .before .loop-test .left, c .before .before .before .loop .inv .0, c .before .before .before .before .before .before .before .before .least .ensures)) (c .before .before .before .loop .inv .1)) (let e : c .before .before .before .loop .i ≡ c .before .before .before .before .before .before .before .before .least .result = omega (arith, c .before .before .loop-test .left, c .before .before .before .loop .inv .0) in subst (Labels (c .before .before .before .loop .tags) (c .before .before .before .before .before .before .before .before .before .args .cube .messages)) e (c .before .before .before .loop .inv .2)))))
+    (λ c. marked-end (c .before .before .before .before .before .before .before .before .before .args .shape) (c .before .before .before .before .before .before .before .before .before .args .cube) (c .before .before .before .before .before .before .least3 .ensures) (c .before .before .before .before .before .before .before .before .least .ensures) (omega (arith, c .loop2-test .left, c .before .loop2 .inv .0, c .before .before .before .before .before .before .before .least2 .ensures)) (c .before .loop2 .inv .1 (cubeMemory (c .before .before .before .before .before .before .before .before .before .args .cube)) (c .before .before .before .before .before .before .before .before .before .args .cube .messages) (roles-end (c .before .before .before .before .before .before .before .before .before .args .cube) (search needs) (omega (arith, c .before .before .loop-test .left, c .before .before .before .loop .inv .0, c .before .before .before .before .before .before .before .before .least .ensures)) (c .before .before .before .loop .inv .1)) (let e : c .before .before .before .loop .i ≡ c .before .before .before .before .before .before .before .before .least .result = omega (arith, c .before .before .loop-test .left, c .before .before .before .loop .inv .0) in subst (Labels (c .before .before .before .loop .tags) (c .before .before .before .before .before .before .before .before .before .args .cube .messages)) e (c .before .before .before .loop .inv .2)))))

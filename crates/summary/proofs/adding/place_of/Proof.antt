@@ -7,7 +7,7 @@ use Rattle.summary.proofs.adding.place_of.Statement.{statement}
 use Rattle.summary.proofs.adding.place_of.Tie as tie
 use Rattle.summary.proofs.adding.place_of.Reads as reads
 use Rattle.summary.proofs.adding.place_of.Lts as lts
-use Rattle.contents.proofs.entry_at.Reads as entry-at-reads
+use Rattle.by_number.proofs.entry_at.Reads as entry-at-reads
 use Rattle.matching.proofs.number_of.Reads as number-of-reads
 use Rattle.matching.proofs.states_number.Reads as states-number-reads
 use Rattle.matching.proofs.tags_of.Reads as tags-of-reads

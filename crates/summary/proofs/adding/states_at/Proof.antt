@@ -1,5 +1,5 @@
 use mathlib.Core.Path.{_≡_, refl, sym, ap, ap₂, _∙_}
-use Rattle.reading.specs.Cube.{loadEntry}
+use Rattle.whole_file.specs.Cube.{loadEntry}
 use borrow.Author.Needs.{needs}
 use Rattle.summary.proofs.adding.states_at.Statement.{statement}
 use Rattle.summary.proofs.adding.states_at.Tie as tie

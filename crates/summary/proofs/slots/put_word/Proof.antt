@@ -6,7 +6,7 @@ use Rattle.summary.proofs.slots.put_word.Statement.{statement}
 use Rattle.summary.proofs.slots.put_word.Tie as tie
 use Rattle.summary.proofs.slots.put_word.Reads as reads
 use Rattle.summary.proofs.slots.put_word.Lts as lts
-use Rattle.records.proofs.bytes.store_number.Reads as store-number-reads
+use Rattle.program_part.proofs.bytes.store_number.Reads as store-number-reads
 
 -- src/slots.rt:35:9
 returns : tie.Need-returns

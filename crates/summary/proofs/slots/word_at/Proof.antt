@@ -1,5 +1,5 @@
 use mathlib.Core.Path.{sym}
-use Rattle.records.specs.Bytes.{le32}
+use Rattle.program_part.specs.Bytes.{le32}
 use Rattle.summary.proofs.SlotLaws.{word-far, word-near}
 use native.Mathlib.Omega.{arith}
 use borrow.Author.Needs.{needs}

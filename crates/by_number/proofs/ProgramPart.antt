@@ -1,0 +1,186 @@
+-- The program and the targets of a file that was read.
+use Prim.Native.Nat.{ℕ, _+_, _*_, _<_, _≤_}
+use mathlib.Core.Path.{_≡_, refl, sym, ap, subst, _∙_}
+use mathlib.Core.Logic.{⊎-elim}
+use mathlib.Core.Bool.{true, _&&_, not}
+use mathlib.Core.List.{List}
+use native.Mathlib.Omega.{arith}
+use lib.ListN.{length, getD}
+use lib.Dec.{leb}
+use borrow.Author.Tests.{leb-true, ltb-true, lt-ltb, not-false}
+use Rattle.pws.specs.Program as pws
+use Rattle.pws.specs.Configurations.{StatesOf}
+use Rattle.program_part.specs.declared.program.Shape.{Shape}
+use Rattle.program_part.specs.declared.program.Program.{Program}
+use Rattle.program_part.specs.declared.program.Checked.the-variants.{Fine}
+use Rattle.program_part.specs.declared.program.Counted.the-variants.{Records}
+use Rattle.program_part.specs.Bytes.{byte}
+use Rattle.program_part.specs.Records.{checked, inRange, isKind, shapeAt, shapeNumber, transitionAt, transitionNumber, transitionNames, targetNumber, stateNames, stateAt}
+use Rattle.program_part.specs.ProgramPart.{unlessEnd, statesFrom, ofProcess, ofProcesses, atClaim, transitionsFrom, targetsFrom, programFrom, programOf, targetsOf}
+use Rattle.program_part.proofs.RecordLaws.{good, unless-fine, states-fine, transition-fine, target-fine}
+use Rattle.program_part.proofs.ProgramLaws.{and-true, transitions-most, targets-most}
+use Rattle.whole_file.proofs.ReadingLaws.{ProgramFine, program-fine}
+use Rattle.by_number.specs.Contents.{ProgramPartRead, ProgramSizes}
+use Rattle.by_number.proofs.Tables.{table-length, table-number, of-four}
+use Rattle.by_number.proofs.Names.{range-true, transition-of, states-of}
+use Rattle.by_number.proofs.Rows.{row-each, row-stop, place-eight, place-five, states-each}
+
+-- ---- the shape
+
+pub record ShapeRange (s : Shape) : Type 0 where
+  pub processes : (1 ≤ s .processes) × (s .processes ≤ 4)
+  pub variables : (1 ≤ s .variables) × (s .variables ≤ 4)
+  pub values : (1 ≤ s .values) × (s .values ≤ 4)
+
+pub shape-in : (f : List ℕ) (at : ℕ) → unlessEnd f at (checked (shapeNumber f at) at) ≡ Fine → ShapeRange (shapeAt f at)
+unfolding shapeNumber
+shape-in f at e =
+    let g = good at (unless-fine f at _ e .1) in
+    let a = and-true (inRange (byte f (at + 1)) 4) (inRange (byte f (at + 2)) 4 && inRange (byte f (at + 3)) 4) (not-false _ (g .range)) in
+    let b = and-true (inRange (byte f (at + 2)) 4) (inRange (byte f (at + 3)) 4) (a .1) in
+    record { processes = range-true (byte f (at + 1)) 4 (a .0); variables = range-true (byte f (at + 2)) 4 (b .0); values = range-true (byte f (at + 3)) 4 (b .1) }
+
+-- ---- states
+
+of-process : (f : List ℕ) (at k n p : ℕ) → p < n → n ≤ 4 → getD (ofProcesses f at k n) p 0 ≡ byte f (at + (k + 3 * p))
+of-process f at k n p l few =
+    of-four (λ (p : ℕ). getD (ofProcesses f at k n) p 0 ≡ ofProcess f at k n p) refl refl refl refl p (omega arith) ∙ rw (lt-ltb p n l)
+
+module _ (f : List ℕ) (at n : ℕ) (few : n ≤ 4) (q : statesFrom f at n ≡ Fine) (p : ℕ) (l : p < n) where
+  numbers : (inRange (byte f (at + 3 * p + 1)) 32 ≡ true) × (byte f (at + 3 * p + 2) < byte f (at + 3 * p + 1))
+  numbers =
+      let g = states-fine f (at + 3 * p) (states-each f at n q p l) in
+      (not-false _ (g .range), ltb-true (byte f (at + 3 * p + 2)) (byte f (at + 3 * p + 1)) (not-false _ (g .names)))
+
+  said : (k : ℕ) → getD (ofProcesses f at k n) p 0 ≡ byte f (at + 3 * p + k)
+  said k = let a : at + (k + 3 * p) ≡ at + 3 * p + k = omega arith in of-process f at k n p l few ∙ ap (byte f) a
+
+  pub states-most : getD (ofProcesses f at 1 n) p 0 ≤ 32
+  states-most = rw (said 1) (range-true (byte f (at + 3 * p + 1)) 32 (numbers .0) .1)
+
+  pub initial-below : getD (ofProcesses f at 2 n) p 0 < getD (ofProcesses f at 1 n) p 0
+  initial-below = rw (said 1, said 2) (numbers .1)
+
+-- ---- transitions and targets
+
+module _ (s : Shape) (states : List ℕ) (f : List ℕ) (at : ℕ) where
+  pub transition-named : (n i : ℕ) → transitionsFrom s states f at ≡ Records n → i < n → transitionNames s states f (at + 8 * i) ≡ true
+  unfolding transitionsFrom
+  transition-named n i q l =
+      let e = row-each (λ k n. not (isKind f k 3)) (λ k n. checked (transitionNumber s states f k n) k) (λ k. 8) 256 at 0 n q i (omega arith) in
+      let a = transition-fine f (at + 8 * i) s states (0 + i) (rw (place-eight at i) at e) in
+      not-false _ (a .names)
+
+  pub target-named : (n i : ℕ) → targetsFrom s states f at ≡ Records n → i < n → stateNames s states f (at + 5 * i) ≡ true
+  unfolding targetsFrom
+  target-named n i q l =
+      let e = row-each (atClaim f) (λ k n. unlessEnd f k (checked (targetNumber s states f k n) k)) (λ k. 5) 16 at 0 n q i (omega arith) in
+      let d = unless-fine f (at + 5 * i) _ (rw (place-five at i) at e) .1 in
+      not-false _ (target-fine f (at + 5 * i) s states (0 + i) d .names)
+
+  pub targets-least : (n : ℕ) → targetsFrom s states f at ≡ Records n → 1 ≤ n
+  unfolding targetsFrom atClaim
+  targets-least n q =
+      ⊎-elim (λ e. leb-true 1 n (and-true (isKind f (e .0) 15) (leb 1 n) (e .1) .1)) (λ e. omega arith)
+      (row-stop (atClaim f) (λ k n. unlessEnd f k (checked (targetNumber s states f k n) k)) (λ k. 5) 16 at 0 n q)
+
+-- ---- the whole part
+
+module _ (f : List ℕ) (at : ℕ) (F : ProgramFine f at) where
+  abbrev s : Shape
+  s = shapeAt f at
+
+  abbrev states : List ℕ
+  states = ofProcesses f (at + 4) 1 (s .processes)
+
+  abbrev first : ℕ
+  first = at + 4 + 3 * s .processes
+
+  abbrev p : Program
+  p =
+      record {
+        shape = s;
+        states = states;
+        initial = ofProcesses f (at + 4) 2 (s .processes);
+        transitions = record { at = first; count = F .transitions };
+        targets = record { at = first + 8 * F .transitions; count = F .targets };
+        claim = first + 8 * F .transitions + 5 * F .targets;
+      }
+
+  range : ShapeRange s
+  range = shape-in f at (F .shape)
+
+  taken : (i : ℕ) → i < F .transitions → pws.TransitionOf (programOf f p) (pws.transition (programOf f p) i)
+  taken i l =
+      subst (pws.TransitionOf (programOf f p)) (sym (table-number (λ i. transitionAt f (first + 8 * i)) (F .transitions) i pws.noTransition l))
+      (transition-of s states (programOf f p .initial) (programOf f p .transitions) f (first + 8 * i) (transition-named s states f first (F .transitions) i (F .rows) l))
+
+  aimed : (k : ℕ) → k < F .targets → StatesOf (programOf f p) (getD (targetsOf f p) k (λ p. 0))
+  aimed k l =
+      subst (StatesOf (programOf f p)) (sym (table-number (λ i. stateAt f (first + 8 * F .transitions + 5 * i)) (F .targets) k (λ p. 0) l))
+      (states-of s states (programOf f p .initial) (programOf f p .transitions) f (first + 8 * F .transitions + 5 * k) (range .processes .1)
+      (target-named s states f (first + 8 * F .transitions) (F .targets) k (F .aims) l))
+
+  count₁ : length (programOf f p .transitions) ≡ F .transitions
+  count₁ = table-length (λ i. transitionAt f (first + 8 * i)) 0 (F .transitions)
+
+  count₂ : length (targetsOf f p) ≡ F .targets
+  count₂ = table-length (λ i. stateAt f (first + 8 * F .transitions + 5 * i)) 0 (F .targets)
+
+  few-rows : (F .transitions ≤ 256) × (F .targets ≤ 16)
+  few-rows = (transitions-most s states f first (F .transitions) (F .rows), targets-most s states f (first + 8 * F .transitions) (F .targets) (F .aims))
+
+  whole-part : ProgramPartRead (programOf f p) (targetsOf f p)
+  whole-part =
+      record {
+        program =
+            record {
+              shape =
+                  record {
+                    someProcess = range .processes .0;
+                    processes = range .processes .1;
+                    someVariable = range .variables .0;
+                    variables = range .variables .1;
+                    someValue = λ v l. range .values .0;
+                    values = λ v l. range .values .1;
+                  };
+              initial = λ q l. initial-below f (at + 4) (s .processes) (range .processes .1) (F .states) q l;
+              transitions = λ i l. taken i (omega (arith, count₁));
+            };
+        states = λ q l. states-most f (at + 4) (s .processes) (range .processes .1) (F .states) q l;
+        transitions = omega (arith, count₁, few-rows .0);
+        targets = λ k l. aimed k (omega (arith, count₂));
+        someTarget = omega (arith, count₂, targets-least s states f (first + 8 * F .transitions) (F .targets) (F .aims));
+        fewTargets = omega (arith, count₂, few-rows .1);
+      }
+
+  near : p .claim ≤ at + 2144
+  near = omega (arith, few-rows .0, few-rows .1, range .processes .1)
+
+  whole-sizes : _≡_ {A = ℕ} at 0 → ProgramSizes p
+  whole-sizes z =
+      record {
+        processes = range .processes;
+        variables = range .variables;
+        values = range .values;
+        transitions = few-rows .0;
+        targets = (targets-least s states f (first + 8 * F .transitions) (F .targets) (F .aims), few-rows .1);
+        claim = omega (arith, near);
+      }
+
+module _ (f : List ℕ) (at : ℕ) (q : programFrom f at .answer ≡ Fine) where
+  F : ProgramFine f at
+  F = program-fine f at q
+
+  pub part-read : ProgramPartRead (programOf f (programFrom f at .program)) (targetsOf f (programFrom f at .program))
+  part-read = subst (λ (p : Program). ProgramPartRead (programOf f p) (targetsOf f p)) (sym (F .same)) (whole-part f at F)
+
+  pub part-shape : ShapeRange (programFrom f at .program .shape)
+  part-shape = subst (λ (p : Program). ShapeRange (p .shape)) (sym (F .same)) (shape-in f at (F .shape))
+
+  pub part-sizes : _≡_ {A = ℕ} at 0 → ProgramSizes (programFrom f at .program)
+  part-sizes z = subst ProgramSizes (sym (F .same)) (whole-sizes f at F z)
+
+  -- the claim stands near the beginning
+  pub claim-near : programFrom f at .program .claim ≤ at + 2144
+  claim-near = subst (λ (p : Program). p .claim ≤ at + 2144) (sym (F .same)) (near f at F)

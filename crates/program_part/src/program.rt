@@ -1,0 +1,289 @@
+// The program part of a file: kinds 01 to 04 in their order (document 01, "Records").
+ghost use mathlib.Core.Path.{_≡_};
+ghost use Prim.Native.Nat.{_+_, _≤_};
+ghost use mathlib.Core.Bool.{cond};
+ghost use lib.ListN.{length, getD};
+ghost use Rattle.program_part.specs.Records.{shapeAt, valueCount};
+ghost use Rattle.program_part.specs.ProgramPart.{refusalOf, stopOf, unlessEnd, statesFrom, ofProcesses, transitionsFrom, atClaim, targetsFrom, programRefused, rowsFrom, restFrom, programFrom};
+use crate::bytes::both;
+use crate::bytes::field;
+use crate::bytes::wide;
+use crate::record::check_shape;
+use crate::record::check_states;
+use crate::record::check_target;
+use crate::record::check_transition;
+use crate::record::is_kind;
+
+// Why a file is refused: document 01's number, and the place.
+pub struct Refusal {
+    pub number: u8,
+    pub place: usize,
+}
+
+// What is said of a record.
+pub enum Checked {
+    Fine,
+    Refused(Refusal),
+}
+
+// How many records of a kind stand in a row, or why one of them is refused.
+pub enum Counted {
+    Records(usize),
+    Stopped(Refusal),
+}
+
+// Kind 01. The number of values is the same for every variable.
+pub struct Shape {
+    pub processes: usize,
+    pub variables: usize,
+    pub values: u8,
+}
+
+// Records of one kind and size in a row: where the first stands, and how many there are.
+pub struct Row {
+    pub at: usize,
+    pub count: usize,
+}
+
+// Where the program part's records stand, and where the claim does.
+pub struct Program {
+    pub shape: Shape,
+    pub states: [u8; 4],
+    pub initial: [u8; 4],
+    pub transitions: Row,
+    pub targets: Row,
+    pub claim: usize,
+}
+
+pub struct ProgramRead {
+    pub answer: Checked,
+    pub program: Program,
+}
+
+pub fn value_count(shape: Shape, variable: usize) -> u8
+    ensures { λ r. ⌜ r ≡ valueCount shape variable ⌝ }
+{
+    shape.values
+}
+
+// One of four bytes, and 0 past the fourth.
+pub fn of_four(four: [u8; 4], p: usize) -> u8
+    ensures { λ r. ⌜ r ≡ getD four p 0 ⌝ }
+{
+    if p < 4 {
+        return four[p];
+    }
+    0
+}
+
+// ---- records in a row
+
+pub fn refusal_of(answer: Checked) -> Refusal
+    ensures { λ r. ⌜ r ≡ refusalOf answer ⌝ }
+{
+    match answer {
+        Checked::Fine => Refusal {
+            number: 0,
+            place: 0,
+        },
+        Checked::Refused(refusal) => refusal,
+    }
+}
+
+pub fn stop_of(counted: Counted) -> Refusal
+    ensures { λ r. ⌜ r ≡ stopOf counted ⌝ }
+{
+    match counted {
+        Counted::Records(_) => Refusal {
+            number: 0,
+            place: 0,
+        },
+        Counted::Stopped(refusal) => refusal,
+    }
+}
+
+// What is said of the record at a place, or 6 where the file has ended.
+pub fn unless_end(file: &[u8], at: usize, answer: Checked) -> Checked
+    ensures { λ r. ⌜ r ≡ unlessEnd (now (file .entry)) at answer ⌝ }
+{
+    if file.len() <= at {
+        return Checked::Refused(Refusal {
+            number: 6,
+            place: file.len(),
+        });
+    }
+    answer
+}
+
+// The 02s of n processes.
+fn states_from(file: &[u8], at: usize, n: usize) -> Checked
+    ensures { λ r. ⌜ r ≡ statesFrom (now (file .entry)) at n ⌝ }
+{
+    let mut k = at;
+    for p in 0..n {
+        let answer = unless_end(file, k, check_states(file, k));
+        let Checked::Fine = answer else {
+            return answer;
+        };
+        k += 3;
+    }
+    Checked::Fine
+}
+
+// The 03s that stand here in a row.
+fn transitions_from(file: &[u8], at: usize, shape: Shape, states: [u8; 4]) -> Counted
+    ensures { λ r. ⌜ r ≡ transitionsFrom shape states (now (file .entry)) at ⌝ }
+{
+    let mut k = at;
+    let mut n = 0;
+    while is_kind(file, k, 3) {
+        let answer = check_transition(file, k, shape, states, n);
+        let Checked::Fine = answer else {
+            return Counted::Stopped(refusal_of(answer));
+        };
+        k += 8;
+        n += 1;
+    }
+    Counted::Records(n)
+}
+
+fn at_claim(file: &[u8], at: usize, n: usize) -> bool
+    ensures { λ r. ⌜ r ≡ atClaim (now (file .entry)) at n ⌝ }
+{
+    both(is_kind(file, at, 15), 1 <= n)
+}
+
+// The 04s, up to the claim.
+fn targets_from(file: &[u8], at: usize, shape: Shape, states: [u8; 4]) -> Counted
+    ensures { λ r. ⌜ r ≡ targetsFrom shape states (now (file .entry)) at ⌝ }
+{
+    let mut k = at;
+    let mut n = 0;
+    while !at_claim(file, k, n) {
+        let answer = unless_end(file, k, check_target(file, k, shape, states, n));
+        let Checked::Fine = answer else {
+            return Counted::Stopped(refusal_of(answer));
+        };
+        k += 5;
+        n += 1;
+    }
+    Counted::Records(n)
+}
+
+// ---- the whole part
+
+fn program_refused(refusal: Refusal) -> ProgramRead
+    ensures { λ r. ⌜ r ≡ programRefused refusal ⌝ }
+{
+    let none = [0u8; 4];
+    ProgramRead {
+        answer: Checked::Refused(refusal),
+        program: Program {
+            shape: Shape {
+                processes: 0,
+                variables: 0,
+                values: 0,
+            },
+            states: none,
+            initial: none,
+            transitions: Row { at: 0, count: 0 },
+            targets: Row { at: 0, count: 0 },
+            claim: 0,
+        },
+    }
+}
+
+fn shape_at(file: &[u8], at: usize) -> Shape
+    ensures { λ r. ⌜ r ≡ shapeAt (now (file .entry)) at ⌝ }
+{
+    Shape {
+        processes: wide(field(file, at, 1)),
+        variables: wide(field(file, at, 2)),
+        values: field(file, at, 3),
+    }
+}
+
+fn field_if(file: &[u8], at: usize, exists: bool, k: u8) -> u8
+    ensures { λ r. ⌜ r ≡ cond exists (getD (now (file .entry)) (at + k) 0) 0 ⌝ }
+{
+    if exists {
+        return field(file, at, k);
+    }
+    0
+}
+
+// The number of states of each of n processes, and 0 for the others.
+fn states_of(file: &[u8], at: usize, n: usize) -> [u8; 4]
+    ensures { λ r. ⌜ r ≡ ofProcesses (now (file .entry)) at 1 n ⌝ }
+{
+    let a = field_if(file, at, 0 < n, 1);
+    let b = field_if(file, at, 1 < n, 4);
+    let c = field_if(file, at, 2 < n, 7);
+    let d = field_if(file, at, 3 < n, 10);
+    [a, b, c, d]
+}
+
+// And their initial states.
+fn initial_of(file: &[u8], at: usize, n: usize) -> [u8; 4]
+    ensures { λ r. ⌜ r ≡ ofProcesses (now (file .entry)) at 2 n ⌝ }
+{
+    let a = field_if(file, at, 0 < n, 2);
+    let b = field_if(file, at, 1 < n, 5);
+    let c = field_if(file, at, 2 < n, 8);
+    let d = field_if(file, at, 3 < n, 11);
+    [a, b, c, d]
+}
+
+// The 03s and 04s.
+fn read_rows(file: &[u8], at: usize, shape: Shape, states: [u8; 4], initial: [u8; 4]) -> ProgramRead
+    requires { ⌜ at ≤ length (now file) + 12 ⌝ }
+    ensures { λ r. ⌜ r ≡ rowsFrom (now (file .entry)) at shape states initial ⌝ }
+{
+    let transitions = transitions_from(file, at, shape, states);
+    let Counted::Records(n) = transitions else {
+        return program_refused(stop_of(transitions));
+    };
+    let next = at + 8 * n;
+    let targets = targets_from(file, next, shape, states);
+    let Counted::Records(m) = targets else {
+        return program_refused(stop_of(targets));
+    };
+    ProgramRead {
+        answer: Checked::Fine,
+        program: Program {
+            shape: shape,
+            states: states,
+            initial: initial,
+            transitions: Row { at: at, count: n },
+            targets: Row { at: next, count: m },
+            claim: next + 5 * m,
+        },
+    }
+}
+
+// And the 02s before them.
+fn read_rest(file: &[u8], at: usize, shape: Shape) -> ProgramRead
+    requires { ⌜ (at ≤ length (now file)) × (shape .processes ≤ 4) ⌝ }
+    ensures { λ r. ⌜ r ≡ restFrom (now (file .entry)) at shape ⌝ }
+{
+    let n = shape.processes;
+    let all = states_from(file, at, n);
+    let Checked::Fine = all else {
+        return program_refused(refusal_of(all));
+    };
+    let states = states_of(file, at, n);
+    let initial = initial_of(file, at, n);
+    read_rows(file, at + 3 * n, shape, states, initial)
+}
+
+// The program part, from a place in the file on.
+pub fn read_program(file: &[u8], at: usize) -> ProgramRead
+    ensures { λ r. ⌜ r ≡ programFrom (now (file .entry)) at ⌝ }
+{
+    let opening = unless_end(file, at, check_shape(file, at));
+    let Checked::Fine = opening else {
+        return program_refused(refusal_of(opening));
+    };
+    let shape = shape_at(file, at);
+    read_rest(file, at + 4, shape)
+}

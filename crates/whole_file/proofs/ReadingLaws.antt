@@ -1,0 +1,122 @@
+-- Laws of the whole reading.
+use Prim.Native.Nat.{ℕ, zero, suc, _+_, _*_, _-_, _<_, _≤_}
+use mathlib.Core.Path.{_≡_, refl, sym, ap, subst, _∙_}
+use mathlib.Core.Bool.{Bool, true, false, cond, _&&_, not}
+use mathlib.Core.List.{List, [], _∷_, _++_, append-nil}
+use native.Mathlib.Omega.{arith}
+use lib.ListN.{length, take, drop, length-drop, drop-of-length-le}
+use lib.Seq.{take-all}
+use lib.Dec.{eqb, ltb}
+use borrow.Rule.Slice.PartMut.{putMid}
+use borrow.Author.Tests.{eq-eqb, ne-eqb, lt-ltb, le-ltb}
+use Rattle.program_part.specs.declared.program.Shape.{Shape}
+use Rattle.program_part.specs.declared.program.Refusal.{Refusal}
+use Rattle.program_part.specs.declared.program.Checked.{Checked}
+use Rattle.program_part.specs.declared.program.Checked.the-variants.{Fine, Refused}
+use Rattle.program_part.specs.declared.program.Counted.{Counted}
+use Rattle.program_part.specs.declared.program.Counted.the-variants.{Records, Stopped}
+use Rattle.program_part.specs.declared.program.Program.{Program}
+use Rattle.program_part.specs.declared.program.ProgramRead.{ProgramRead}
+use Rattle.program_part.specs.Bytes.{byte, cut}
+use Rattle.program_part.specs.Records.{checked, claimNumber, isKind, shapeAt, shapeNumber}
+use Rattle.program_part.specs.ProgramPart.{unlessEnd, statesFrom, ofProcesses, transitionsFrom, targetsFrom, orRefused, withCount, rowsFrom, restFrom, programFrom}
+use Rattle.whole_file.specs.EvidencePart.{stepsFrom, EntriesRead, entriesFrom, entriesAllowed}
+use Rattle.whole_file.specs.Reading.{Evidence, refusal, entries, steps, evidenceFrom, Parts, noParts, twoParts, partsOf}
+use Rattle.program_part.proofs.RecordLaws.{fine-refused, good, cut-fits, unless-fine}
+use Rattle.program_part.proofs.ProgramLaws.{shape-fine}
+
+-- the part from h on, lent and given back as g of it
+pub upper : (h : ℕ) (w b : List ℕ) (g : List ℕ → List ℕ) → h ≤ length w → b ≡ g (take (length w - h) (drop h w)) → putMid h (length w - h) w b ≡ take h w ++ g (drop h w)
+upper h w b g le e =
+    let l : length (drop h w) ≤ length w - h = simp length-drop (omega arith) in
+    rw (e, take-all (length w - h) (drop h w) l, drop-of-length-le (drop h w) l, append-nil)
+
+-- ---- the evidence part
+
+module _ (f : List ℕ) (at : ℕ) (p : Program) (area : ℕ) where
+  abbrev Claims : Checked → Type 0
+  Claims x = unlessEnd f at (checked (claimNumber f at) at) ≡ x
+
+  pub evidence-refused : (r : Refusal) → Claims (Refused r) → evidenceFrom f at p area ≡ refusal r
+  unfolding evidenceFrom
+  evidence-refused r e = rw e
+
+  pub evidence-entries : Claims Fine → byte f (at + 1) ≡ 0 → evidenceFrom f at p area ≡ entries (entriesFrom (entriesAllowed area) (p .shape) (p .states) f (at + 2) [] [])
+  unfolding evidenceFrom
+  evidence-entries e d = rw (e, eq-eqb (byte f (at + 1)) 0 d)
+
+  pub evidence-steps : Claims Fine → (byte f (at + 1) ≡ 0 → ⊥) → evidenceFrom f at p area ≡ steps (stepsFrom (p .shape) (p .transitions .count) f (at + 2))
+  unfolding evidenceFrom
+  evidence-steps e d = rw (e, ne-eqb (byte f (at + 1)) 0 d)
+
+  pub claim-fits : Claims Fine → at + 1 < length f
+  unfolding claimNumber
+  claim-fits e = cut-fits f at 1 (good at (unless-fine f at _ e .1) .whole)
+
+-- ---- the program part, when nothing of it is refused
+
+pub record ProgramFine (f : List ℕ) (at : ℕ) : Type 0 where
+  pub transitions : ℕ
+  pub targets : ℕ
+  pub shape : unlessEnd f at (checked (shapeNumber f at) at) ≡ Fine
+  pub states : statesFrom f (at + 4) (shapeAt f at .processes) ≡ Fine
+  pub rows : transitionsFrom (shapeAt f at) (ofProcesses f (at + 4) 1 (shapeAt f at .processes)) f (at + 4 + 3 * shapeAt f at .processes) ≡ Records transitions
+  pub aims : targetsFrom (shapeAt f at) (ofProcesses f (at + 4) 1 (shapeAt f at .processes)) f (at + 4 + 3 * shapeAt f at .processes + 8 * transitions) ≡ Records targets
+  pub same : programFrom f at .program
+      ≡ record {
+        shape = shapeAt f at;
+        states = ofProcesses f (at + 4) 1 (shapeAt f at .processes);
+        initial = ofProcesses f (at + 4) 2 (shapeAt f at .processes);
+        transitions = record { at = at + 4 + 3 * shapeAt f at .processes; count = transitions };
+        targets = record { at = at + 4 + 3 * shapeAt f at .processes + 8 * transitions; count = targets };
+        claim = at + 4 + 3 * shapeAt f at .processes + 8 * transitions + 5 * targets;
+      }
+
+module _ (f : List ℕ) (at : ℕ) (q : programFrom f at .answer ≡ Fine) where
+  abbrev s : Shape
+  s = shapeAt f at
+
+  abbrev states : List ℕ
+  states = ofProcesses f (at + 4) 1 (s .processes)
+
+  abbrev first : ℕ
+  first = at + 4 + 3 * s .processes
+
+  by-targets : (n : ℕ) (m : Counted) → unlessEnd f at (checked (shapeNumber f at) at) ≡ Fine → statesFrom f (at + 4) (s .processes) ≡ Fine
+      → transitionsFrom s states f first ≡ Records n → targetsFrom s states f (first + 8 * n) ≡ m → ProgramFine f at
+  unfolding programFrom restFrom rowsFrom
+  by-targets n (Stopped r) a b c d = absurd (fine-refused {r = r} (sym q ∙ rw (a, b, c, d)))
+  by-targets n (Records m) a b c d = record { transitions = n; targets = m; shape = a; states = b; rows = c; aims = d; same = rw (a, b, c, d) }
+
+  by-parts : (x y : Checked) (n : Counted) → unlessEnd f at (checked (shapeNumber f at) at) ≡ x → statesFrom f (at + 4) (s .processes) ≡ y
+      → transitionsFrom s states f first ≡ n → ProgramFine f at
+  unfolding programFrom restFrom rowsFrom
+  by-parts (Refused r) y n a b c = absurd (fine-refused {r = r} (sym q ∙ rw a))
+  by-parts Fine (Refused r) n a b c = absurd (fine-refused {r = r} (sym q ∙ rw (a, b)))
+  by-parts Fine Fine (Stopped r) a b c = absurd (fine-refused {r = r} (sym q ∙ rw (a, b, c)))
+  by-parts Fine Fine (Records n) a b c = by-targets n (targetsFrom s states f (first + 8 * n)) a b c refl
+
+  pub program-fine : ProgramFine f at
+  program-fine = by-parts _ _ _ refl refl refl
+
+-- the shape is one that document 01 allows
+pub shape-range : (f : List ℕ) (at : ℕ) → programFrom f at .answer ≡ Fine → (programFrom f at .program .shape .processes ≤ 4) × (programFrom f at .program .shape .variables ≤ 4)
+shape-range f at q =
+    let P = program-fine f at q in
+    let w = shape-fine f at (P .shape) in
+    rw (P .same) (w .1, w .2)
+
+-- ---- the whole
+
+module _ (f : List ℕ) (area : ℕ) where
+  pub parts-short : area < 65536 → partsOf f area ≡ noParts (record { number = 8; place = 0 })
+  unfolding partsOf
+  parts-short l = rw (lt-ltb area 65536 l)
+
+  pub parts-refused : (r : Refusal) → 65536 ≤ area → programFrom f 0 .answer ≡ Refused r → partsOf f area ≡ noParts r
+  unfolding partsOf
+  parts-refused r l e = rw (le-ltb area 65536 l, e)
+
+  pub parts-both : 65536 ≤ area → programFrom f 0 .answer ≡ Fine → partsOf f area ≡ twoParts (programFrom f 0 .program) (evidenceFrom f (programFrom f 0 .program .claim) (programFrom f 0 .program) area)
+  unfolding partsOf
+  parts-both l e = rw (le-ltb area 65536 l, e)

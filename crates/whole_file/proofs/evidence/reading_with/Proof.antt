@@ -1,0 +1,23 @@
+use Rattle.whole_file.specs.Reading.{readingRefused, countReading}
+use Rattle.program_part.specs.ProgramPart.{stopOf}
+use mathlib.Core.Path.{_≡_, sym, ap, _∙_, refl}
+use borrow.Author.Needs.{needs}
+use Rattle.whole_file.proofs.evidence.reading_with.Statement.{statement}
+use Rattle.whole_file.proofs.evidence.reading_with.Tie as tie
+
+pub reading-with-spec : {M : Type 1} → statement M
+reading-with-spec = tie.close (tie.spec
+    -- enum-known-counted 491:26
+    (λ c. search needs)
+    -- enum-told 492:32
+    (λ c. search needs)
+    -- stop-of-requires 492:32
+    (λ c κs. search needs)
+    -- reading-refused-requires 492:9
+    (λ c κs. search needs)
+    -- returns 492:9
+    (λ c. c .reading-refused .ensures ∙ ap readingRefused (c .before .stop-of .ensures ∙ ap stopOf (c .before .before .enum-told .given .1)) ∙ sym (ap (countReading (c .before .before .before .before .args .program) (c .before .before .before .before .args .claim)) (c .before .before .enum-told .given .1)))
+    -- add-t7 500:21
+    (λ c. search needs)
+    -- returns-2 487:1
+    (λ c. rw (c .before .before .counted .given .1)))

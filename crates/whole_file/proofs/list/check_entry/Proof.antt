@@ -1,0 +1,24 @@
+use Rattle.program_part.specs.Records.{entryNumber}
+use borrow.Author.Needs.{needs}
+use Rattle.whole_file.proofs.list.check_entry.Statement.{statement}
+use Rattle.whole_file.proofs.list.check_entry.Tie as tie
+
+pub check-entry-spec : {M : Type 1} → statement M
+unfolding entryNumber
+check-entry-spec = tie.close (tie.spec
+    -- state-names-requires 141:22
+    (λ c κs. search needs)
+    -- pointer-names-requires 141:60
+    (λ c κs. search needs)
+    -- both-requires 141:9
+    (λ c κs. search needs)
+    -- is-kind-requires 142:26
+    (λ c κs. search needs)
+    -- cut-requires 142:49
+    (λ c κs. search needs)
+    -- first-number-requires 142:12
+    (λ c κs. search needs)
+    -- answer-requires 142:5
+    (λ c κs. search needs)
+    -- returns 138:1
+    (λ c. cc))

@@ -1,0 +1,120 @@
+-- The reading of a file: its contents, or a refusal's number and place (document 01, "Records" and the refusal table). Number 8 is tested
+-- before all; then the program part, then the evidence part.
+use Prim.Native.Nat.{ℕ, zero, suc, _+_, _*_}
+use mathlib.Core.Bool.{Bool, true, false, cond}
+use mathlib.Core.List.{List, [], _∷_, _++_}
+use lib.ListN.{length, take, drop}
+use lib.Dec.{eqb, ltb}
+use Rattle.pws.specs.Program as pws
+use Rattle.pws.specs.Machine.{Configuration}
+use Rattle.pws.specs.declared.Step.{Step}
+use Rattle.program_part.specs.declared.program.Refusal.{Refusal}
+use Rattle.program_part.specs.declared.program.Checked.{Checked}
+use Rattle.program_part.specs.declared.program.Checked.the-variants.{Fine, Refused}
+use Rattle.program_part.specs.declared.program.Counted.{Counted}
+use Rattle.program_part.specs.declared.program.Counted.the-variants.{Records, Stopped}
+use Rattle.program_part.specs.declared.program.Program.{Program}
+use Rattle.program_part.specs.declared.program.ProgramRead.{ProgramRead}
+use Rattle.whole_file.specs.declared.evidence.Reading.{Reading}
+use Rattle.program_part.specs.Bytes.{choose, byte}
+use Rattle.program_part.specs.Records.{checked, claimNumber}
+use Rattle.program_part.specs.ProgramPart.{unlessEnd, noProgram, programFrom, programOf, targetsOf}
+use Rattle.whole_file.specs.EvidencePart.{stepsFrom, stepsOf, EntriesRead, entriesFrom, entriesAllowed, wroteFrom}
+use Rattle.whole_file.specs.Tally.{countOf}
+
+-- ---- the parts
+
+-- what stands from the claim on: a refusal, entries, or steps
+pub data Evidence : Type 0 where
+  refusal : Refusal → Evidence
+  entries : EntriesRead → Evidence
+  steps : Counted → Evidence
+
+abbrev pub claimThen : Checked → (Unit {0} → Evidence) → Evidence
+claimThen Fine x = x tt
+claimThen (Refused r) x = refusal r
+
+-- claim 0: entries; claim 1: steps. `at` is the place of the claim, `area` the work area's length.
+unfoldable pub evidenceFrom : List ℕ → ℕ → Program → ℕ → Evidence
+evidenceFrom f at p area =
+    claimThen (unlessEnd f at (checked (claimNumber f at) at)) (λ _.
+    choose (eqb (byte f (at + 1)) 0)
+    (λ _. entries (entriesFrom (entriesAllowed area) (p .shape) (p .states) f (at + 2) [] []))
+    (λ _. steps (stepsFrom (p .shape) (p .transitions .count) f (at + 2))))
+
+pub data Parts : Type 0 where
+  noParts : Refusal → Parts
+  twoParts : Program → Evidence → Parts
+
+abbrev pub programThen : ProgramRead → (Program → Evidence) → Parts
+programThen r x = answered (r .answer)
+  where
+    answered : Checked → Parts
+    answered Fine = twoParts (r .program) (x (r .program))
+    answered (Refused q) = noParts q
+
+unfoldable pub partsOf : List ℕ → ℕ → Parts
+partsOf f area =
+    choose (ltb area 65536) (λ _. noParts (record { number = 8; place = 0 })) (λ _. programThen (programFrom f 0) (λ p. evidenceFrom f (p .claim) p area))
+
+-- ---- what a file says
+
+pub data FileRead : Type 0 where
+  refused : Refusal → FileRead
+  -- program, targets, entries
+  list : pws.Program → List (ℕ → ℕ) → List Configuration → FileRead
+  -- program, targets, steps
+  run : pws.Program → List (ℕ → ℕ) → List Step → FileRead
+
+abbrev pub listRead : List ℕ → Program → Checked → EntriesRead → FileRead
+listRead f p Fine r = list (programOf f p) (targetsOf f p) (r .entries)
+listRead f p (Refused q) r = refused q
+
+abbrev pub evidenceRead : List ℕ → Program → Evidence → FileRead
+evidenceRead f p (refusal r) = refused r
+evidenceRead f p (entries r) = listRead f p (r .answer) r
+evidenceRead f p (steps (Records n)) = run (programOf f p) (targetsOf f p) (stepsOf f (p .claim + 2) n)
+evidenceRead f p (steps (Stopped r)) = refused r
+
+abbrev pub partsRead : List ℕ → Parts → FileRead
+partsRead f (noParts r) = refused r
+partsRead f (twoParts p e) = evidenceRead f p e
+
+-- the file's contents, or the first refusal
+unfoldable pub readFile : List ℕ → ℕ → FileRead
+readFile f area = partsRead f (partsOf f area)
+
+-- ---- what the code hands on, and what it leaves in the work area
+
+abbrev pub readingRefused : Refusal → Reading
+readingRefused r = record { answer = Refused r; contents = record { program = noProgram; claim = 0; evidence = record { at = 0; count = 0 } } }
+
+-- n records of evidence
+abbrev pub readingWith : Program → ℕ → ℕ → Reading
+readingWith p claim n = record { answer = Fine; contents = record { program = p; claim = claim; evidence = record { at = p .claim + 2; count = n } } }
+
+abbrev pub countReading : Program → ℕ → Counted → Reading
+countReading p claim (Records n) = readingWith p claim n
+countReading p claim (Stopped r) = readingRefused r
+
+abbrev pub evidenceReading : Program → Evidence → Reading
+evidenceReading p (refusal r) = readingRefused r
+evidenceReading p (entries r) = countReading p 0 (countOf r)
+evidenceReading p (steps n) = countReading p 1 n
+
+abbrev pub readingOf : Parts → Reading
+readingOf (noParts r) = readingRefused r
+readingOf (twoParts p e) = evidenceReading p e
+
+-- offsets stand from byte 16,384 on; nothing else is touched
+abbrev pub listArea : List ℕ → List ℕ → List ℕ
+listArea offsets w = take 16384 w ++ wroteFrom 0 offsets (drop 16384 w)
+
+abbrev pub evidenceArea : Evidence → List ℕ → List ℕ
+evidenceArea (refusal r) w = w
+evidenceArea (entries r) w = listArea (r .offsets) w
+evidenceArea (steps n) w = w
+
+abbrev pub areaRead : Parts → List ℕ → List ℕ
+areaRead (noParts r) w = w
+areaRead (twoParts p e) w = evidenceArea e w
