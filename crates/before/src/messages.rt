@@ -120,7 +120,7 @@ pub fn older_write(cube: Cube, p: usize, v: usize) -> usize
 
 // ---- a message all of whose values are free
 
-pub fn any_value(shape: Shape, v: usize) -> u8
+fn any_value(shape: Shape, v: usize) -> u8
     ensures { λ r. ⌜ r ≡ anyValue (shapeOf shape) v ⌝ }
 {
     if v < shape.variables {
@@ -129,7 +129,7 @@ pub fn any_value(shape: Shape, v: usize) -> u8
     0
 }
 
-pub fn any_message(shape: Shape, p: u8, v: u8) -> Message
+pub(crate) fn any_message(shape: Shape, p: u8, v: u8) -> Message
     ensures { λ r. ⌜ r ≡ anyMessage (shapeOf shape) p v ⌝ }
 {
     let snapshot = [

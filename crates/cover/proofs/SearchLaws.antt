@@ -65,6 +65,10 @@ module _ (f list sum : List ℕ) (n : ℕ) (s : Shape) (states : List ℕ) (numb
     | no d ↦ (d, O .rest d k l)
   ]
 
+  -- nothing is cut off from a walk within the list
+  pub onward-within : {link : ℕ} {led : Bool} {w v : Walk} → Within w → Onward f list sum n s states number (min (w .below) n) link led v → Onward f list sum n s states number (w .below) link led v
+  onward-within {link} {led} {w} {v} W O = let e : min (w .below) n ≡ w .below = let b = W .bounded in omega arith in subst (λ (b : ℕ). Onward f list sum n s states number b link led v) e O
+
   pub walked-begin : {Seen : ℕ → Type 0} {w : Walk} → Onward f list sum n s states number n (headLink sum (homeOf number n)) false w → Walked Seen w
   walked-begin O = record { each = λ k l. inr (onward-pending O k l) }
 
@@ -83,9 +87,9 @@ module _ (f list sum : List ℕ) (n : ℕ) (s : Shape) (states : List ℕ) (numb
 abbrev pub far : Walk → ℕ
 far w = cond (eqb (w .entry) 0) 0 (suc (w .below + cond (w .led) 0 1))
 
-pub far-less : {f list sum : List ℕ} {n : ℕ} {s : Shape} {states : List ℕ} {number : ℕ} {w v : Walk} → w .entry ≢ 0
-    → Onward f list sum n s states number (w .below) (w .link) (w .led) v → far v < far w
-far-less {w = w} {v = v} d O = rw (ne-eqb (w .entry) 0 d) (go (ℕ-discrete (v .entry) 0))
+pub far-less : {f list sum : List ℕ} {n : ℕ} {s : Shape} {states : List ℕ} {number : ℕ} {w v : Walk} → Within f list sum n s states number w → w .entry ≢ 0
+    → Onward f list sum n s states number (min (w .below) n) (w .link) (w .led) v → far v < far w
+far-less {w = w} {v = v} W d O = rw (ne-eqb (w .entry) 0 d) (go (ℕ-discrete (v .entry) 0))
   where
     go : Dec (v .entry ≡ 0) → far v < suc (w .below + cond (w .led) 0 1)
     go (yes e) = rw (eq-eqb (v .entry) 0 e) (omega arith)
@@ -130,12 +134,12 @@ module _ (f list sum : List ℕ) (n : ℕ) (s : Shape) (c : Cube) (tags : List �
   choosing-begin O = record { within = within f list sum n s (c .states) number O; proper = refl; unmet = λ e A. walked-begin f list sum n s (c .states) number O }
 
   pub choosing-next : {a b : Place} {met now : Bool} {w v : Walk} → Choosing a met w → Tried f list s c tags a met (w .entry - 1) b now
-      → Onward f list sum n s (c .states) number (w .below) (w .link) (w .led) v → Choosing b now v
+      → Onward f list sum n s (c .states) number (min (w .below) n) (w .link) (w .led) v → Choosing b now v
   choosing-next C Y O =
       record {
         within = within f list sum n s (c .states) number O;
         proper = Y .kept (C .proper);
-        unmet = λ e A. walked-next f list sum n s (c .states) number (C .unmet (Y .before e) A) (Y .unmet e A) O;
+        unmet = λ e A. walked-next f list sum n s (c .states) number (C .unmet (Y .before e) A) (Y .unmet e A) (onward-within f list sum n s (c .states) number (C .within) O);
       }
 
   pub choosing-end : {a : Place} {met : Bool} {w : Walk} → Choosing a met w → w .entry ≡ 0 → met ≡ false → Unmet f list sum n s c tags number
@@ -185,7 +189,7 @@ module _ (f list sum : List ℕ) (n : ℕ) (s : Shape) (c : Cube) (a : Place) wh
 
   module _ {part : Cube} {tags : List ℕ} {number x : ℕ} {w : Walk} (W : Scanning part tags number x w) where
     pub scanning-next : {v : Walk} → (Against s part tags → matches (shapeOf s) fills (configurationOf (cubeAt f list (w .entry - 1))) (configurationOf part) ≡ false)
-        → Onward f list sum n s (part .states) number (w .below) (w .link) (w .led) v → Scanning part tags number x v
+        → Onward f list sum n s (part .states) number (min (w .below) n) (w .link) (w .led) v → Scanning part tags number x v
     scanning-next d O =
         record {
           parts = W .parts;
@@ -194,7 +198,7 @@ module _ (f list sum : List ℕ) (n : ℕ) (s : Shape) (c : Cube) (a : Place) wh
           tagged = W .tagged;
           numbered = W .numbered;
           within = within f list sum n s (part .states) number O;
-          none = λ A. walked-next f list sum n s (part .states) number (W .none A) (d A) O;
+          none = λ A. walked-next f list sum n s (part .states) number (W .none A) (d A) (onward-within f list sum n s (part .states) number (W .within) O);
         }
 
     part-sized : Sized s c → Sized s part

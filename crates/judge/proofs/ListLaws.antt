@@ -23,10 +23,10 @@ use Rattle.by_number.proofs.Tables.{table-length, table-number}
 use Rattle.by_number.proofs.Again.{target-again}
 use Rattle.targets.specs.Sizes.{Small, startsOf}
 use Rattle.targets.specs.Walk.{Searches}
-use Rattle.closing.specs.Walk.{Walkable}
+use Rattle.closing.specs.Walk.{LowestFailing, Walkable}
 use Rattle.closing.proofs.StepLaws.{walkable}
 use Rattle.judge.specs.Judge.{Verdict, refused, safe, ofList}
-use Rattle.judge.specs.Ready.{LowestFailing, Ready, heldTest, startTest, closedTest, listSaid}
+use Rattle.judge.specs.Ready.{Ready, heldTest, startTest, closedTest, listSaid}
 use Rattle.judge.proofs.LowestLaws.{lowest-some, lowest-none}
 
 -- the verdict by the three lowest numbers

@@ -10,7 +10,7 @@ use lib.ListN.{length, getD}
 use lib.Dec.{T}
 use Rattle.lists.specs.Lists.{lowest}
 use Rattle.lists.proofs.Lists.{Lowest, fails, passes, lowest-is}
-use Rattle.judge.specs.Ready.{LowestFailing}
+use Rattle.closing.specs.Walk.{LowestFailing}
 
 -- ---- the loop
 
@@ -27,10 +27,10 @@ so-far-next {test} {n} {i} s l e =
     record { most = omega arith; passed = λ j k. elim (ℕ-discrete j i) [ yes d ↦ ap test d ∙ e | no d ↦ s .passed j (omega arith) ] }
 
 pub so-far-fails : {test : ℕ → Bool} {n i : ℕ} → SoFar test n i → i < n → test i ≡ false → LowestFailing test n i
-so-far-fails s l e = record { most = s .most; lower = s .passed; fails = λ k. e }
+so-far-fails s l e = record { most = s .most; each = s .passed; fails = λ k. e }
 
 pub so-far-all : {test : ℕ → Bool} {n i : ℕ} → SoFar test n i → n ≤ i → LowestFailing test n n
-so-far-all s l = record { most = omega arith; lower = λ j k. s .passed j (omega arith); fails = λ k. absurd (omega arith) }
+so-far-all s l = record { most = omega arith; each = λ j k. s .passed j (omega arith); fails = λ k. absurd (omega arith) }
 
 -- ---- the list
 
@@ -46,7 +46,7 @@ module _ {ℓ} {A : Type ℓ} (g : A → Bool) (d : A) (xs : List A) (n r : ℕ)
     where
       go : {o : Option ℕ} → Lowest g d xs o → o ≡ some r
       go (fails k m t a) = elim (decLt k r) [
-        | yes y ↦ absurd (no-yes k t (w .lower k y))
+        | yes y ↦ absurd (no-yes k t (w .each k y))
         | no y ↦ elim (decLt r k) [ yes z ↦ absurd (yes-no r (a r z) (w .fails l)) | no z ↦ let q : k ≡ r = omega arith in ap some q ]
       ]
       go (passes a) = absurd (yes-no r (a r (omega (arith, e))) (w .fails l))
@@ -55,5 +55,5 @@ module _ {ℓ} {A : Type ℓ} (g : A → Bool) (d : A) (xs : List A) (n r : ℕ)
   lowest-none l = go (lowest-is g d xs)
     where
       go : {o : Option ℕ} → Lowest g d xs o → o ≡ none
-      go (fails k m t a) = absurd (no-yes k t (w .lower k (omega (arith, e))))
+      go (fails k m t a) = absurd (no-yes k t (w .each k (omega (arith, e))))
       go (passes a) = refl

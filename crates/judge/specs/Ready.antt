@@ -1,7 +1,7 @@
 -- What the code knows of a file that was read. No statement rests on these definitions.
 use Prim.Native.Nat.{ℕ, _+_, _*_, _-_, _<_, _≤_}
 use mathlib.Core.Path.{_≡_}
-use mathlib.Core.Bool.{Bool, true, false, not}
+use mathlib.Core.Bool.{Bool, not}
 use mathlib.Core.List.{List, _++_}
 use lib.ListN.{length, take, drop, replicate}
 use Rattle.pws.specs.Entries.{entry}
@@ -13,12 +13,6 @@ use Rattle.by_number.specs.Again.{cubeAt, entriesOf}
 use Rattle.by_number.specs.Contents.{ProgramPartRead, EntryRange, ProgramSizes, CubeRange}
 use Rattle.summary.specs.Summary.{Summed}
 use Rattle.judge.specs.Judge.{Verdict, ofList}
-
--- the lowest number below n at which the test fails, or n
-pub record LowestFailing (test : ℕ → Bool) (n r : ℕ) : Type 0 where
-  pub most : r ≤ n
-  pub lower : (j : ℕ) → j < r → test j ≡ true
-  pub fails : r < n → test r ≡ false
 
 -- a list of n entries, as it was read
 pub record Listed (f list : List ℕ) (n : ℕ) (p : Program) : Type 0 where

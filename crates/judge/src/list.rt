@@ -1,8 +1,9 @@
 // A list judged to its end: each target against the list, each entry against the starts, each entry's predecessors (document 01, numbers 9, 10
 // and 11).
 ghost use mathlib.Core.Path.{_≡_};
+ghost use Rattle.closing.specs.Walk.{LowestFailing};
 ghost use Rattle.judge.specs.Answers.{verdictIn};
-ghost use Rattle.judge.specs.Ready.{LowestFailing, Ready, heldTest, startTest, closedTest, listSaid};
+ghost use Rattle.judge.specs.Ready.{Ready, heldTest, startTest, closedTest, listSaid};
 use crate::answer::Answer;
 use by_number::entry_at;
 use by_number::target_of;

@@ -87,8 +87,5 @@ module _ (exact : Bool) (s : Shape) (a b : Cube) (z : Sizes s a b) where
           ∙ three-tests
 
       module _ {y : Bool} (f : y ≡ allBelow (min (s .processes) 4) (queueRow (s .variables) exact (a .queues) (b .queues))) where
-        pub queues-fail : x ≡ true → y ≡ false → false ≡ matches (shapeOf s) (relation exact) (configurationOf a) (configurationOf b)
-        queues-fail g h = ap₂ (λ (k l : Bool). (k && l) && channelMatches s exact a b) (sym g ∙ e) (sym h ∙ f) ∙ three-tests
-
         pub channel-left : {c : Bool} → x ≡ true → y ≡ true → c ≡ channelMatches s exact a b → c ≡ matches (shapeOf s) (relation exact) (configurationOf a) (configurationOf b)
         channel-left g h w = w ∙ ap₂ (λ (k l : Bool). (k && l) && channelMatches s exact a b) (sym g ∙ e) (sym h ∙ f) ∙ three-tests

@@ -3,14 +3,10 @@ ghost use mathlib.Core.Path.{_≡_};
 ghost use Prim.Native.Nat.{ℕ, _+_, _*_};
 ghost use mathlib.Core.Bool.{_&&_};
 ghost use lib.Dec.{eqb};
-ghost use Rattle.whole_file.specs.Cube.{configurationOf};
-ghost use Rattle.program_part.specs.ProgramPart.{shapeOf};
-ghost use Rattle.lists.specs.Matching.{messageMatches, matches};
+ghost use Rattle.lists.specs.Matching.{messageMatches};
 ghost use Rattle.matching.specs.Relation.{relation};
 ghost use Rattle.matching.specs.Tags.{labelNumber};
 ghost use Rattle.matching.specs.Match.{Suits, channelMatches};
-use crate::queues::queues_match;
-use crate::queues::states_match;
 use crate::tags::lowest;
 use crate::values::least;
 use crate::values::values_related;
@@ -66,28 +62,4 @@ pub fn channel_matches(
             j -= 1;
         }
     }
-}
-
-// An entry against a cube, each with the tags of its messages: exactly, the entry covers the cube; else it may meet it.
-pub fn entry_matches(
-    exact: bool,
-    shape: Shape,
-    a: Cube,
-    left: [u64; 20],
-    b: Cube,
-    right: [u64; 20],
-) -> bool
-    ensures { λ r. ⌜ (Suits shape a left b right → r ≡ matches (shapeOf shape) (relation exact) (configurationOf a) (configurationOf b)) ⌝ }
-{
-    let from = a.states;
-    let to = b.states;
-    if !states_match(shape.processes, from, to) {
-        return false;
-    }
-    let before = a.queues;
-    let after = b.queues;
-    if !queues_match(exact, shape, before, after) {
-        return false;
-    }
-    channel_matches(exact, shape, a, left, b, right)
 }

@@ -8,10 +8,8 @@ mod tags;
 mod values;
 
 pub use channel::channel_matches;
-pub use channel::entry_matches;
 pub use number::number_of;
 pub use number::states_number;
-pub use queues::queue_matches;
 pub use queues::queues_match;
 pub use queues::states_match;
 pub use tags::lowest;

@@ -13,13 +13,15 @@ use Rattle.pws.specs.Machine.{put}
 use Rattle.program_part.specs.declared.program.Shape.{Shape}
 use Rattle.program_part.specs.Bytes.{choose, byte, le32}
 use Rattle.by_number.specs.Again.{cubeAt}
+use Rattle.matching.specs.Tags.{sumBelow}
 use Rattle.matching.specs.Number.{numberOf, statesMixed}
+use Rattle.matching.proofs.SumLaws.{sum-zero}
 use Rattle.summary.specs.Slots.{word, linked, linkTo, headLink, nextLink, countAt, hung, putCount, homeOf, markIn, Met}
 use Rattle.summary.specs.Groups.{sameStates, statesAt, leads, inGroup, leaderOf, added, addedFrom, summaryOf}
-use Rattle.summary.specs.Summary.{sumBelow, Grouped, Summed}
+use Rattle.summary.specs.Summary.{Grouped, Summed}
 use Rattle.summary.proofs.WordLaws.{put-is, put-is-not, put-ext, hung-length, hung-head, hung-next, hung-count, counted-length, counted-head, counted-next, counted-count}
 use Rattle.summary.proofs.ChainLaws.{home-below, met-new, met-old, heads-new}
-use Rattle.summary.proofs.GroupLaws.{true-false, same-sym, same-false, same-trans, leads-none, none-leads, one-leads, in-none, in-more, in-same, in-most, same-refl, sum-one, sum-none}
+use Rattle.summary.proofs.GroupLaws.{true-false, same-sym, same-false, same-trans, leads-none, none-leads, one-leads, in-none, in-more, in-same, in-most, same-refl, sum-one}
 use Rattle.summary.proofs.LeaderLaws.{leader-is, leader-leads, no-leader, leads-counted}
 
 and-no : (b : Bool) → b && false ≡ false
@@ -233,7 +235,7 @@ module _ (f list sum : List ℕ) (s : Shape) (n : ℕ) (few : n ≤ 524288) (roo
         most = omega arith;
         room = room;
         numbers = λ k l. count-blank k l ∙ rw (le-ltb k 0 (omega arith));
-        total = sum-none n (countAt sum) count-blank;
+        total = sum-zero n (countAt sum) count-blank;
         first = λ k l e. absurd (omega arith);
         others = λ k l e. absurd (omega arith);
         heads = λ h l. rw (head-blank h l) (omega arith);

@@ -11,9 +11,10 @@ use lib.Dec.{T, eqb, ltb}
 use borrow.Author.Tests.{eq-eqb, eqb-true, lt-ltb, le-ltb, not-true}
 use Rattle.pws.specs.Machine.{allBelow, put}
 use Rattle.program_part.specs.declared.program.Shape.{Shape}
+use Rattle.matching.specs.Tags.{sumBelow}
 use Rattle.matching.proofs.Below.{all-true, all-false}
+use Rattle.matching.proofs.SumLaws.{sum-equal}
 use Rattle.summary.specs.Groups.{sameStates, statesAt, leads, inGroup}
-use Rattle.summary.specs.Summary.{sumBelow}
 use Rattle.summary.proofs.WordLaws.{put-is, put-is-not}
 
 pub true-false : true ≡ false → ⊥
@@ -133,21 +134,13 @@ module _ (f list : List ℕ) (s : Shape) where
 
 -- ---- sums
 
-pub sum-kept : (n : ℕ) (g h : ℕ → ℕ) → ((j : ℕ) → j < n → g j ≡ h j) → sumBelow n g ≡ sumBelow n h
-sum-kept zero g h e = refl
-sum-kept (suc n) g h e = let r = sum-kept n g h (λ j l. e j (omega arith)) in omega (arith, r, e n (omega arith))
-
 -- one of them goes up by one
 pub sum-one : (n : ℕ) (g h : ℕ → ℕ) (k : ℕ) → k < n → h k ≡ g k + 1 → ((j : ℕ) → j < n → j ≢ k → h j ≡ g j) → sumBelow n h ≡ sumBelow n g + 1
 sum-one zero g h k l e d = absurd (omega arith)
 sum-one (suc n) g h k l e d = elim (ℕ-discrete k n) [
   | yes q ↦
-      let r = sum-kept n h g (λ j m. d j (omega arith) (λ x. omega arith)) in
+      let r = sum-equal n h g (λ j m. d j (omega arith) (λ x. omega arith)) in
       let u : h n ≡ g n + 1 = subst (λ (i : ℕ). h i ≡ g i + 1) q e in
       omega arith
   | no q ↦ let r = sum-one n g h k (omega arith) e (λ j m x. d j (omega arith) x) in let u = d n (omega arith) (λ x. q (sym x)) in omega arith
 ]
-
-pub sum-none : (n : ℕ) (g : ℕ → ℕ) → ((j : ℕ) → j < n → g j ≡ 0) → sumBelow n g ≡ 0
-sum-none zero g e = refl
-sum-none (suc n) g e = let r = sum-none n g (λ j l. e j (omega arith)) in omega (arith, e n (omega arith))

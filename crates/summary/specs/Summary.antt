@@ -1,6 +1,6 @@
 -- What holds of a summary (request N2): groups by local states with the number in each, a total to which they add up, and every entry where it is
 -- looked for.
-use Prim.Native.Nat.{ℕ, zero, suc, _+_, _*_, _<_, _≤_}
+use Prim.Native.Nat.{ℕ, _*_, _<_, _≤_}
 use mathlib.Core.Path.{_≡_}
 use mathlib.Core.Bool.{Bool, true, false, cond, _&&_}
 use mathlib.Core.List.{List}
@@ -8,13 +8,10 @@ use lib.ListN.{length}
 use lib.Dec.{ltb}
 use Rattle.program_part.specs.declared.program.Shape.{Shape}
 use Rattle.by_number.specs.Again.{cubeAt}
+use Rattle.matching.specs.Tags.{sumBelow}
 use Rattle.matching.specs.Number.{numberOf, statesMixed}
 use Rattle.summary.specs.Slots.{linked, headLink, countAt, homeOf, markIn, Met}
 use Rattle.summary.specs.Groups.{statesAt, leads, inGroup}
-
-abbrev pub sumBelow : ℕ → (ℕ → ℕ) → ℕ
-sumBelow zero g = 0
-sumBelow (suc n) g = sumBelow n g + g n
 
 -- after m of n additions
 pub record Grouped (f list sum : List ℕ) (n : ℕ) (s : Shape) (m : ℕ) : Type 0 where

@@ -1,7 +1,7 @@
 // The walk over the entries that may match a cube.
 ghost use mathlib.Core.Path.{_≡_};
 ghost use mathlib.Core.Bool.{false};
-ghost use Prim.Native.Nat.{_≤_};
+ghost use Prim.Native.Nat.{min};
 ghost use Rattle.summary.specs.Slots.{headLink, homeOf};
 ghost use Rattle.summary.specs.Walks.{Onward, Led};
 use crate::adding::leader_of;
@@ -10,6 +10,7 @@ use crate::slots::linked;
 use crate::slots::mark_of;
 use crate::slots::marked;
 use crate::slots::next_link;
+use matching::least;
 use program_part::program::Shape;
 
 // An entry, counted from 1, or 0 where the walk ends; and where it goes on: below which entry and with which link, and whether the first entry
@@ -49,7 +50,7 @@ fn to_leader(
     }
 }
 
-// The next entry that may match a cube with these states and this number.
+// The next entry that may match a cube with these states and this number. Whatever is passed, it is one of the n entries, and what is left is less.
 pub fn onward(
     file: &[u8],
     list: &[u8],
@@ -62,11 +63,10 @@ pub fn onward(
     link: usize,
     led: bool,
 ) -> Walk
-    requires { ⌜ below ≤ n ⌝ }
-    ensures { λ r. ⌜ Onward (now (file .entry)) (now (list .entry)) (now (sum .entry)) n shape states number below link led r ⌝ }
+    ensures { λ r. ⌜ Onward (now (file .entry)) (now (list .entry)) (now (sum .entry)) n shape states number (min below n) link led r ⌝ }
 {
     let mark = mark_of(number);
-    let mut under = below;
+    let mut under = least(below, n);
     let mut at = link;
     loop {
         let next = linked(at);

@@ -544,7 +544,7 @@ parts-held-onward-requires : (t : ℕ) → parts-held-lts.Need-onward-requires (
     parts-held-μ-loop
     parts-held-Inv-fillings
     parts-held-μ-fillings
-parts-held-onward-requires t c κs = c .before .before .before .before .before .loop .inv .0 .within .bounded
+parts-held-onward-requires t c κs = search needs
 
 -- src/search.rt:56:9
 parts-held-loop-less : (t : ℕ) → parts-held-lts.Need-loop-less (
@@ -577,7 +577,7 @@ parts-held-loop-less : (t : ℕ) → parts-held-lts.Need-loop-less (
     parts-held-μ-loop
     parts-held-Inv-fillings
     parts-held-μ-fillings
-parts-held-loop-less t c = far-less (c .before .before .before .before .if1 .taken) (c .onward .ensures)
+parts-held-loop-less t c = far-less (c .before .before .before .before .before .before .loop .inv .0 .within) (c .before .before .before .before .if1 .taken) (c .onward .ensures)
 
 -- src/search.rt:56:9
 parts-held-loop-again : (t : ℕ) → parts-held-lts.Need-loop-again (

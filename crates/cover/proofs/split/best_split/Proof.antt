@@ -33,11 +33,11 @@ with-entry-requires c κs = search needs
 
 -- src/split.rt:112:13
 onward-requires : tie.Need-onward-requires Inv-loop μ-loop
-onward-requires c κs = c .before .before .before .before .loop .inv .within .bounded
+onward-requires c κs = search needs
 
 -- src/split.rt:108:5
 loop-less : tie.Need-loop-less Inv-loop μ-loop
-loop-less c = far-less (c .before .before .before .if1 .taken) (c .onward .ensures)
+loop-less c = far-less (c .before .before .before .before .before .loop .inv .within) (c .before .before .before .if1 .taken) (c .onward .ensures)
 
 -- src/split.rt:108:5
 loop-again : tie.Need-loop-again Inv-loop μ-loop

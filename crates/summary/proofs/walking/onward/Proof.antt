@@ -1,5 +1,5 @@
 use mathlib.Core.Logic.{inl, inr, ⊎-elim}
-use Prim.Native.Nat.{_≤_}
+use Prim.Native.Nat.{_≤_, min}
 use mathlib.Core.Path.{sym, _∙_}
 use native.Mathlib.Omega.{arith}
 use Rattle.summary.proofs.OnwardLaws.{Passing, passing-begin, passing-over, passing-found, passing-on}
@@ -16,7 +16,7 @@ use Rattle.summary.proofs.slots.next_link.Reads as next-link-reads
 use Rattle.summary.proofs.walking.to_leader.Reads as to-leader-reads
 
 abbrev Inv-loop : tie.InvT-loop
-Inv-loop file list sum n shape states number below link led mark under₀ at₀ under at = Passing file list sum n shape states number below link led under at
+Inv-loop file list sum n shape states number below link led mark under₀ at₀ under at = Passing file list sum n shape states number (min below n) link led under at
 
 abbrev μ-loop : tie.MeasureT-loop
 μ-loop file list sum n shape states number below link led mark under₀ at₀ under at = under
@@ -25,9 +25,13 @@ abbrev μ-loop : tie.MeasureT-loop
 mark-of-requires : tie.Need-mark-of-requires Inv-loop μ-loop
 mark-of-requires c κs = search needs
 
+-- least
+least-requires : tie.Need-least-requires Inv-loop μ-loop
+least-requires c κs = search needs
+
 -- src/walking.rt:71:5
 loop-holds : tie.Need-loop-holds Inv-loop μ-loop
-loop-holds c = passing-begin (c .before .before .before .before .args .file .now) (c .before .before .before .before .args .list .now) (c .before .before .before .before .args .sum .now) (c .before .before .before .before .args .n) (c .before .before .before .before .args .shape) (c .before .before .before .before .args .states) (c .before .before .before .before .args .number) (c .before .before .before .before .args .below) (c .before .before .before .before .args .link) (c .before .before .before .before .args .led) (c .before .before .before .before .pre)
+loop-holds c = rw (c .least .ensures) (passing-begin (c .before .before .before .before .before .args .file .now) (c .before .before .before .before .before .args .list .now) (c .before .before .before .before .before .args .sum .now) (c .before .before .before .before .before .args .n) (c .before .before .before .before .before .args .shape) (c .before .before .before .before .before .args .states) (c .before .before .before .before .before .args .number) (min (c .before .before .before .before .before .args .below) (c .before .before .before .before .before .args .n)) (c .before .before .before .before .before .args .link) (c .before .before .before .before .before .args .led) (omega arith))
 
 -- src/walking.rt:72:13
 linked-requires : tie.Need-linked-requires Inv-loop μ-loop
@@ -47,7 +51,7 @@ marked-requires c κs = search needs
 
 -- src/walking.rt:82:13
 returns : tie.Need-returns Inv-loop μ-loop
-returns c = passing-found (c .before .before .before .before .before .before .before .before .before .before .before .args .file .now) (c .before .before .before .before .before .before .before .before .before .before .before .args .list .now) (c .before .before .before .before .before .before .before .before .before .before .before .args .sum .now) (c .before .before .before .before .before .before .before .before .before .before .before .args .n) (c .before .before .before .before .before .before .before .before .before .before .before .args .shape) (c .before .before .before .before .before .before .before .before .before .before .before .args .states) (c .before .before .before .before .before .before .before .before .before .before .before .args .number) (c .before .before .before .before .before .before .before .before .before .before .before .args .below) (c .before .before .before .before .before .before .before .before .before .before .before .args .link) (c .before .before .before .before .before .before .before .before .before .before .before .args .led) (c .before .before .before .before .before .before .loop .inv) (c .before .before .before .before .before .linked .ensures) (c .before .before .before .before .if1 .left) (c .before .before .before .if2 .left) (c .before .before .next-link .ensures) (sym (c .before .marked .ensures) ∙ c .if3 .taken ∙ c .before .before .before .before .before .before .before .mark-of .ensures .0)
+returns c = passing-found (c .before .before .before .before .before .before .before .before .before .before .before .before .args .file .now) (c .before .before .before .before .before .before .before .before .before .before .before .before .args .list .now) (c .before .before .before .before .before .before .before .before .before .before .before .before .args .sum .now) (c .before .before .before .before .before .before .before .before .before .before .before .before .args .n) (c .before .before .before .before .before .before .before .before .before .before .before .before .args .shape) (c .before .before .before .before .before .before .before .before .before .before .before .before .args .states) (c .before .before .before .before .before .before .before .before .before .before .before .before .args .number) (min (c .before .before .before .before .before .before .before .before .before .before .before .before .args .below) (c .before .before .before .before .before .before .before .before .before .before .before .before .args .n)) (c .before .before .before .before .before .before .before .before .before .before .before .before .args .link) (c .before .before .before .before .before .before .before .before .before .before .before .before .args .led) (c .before .before .before .before .before .before .loop .inv) (c .before .before .before .before .before .linked .ensures) (c .before .before .before .before .if1 .left) (c .before .before .before .if2 .left) (c .before .before .next-link .ensures) (sym (c .before .marked .ensures) ∙ c .if3 .taken ∙ c .before .before .before .before .before .before .before .before .mark-of .ensures .0)
 
 -- src/walking.rt:71:5
 loop-less : tie.Need-loop-less Inv-loop μ-loop
@@ -55,7 +59,7 @@ loop-less c = omega (arith, c .before .before .before .before .if1 .left, c .bef
 
 -- src/walking.rt:71:5
 loop-again : tie.Need-loop-again Inv-loop μ-loop
-loop-again c = passing-on (c .before .before .before .before .before .before .before .before .before .before .before .args .file .now) (c .before .before .before .before .before .before .before .before .before .before .before .args .list .now) (c .before .before .before .before .before .before .before .before .before .before .before .args .sum .now) (c .before .before .before .before .before .before .before .before .before .before .before .args .n) (c .before .before .before .before .before .before .before .before .before .before .before .args .shape) (c .before .before .before .before .before .before .before .before .before .before .before .args .states) (c .before .before .before .before .before .before .before .before .before .before .before .args .number) (c .before .before .before .before .before .before .before .before .before .before .before .args .below) (c .before .before .before .before .before .before .before .before .before .before .before .args .link) (c .before .before .before .before .before .before .before .before .before .before .before .args .led) (c .before .before .before .before .before .before .loop .inv) (c .before .before .before .before .before .linked .ensures) (c .before .before .before .before .if1 .left) (c .before .before .before .if2 .left) (c .before .before .next-link .ensures) (λ q. c .if3 .left (c .before .marked .ensures ∙ q ∙ sym (c .before .before .before .before .before .before .before .mark-of .ensures .0)))
+loop-again c = passing-on (c .before .before .before .before .before .before .before .before .before .before .before .before .args .file .now) (c .before .before .before .before .before .before .before .before .before .before .before .before .args .list .now) (c .before .before .before .before .before .before .before .before .before .before .before .before .args .sum .now) (c .before .before .before .before .before .before .before .before .before .before .before .before .args .n) (c .before .before .before .before .before .before .before .before .before .before .before .before .args .shape) (c .before .before .before .before .before .before .before .before .before .before .before .before .args .states) (c .before .before .before .before .before .before .before .before .before .before .before .before .args .number) (min (c .before .before .before .before .before .before .before .before .before .before .before .before .args .below) (c .before .before .before .before .before .before .before .before .before .before .before .before .args .n)) (c .before .before .before .before .before .before .before .before .before .before .before .before .args .link) (c .before .before .before .before .before .before .before .before .before .before .before .before .args .led) (c .before .before .before .before .before .before .loop .inv) (c .before .before .before .before .before .linked .ensures) (c .before .before .before .before .if1 .left) (c .before .before .before .if2 .left) (c .before .before .next-link .ensures) (λ q. c .if3 .left (c .before .marked .ensures ∙ q ∙ sym (c .before .before .before .before .before .before .before .before .mark-of .ensures .0)))
 
 -- src/walking.rt:92:5
 to-leader-requires : tie.Need-to-leader-requires Inv-loop μ-loop
@@ -63,7 +67,7 @@ to-leader-requires c κs = search needs
 
 -- src/walking.rt:53:1
 returns-2 : tie.Need-returns-2 Inv-loop μ-loop
-returns-2 c = passing-over (c .before .before .before .before .before .before .before .before .args .file .now) (c .before .before .before .before .before .before .before .before .args .list .now) (c .before .before .before .before .before .before .before .before .args .sum .now) (c .before .before .before .before .before .before .before .before .args .n) (c .before .before .before .before .before .before .before .before .args .shape) (c .before .before .before .before .before .before .before .before .args .states) (c .before .before .before .before .before .before .before .before .args .number) (c .before .before .before .before .before .before .before .before .args .below) (c .before .before .before .before .before .before .before .before .args .link) (c .before .before .before .before .before .before .before .before .args .led) (c .before .before .before .loop .inv) (c .before .before .linked .ensures) (⊎-elim (λ w. inl (w .taken)) (λ w. inr (w .1 .taken)) (c .before .if1 .came)) (c .to-leader .ensures)
+returns-2 c = passing-over (c .before .before .before .before .before .before .before .before .before .args .file .now) (c .before .before .before .before .before .before .before .before .before .args .list .now) (c .before .before .before .before .before .before .before .before .before .args .sum .now) (c .before .before .before .before .before .before .before .before .before .args .n) (c .before .before .before .before .before .before .before .before .before .args .shape) (c .before .before .before .before .before .before .before .before .before .args .states) (c .before .before .before .before .before .before .before .before .before .args .number) (min (c .before .before .before .before .before .before .before .before .before .args .below) (c .before .before .before .before .before .before .before .before .before .args .n)) (c .before .before .before .before .before .before .before .before .before .args .link) (c .before .before .before .before .before .before .before .before .before .args .led) (c .before .before .before .loop .inv) (c .before .before .linked .ensures) (⊎-elim (λ w. inl (w .taken)) (λ w. inr (w .1 .taken)) (c .before .if1 .came)) (c .to-leader .ensures)
 
 pub onward-spec : {M : Type 1} → statement M
 onward-spec =
@@ -72,6 +76,7 @@ onward-spec =
     Inv-loop
     μ-loop
     mark-of-requires
+    least-requires
     loop-holds
     linked-requires
     sub-j
