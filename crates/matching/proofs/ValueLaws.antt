@@ -2,7 +2,7 @@
 use Prim.Native.Nat.{ℕ, zero, suc, _+_, _-_, _<_, _≤_}
 use mathlib.Core.Path.{_≡_, refl, sym, ap, ap₂, _∙_}
 use mathlib.Core.Logic.{_≢_}
-use mathlib.Core.Bool.{Bool, true, false, cond, _&&_}
+use mathlib.Core.Bool.{Bool, true, false, cond, _&&_, _||_}
 use mathlib.Core.Option.{some}
 use mathlib.Core.List.{List, [], _∷_}
 use native.Mathlib.Omega.{arith}
@@ -10,12 +10,15 @@ use native.Mathlib.Numerals.{unary-clauses}
 use lib.ListN.{length, getD, take, drop, length-take, drop-of-length-le}
 use lib.Seq.{drop-cons, getD-take}
 use lib.Dec.{eqb, ltb}
-use borrow.Author.Tests.{ltb-true, ltb-false, eq-eqb, ne-eqb}
+use borrow.Author.Tests.{ltb-true, ltb-false, eqb-true, eq-eqb, ne-eqb}
 use Rattle.pws.specs.Machine.{newestWaiting}
+use Rattle.pws.specs.Entries.{FF}
 use Rattle.whole_file.specs.declared.entry.Queue.{Queue}
 use Rattle.whole_file.specs.Cube.{waitingOf}
 use Rattle.lists.specs.Values.{pairwise}
 use Rattle.lists.specs.Matching.{subsequence, queueMatches}
+use Rattle.program_part.proofs.ProgramLaws.{and-true}
+use Rattle.matching.specs.Relation.{relation}
 
 -- ---- four values
 
@@ -39,6 +42,28 @@ pairwise-four r (a ∷ b ∷ c ∷ d ∷ []) (e ∷ []) m n = absurd (omega arit
 pairwise-four r (a ∷ b ∷ c ∷ d ∷ []) (e ∷ f ∷ []) m n = absurd (omega arith)
 pairwise-four r (a ∷ b ∷ c ∷ d ∷ []) (e ∷ f ∷ g ∷ []) m n = absurd (omega arith)
 pairwise-four r (a ∷ b ∷ c ∷ d ∷ []) (e ∷ f ∷ g ∷ h ∷ y ∷ ys) m n = absurd (omega arith)
+
+or-true : (b : Bool) → b || true ≡ true
+or-true true = refl
+or-true false = refl
+
+-- a value is related to itself
+pub self-related : (e : Bool) (a : ℕ) → relation e a a ≡ true
+self-related true a = ap (_||_ (eqb a FF)) (eq-eqb a a refl) ∙ or-true (eqb a FF)
+self-related false a = ap (λ (b : Bool). eqb a FF || (eqb a FF || b)) (eq-eqb a a refl) ∙ ap (_||_ (eqb a FF)) (or-true (eqb a FF)) ∙ or-true (eqb a FF)
+
+-- so four values are to four that are the same
+pub same-four : (e : Bool) (xs ys : List ℕ) {x y z : Bool} → length xs ≡ 4 → length ys ≡ 4
+    → x ≡ eqb (getD xs 0 0) (getD ys 0 0) && eqb (getD xs 1 0) (getD ys 1 0) → y ≡ eqb (getD xs 2 0) (getD ys 2 0) && eqb (getD xs 3 0) (getD ys 3 0)
+    → z ≡ x && y → z ≡ true → true ≡ pairwise (relation e) xs ys
+same-four e xs ys {x} {y} m n f g h k =
+    let u = and-true x y (sym h ∙ k) in
+    let v = and-true (eqb (getD xs 0 0) (getD ys 0 0)) (eqb (getD xs 1 0) (getD ys 1 0)) (sym f ∙ u .0) in
+    let w = and-true (eqb (getD xs 2 0) (getD ys 2 0)) (eqb (getD xs 3 0) (getD ys 3 0)) (sym g ∙ u .1) in
+    sym (ap₂ _&&_ (ap₂ _&&_ (at 0 (v .0)) (at 1 (v .1))) (ap₂ _&&_ (at 2 (w .0)) (at 3 (w .1)))) ∙ pairwise-four (relation e) xs ys m n
+  where
+    at : (i : ℕ) → eqb (getD xs i 0) (getD ys i 0) ≡ true → relation e (getD xs i 0) (getD ys i 0) ≡ true
+    at i t = ap (relation e (getD xs i 0)) (sym (eqb-true (getD xs i 0) (getD ys i 0) t)) ∙ self-related e (getD xs i 0)
 
 -- ---- leftmost matching from places on
 
