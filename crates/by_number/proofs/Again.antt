@@ -18,7 +18,7 @@ use Rattle.program_part.specs.Bytes.{byte}
 use Rattle.program_part.specs.Records.{isKind, transitionAt, stateAt, stepBody}
 use Rattle.program_part.specs.ProgramPart.{programFrom, programOf, targetsOf}
 use Rattle.whole_file.specs.EvidencePart.{stepsOf, entriesAllowed, wroteFrom}
-use Rattle.whole_file.specs.Reading.{partsOf, refused, list, run, readFile, readingRefused, readingWith, readingOf, areaRead}
+use Rattle.whole_file.specs.Reading.{partsOf, refused, list, run, readFile, noMemory, readingRefused, readingWith, readingOf, areaRead}
 use Rattle.program_part.proofs.RecordLaws.{fine-refused, refused-same}
 use Rattle.by_number.specs.Again.{offsetAt, cubeAt, entriesOf, transitionOf, targetOf, placeOf}
 use Rattle.by_number.specs.Contents.{ProgramSizes, CubeRange}
@@ -87,11 +87,11 @@ module _ (f w : List ℕ) where
 
       -- claim 1
       pub reading-run : (R .contents .claim ≡ 0 → ⊥)
-          → readFile f area ≡ run (programOf f (R .contents .program)) (targetsOf f (R .contents .program)) (stepsOf f (R .contents .evidence .at) (R .contents .evidence .count))
+          → readFile f area ≡ run (programOf f (R .contents .program)) (targetsOf f (R .contents .program)) (R .contents .memory) (stepsOf f (R .contents .evidence .at) (R .contents .evidence .count))
       reading-run c = go (outcome f area)
         where
           go : Outcome f area
-              → readFile f area ≡ run (programOf f (R .contents .program)) (targetsOf f (R .contents .program)) (stepsOf f (R .contents .evidence .at) (R .contents .evidence .count))
+              → readFile f area ≡ run (programOf f (R .contents .program)) (targetsOf f (R .contents .program)) (R .contents .memory) (stepsOf f (R .contents .evidence .at) (R .contents .evidence .count))
           go (outcome-refused y a b) = absurd (never y a)
           go (outcome-list L) = absurd (c (ap (λ (z : Reading). z .contents .claim) (r ∙ reading-with f area L)))
           go (outcome-run L) = rw (r ∙ reading-steps f area L) (file-run f area L)
@@ -120,7 +120,7 @@ module _ (f w : List ℕ) where
         left : drop 16384 work ≡ wroteFrom 0 (listed f area .offsets) (drop 16384 w)
         left = ap (drop 16384) e ∙ list-part as-list
 
-        handed : R ≡ readingWith (programFrom f 0 .program) 0 (length (listed f area .offsets))
+        handed : R ≡ readingWith (programFrom f 0 .program) 0 noMemory (programFrom f 0 .program .claim + 2) (length (listed f area .offsets))
         handed = r ∙ reading-with f area as-list
 
         pub reading-list : readFile f area ≡ list (programOf f (R .contents .program)) (targetsOf f (R .contents .program)) (entriesOf f (drop 16384 work) (R .contents .evidence .count))

@@ -20,17 +20,17 @@ use Rattle.program_part.specs.declared.program.Counted.{Counted}
 use Rattle.program_part.specs.declared.program.Counted.the-variants.{Records, Stopped}
 use Rattle.program_part.specs.declared.program.Program.{Program}
 use Rattle.program_part.specs.Bytes.{byte, le32}
-use Rattle.program_part.specs.Records.{checked, isKind, claimNumber, exists, stepBody, stepNames, stepNumber, stepAt, transitionAt}
+use Rattle.program_part.specs.Records.{checked, isKind, claimNumber, startNumber, memoryAt, exists, stepBody, stepNames, stepNumber, stepAt, transitionAt}
 use Rattle.program_part.specs.ProgramPart.{unlessEnd, programFrom, programOf, targetsOf}
 use Rattle.whole_file.specs.EvidencePart.{stepsFrom, stepsOf, EntriesRead, entriesFrom, entriesAllowed, wroteFrom}
 use Rattle.whole_file.specs.Cube.{configurationOf, loadEntry}
-use Rattle.whole_file.specs.Reading.{entries, steps, noParts, twoParts, partsOf, refused, list, run, partsRead, readFile, readingRefused, readingWith, readingOf}
-use Rattle.program_part.proofs.RecordLaws.{cut-fits, row-most, step-fine, entry-fine}
-use Rattle.whole_file.proofs.ReadingLaws.{evidence-refused, evidence-entries, evidence-steps, parts-short, parts-refused, parts-both}
+use Rattle.whole_file.specs.Reading.{entries, steps, runEvidence, noMemory, noParts, twoParts, partsOf, refused, list, run, partsRead, readFile, readingRefused, readingWith, readingOf}
+use Rattle.program_part.proofs.RecordLaws.{cut-fits, unless-fine, row-most, step-fine, entry-fine}
+use Rattle.whole_file.proofs.ReadingLaws.{evidence-refused, evidence-entries, evidence-run, start-refused, run-steps, parts-short, parts-refused, parts-both}
 use Rattle.by_number.specs.Again.{placeOf, entriesOf}
 use Rattle.by_number.specs.Contents.{ListRead, StepOf, RunRead, CubeRange}
 use Rattle.by_number.proofs.Tables.{table-length, table-of}
-use Rattle.by_number.proofs.Names.{both-exist}
+use Rattle.by_number.proofs.Names.{both-exist, start-named, memory-named}
 use Rattle.by_number.proofs.Rows.{row-each, steps-length, steps-at}
 use Rattle.by_number.proofs.ProgramPart.{ShapeRange, part-read, part-shape, claim-near}
 use Rattle.by_number.proofs.Entry.{entry-range, entry-loaded, cube-range}
@@ -54,8 +54,9 @@ module _ (f : List ℕ) (area : ℕ) where
   pub record RunParts : Type 0 where
     pub count : ℕ
     pub fine : programFrom f 0 .answer ≡ Fine
-    pub reads : stepsFrom (p .shape) (p .transitions .count) f (p .claim + 2) ≡ Records count
-    pub parts : partsOf f area ≡ twoParts p (steps (Records count))
+    pub start : unlessEnd f (p .claim + 2) (checked (startNumber (p .shape) f (p .claim + 2)) (p .claim + 2)) ≡ Fine
+    pub reads : stepsFrom (p .shape) (p .transitions .count) f (p .claim + 2 + 5) ≡ Records count
+    pub parts : partsOf f area ≡ twoParts p (steps (memoryAt f (p .claim + 2)) (Records count))
 
   pub data Outcome : Type 0 where
     outcome-refused : (r : Refusal) → readingOf (partsOf f area) ≡ readingRefused r → readFile f area ≡ refused r → Outcome
@@ -71,10 +72,21 @@ module _ (f : List ℕ) (area : ℕ) where
   by-list l q e Fine d = outcome-list (record { enough = l; fine = q; answer = d; parts = e })
   by-list l q e (Refused r) d = outcome-refused r (rw (e, d)) (rw (e, d))
 
-  by-run : programFrom f 0 .answer ≡ Fine → (x : Counted) → stepsFrom (p .shape) (p .transitions .count) f (p .claim + 2) ≡ x → partsOf f area ≡ twoParts p (steps x) → Outcome
+  abbrev Starts : Checked → Type 0
+  Starts x = unlessEnd f (p .claim + 2) (checked (startNumber (p .shape) f (p .claim + 2)) (p .claim + 2)) ≡ x
+
+  by-steps : programFrom f 0 .answer ≡ Fine → Starts Fine → (x : Counted) → stepsFrom (p .shape) (p .transitions .count) f (p .claim + 2 + 5) ≡ x
+      → partsOf f area ≡ twoParts p (steps (memoryAt f (p .claim + 2)) x) → Outcome
   unfolding readFile
-  by-run q (Records n) d e = outcome-run (record { count = n; fine = q; reads = d; parts = e })
-  by-run q (Stopped r) d e = outcome-refused r (ap readingOf e) (ap (partsRead f) e)
+  by-steps q s (Records n) d e = outcome-run (record { count = n; fine = q; start = s; reads = d; parts = e })
+  by-steps q s (Stopped r) d e = outcome-refused r (ap readingOf e) (ap (partsRead f) e)
+
+  by-run : programFrom f 0 .answer ≡ Fine → (x : Checked) → Starts x → partsOf f area ≡ twoParts p (runEvidence f (p .claim + 2) p) → Outcome
+  unfolding readFile
+  by-run q Fine s e = by-steps q s _ refl (e ∙ ap (twoParts p) (run-steps f (p .claim + 2) p s))
+  by-run q (Refused r) s e =
+      let d = e ∙ ap (twoParts p) (start-refused f (p .claim + 2) p r s) in
+      outcome-refused r (ap readingOf d) (ap (partsRead f) d)
 
   by-claim : 65536 ≤ area → programFrom f 0 .answer ≡ Fine → (x : Checked) → unlessEnd f (p .claim) (checked (claimNumber f (p .claim)) (p .claim)) ≡ x → Outcome
   unfolding readFile
@@ -83,7 +95,7 @@ module _ (f : List ℕ) (area : ℕ) where
       outcome-refused r (ap readingOf e) (ap (partsRead f) e)
   by-claim l q Fine d = elim (ℕ-discrete (byte f (p .claim + 1)) 0) [
     | yes z ↦ by-list l q (parts-both f area l q ∙ ap (twoParts p) (evidence-entries f (p .claim) p area d z)) _ refl
-    | no z ↦ by-run q _ refl (parts-both f area l q ∙ ap (twoParts p) (evidence-steps f (p .claim) p area d z))
+    | no z ↦ by-run q _ refl (parts-both f area l q ∙ ap (twoParts p) (evidence-run f (p .claim) p area d z))
   ]
 
   by-program : 65536 ≤ area → (x : Checked) → programFrom f 0 .answer ≡ x → Outcome
@@ -103,7 +115,7 @@ module _ (f : List ℕ) (area : ℕ) where
     unfolding readFile
     file-list = rw (L .parts, L .answer)
 
-    pub reading-with : readingOf (partsOf f area) ≡ readingWith p 0 (length (listed .offsets))
+    pub reading-with : readingOf (partsOf f area) ≡ readingWith p 0 noMemory (p .claim + 2) (length (listed .offsets))
     reading-with = rw (L .parts, L .answer)
 
     more : More (p .shape) (p .states) f (entriesAllowed area) (p .claim + 2) [] [] listed
@@ -193,11 +205,11 @@ module _ (f : List ℕ) (area : ℕ) where
   -- ---- a run
 
   module _ (R : RunParts) where
-    pub file-run : readFile f area ≡ run (programOf f p) (targetsOf f p) (stepsOf f (p .claim + 2) (R .count))
+    pub file-run : readFile f area ≡ run (programOf f p) (targetsOf f p) (memoryAt f (p .claim + 2)) (stepsOf f (p .claim + 2 + 5) (R .count))
     unfolding readFile
     file-run = ap (partsRead f) (R .parts)
 
-    pub reading-steps : readingOf (partsOf f area) ≡ readingWith p 1 (R .count)
+    pub reading-steps : readingOf (partsOf f area) ≡ readingWith p 1 (memoryAt f (p .claim + 2)) (p .claim + 2 + 5) (R .count)
     reading-steps = ap readingOf (R .parts)
 
     count₃ : length (programOf f p .transitions) ≡ p .transitions .count
@@ -214,35 +226,36 @@ module _ (f : List ℕ) (area : ℕ) where
         go false true e = both-exist (p .shape) (byte f (at + 1)) (byte f (at + 2)) e
         go false false e = ltb-true (byte f (at + 1)) (p .shape .processes) e
 
-    named : (i : ℕ) → i < R .count → StepOf (programOf f p) (stepAt f (placeOf (λ k. 1 + stepBody f k) (p .claim + 2) i))
+    named : (i : ℕ) → i < R .count → StepOf (programOf f p) (stepAt f (placeOf (λ k. 1 + stepBody f k) (p .claim + 2 + 5) i))
     unfolding stepsFrom
     named i l =
-        let place = placeOf (λ k. 1 + stepBody f k) (p .claim + 2) i in
-        let e = row-each (λ k n. leb (length f) k) (λ k n. checked (stepNumber (p .shape) (p .transitions .count) f k n) k) (λ k. 1 + stepBody f k) 1024 (p .claim + 2) 0 (R .count) (R .reads) i (omega arith) in
+        let place = placeOf (λ k. 1 + stepBody f k) (p .claim + 2 + 5) i in
+        let e = row-each (λ k n. leb (length f) k) (λ k n. checked (stepNumber (p .shape) (p .transitions .count) f k n) k) (λ k. 1 + stepBody f k) 1024 (p .claim + 2 + 5) 0 (R .count) (R .reads) i (omega arith) in
         let g = step-fine f place (p .shape) (p .transitions .count) (0 + i) e in
         step-named place (not-false _ (g .names))
 
     -- each step stands in the file
     pub step-inside : (i : ℕ) → i < R .count
-        → (let place = placeOf (λ k. 1 + stepBody f k) (p .claim + 2) i in place + stepBody f place < length f)
+        → (let place = placeOf (λ k. 1 + stepBody f k) (p .claim + 2 + 5) i in place + stepBody f place < length f)
     unfolding stepsFrom
     step-inside i l =
-        let place = placeOf (λ k. 1 + stepBody f k) (p .claim + 2) i in
-        let e = row-each (λ k n. leb (length f) k) (λ k n. checked (stepNumber (p .shape) (p .transitions .count) f k n) k) (λ k. 1 + stepBody f k) 1024 (p .claim + 2) 0 (R .count) (R .reads) i (omega arith) in
+        let place = placeOf (λ k. 1 + stepBody f k) (p .claim + 2 + 5) i in
+        let e = row-each (λ k n. leb (length f) k) (λ k n. checked (stepNumber (p .shape) (p .transitions .count) f k n) k) (λ k. 1 + stepBody f k) 1024 (p .claim + 2 + 5) 0 (R .count) (R .reads) i (omega arith) in
         cut-fits f place (stepBody f place) (step-fine f place (p .shape) (p .transitions .count) (0 + i) e .whole)
 
     few : R .count ≤ 1024
     unfolding stepsFrom
-    few = omega (arith, row-most _ _ _ 1024 (p .claim + 2) 0 (R .count) (R .reads))
+    few = omega (arith, row-most _ _ _ 1024 (p .claim + 2 + 5) 0 (R .count) (R .reads))
 
-    pub parts-run : RunRead (programOf f p) (targetsOf f p) (stepsOf f (p .claim + 2) (R .count))
+    pub parts-run : RunRead (programOf f p) (targetsOf f p) (memoryAt f (p .claim + 2)) (stepsOf f (p .claim + 2 + 5) (R .count))
     parts-run =
         record {
           part = part-read f 0 (R .fine);
+          permitted = memory-named (p .shape) f (p .claim + 2) (start-named (p .shape) f (p .claim + 2) (unless-fine f (p .claim + 2) _ (R .start) .1)) (part-shape f 0 (R .fine) .variables .1);
           steps = λ k l.
-              let i : k < R .count = omega (arith, steps-length f (p .claim + 2) (R .count)) in
-              subst (StepOf (programOf f p)) (sym (steps-at f (p .claim + 2) (R .count) k (Update 0) i)) (named k i);
-          count = omega (arith, few, steps-length f (p .claim + 2) (R .count));
+              let i : k < R .count = omega (arith, steps-length f (p .claim + 2 + 5) (R .count)) in
+              subst (StepOf (programOf f p)) (sym (steps-at f (p .claim + 2 + 5) (R .count) k (Update 0) i)) (named k i);
+          count = omega (arith, few, steps-length f (p .claim + 2 + 5) (R .count));
         }
 
 -- ---- the contents of every file that is read
@@ -250,17 +263,17 @@ module _ (f : List ℕ) (area : ℕ) where
 list-refused : {P : pws.Program} {ts : List (ℕ → ℕ)} {es : List Configuration} {r : Refusal} → refused r ≡ list P ts es → ⊥
 list-refused e = let z : _≡_ {A = ℕ} 0 1 = cc in omega arith
 
-run-refused : {P : pws.Program} {ts : List (ℕ → ℕ)} {ss : List Step} {r : Refusal} → refused r ≡ run P ts ss → ⊥
+run-refused : {P : pws.Program} {ts : List (ℕ → ℕ)} {m : List ℕ} {ss : List Step} {r : Refusal} → refused r ≡ run P ts m ss → ⊥
 run-refused e = let z : _≡_ {A = ℕ} 0 1 = cc in omega arith
 
-list-run : {P Q : pws.Program} {ts us : List (ℕ → ℕ)} {es : List Configuration} {ss : List Step} → list P ts es ≡ run Q us ss → ⊥
+list-run : {P Q : pws.Program} {ts us : List (ℕ → ℕ)} {es : List Configuration} {m : List ℕ} {ss : List Step} → list P ts es ≡ run Q us m ss → ⊥
 list-run e = let z : _≡_ {A = ℕ} 0 1 = cc in omega arith
 
 list-inverse : {P Q : pws.Program} {ts us : List (ℕ → ℕ)} {es ds : List Configuration} → list P ts es ≡ list Q us ds → (P ≡ Q) × (ts ≡ us) × (es ≡ ds)
 list-inverse e = (cc, cc, cc)
 
-run-inverse : {P Q : pws.Program} {ts us : List (ℕ → ℕ)} {es ds : List Step} → run P ts es ≡ run Q us ds → (P ≡ Q) × (ts ≡ us) × (es ≡ ds)
-run-inverse e = (cc, cc, cc)
+run-inverse : {P Q : pws.Program} {ts us : List (ℕ → ℕ)} {m n : List ℕ} {es ds : List Step} → run P ts m es ≡ run Q us n ds → (P ≡ Q) × (ts ≡ us) × (m ≡ n) × (es ≡ ds)
+run-inverse e = (cc, cc, cc, cc)
 
 pub list-read : (f : List ℕ) (area : ℕ) {P : pws.Program} {ts : List (ℕ → ℕ)} {es : List Configuration} → readFile f area ≡ list P ts es → ListRead P ts es area
 list-read f area {P} {ts} {es} q = go (outcome f area)
@@ -272,12 +285,12 @@ list-read f area {P} {ts} {es} q = go (outcome f area)
         let i = list-inverse (sym (file-list f area L) ∙ q) in
         rw (sym (i .0), sym (i .1), sym (i .2)) (parts-list f area L)
 
-pub run-read : (f : List ℕ) (area : ℕ) {P : pws.Program} {ts : List (ℕ → ℕ)} {ss : List Step} → readFile f area ≡ run P ts ss → RunRead P ts ss
-run-read f area {P} {ts} {ss} q = go (outcome f area)
+pub run-read : (f : List ℕ) (area : ℕ) {P : pws.Program} {ts : List (ℕ → ℕ)} {m : List ℕ} {ss : List Step} → readFile f area ≡ run P ts m ss → RunRead P ts m ss
+run-read f area {P} {ts} {m} {ss} q = go (outcome f area)
   where
-    go : Outcome f area → RunRead P ts ss
+    go : Outcome f area → RunRead P ts m ss
     go (outcome-refused r a b) = absurd (run-refused (sym b ∙ q))
     go (outcome-list L) = absurd (list-run (sym (file-list f area L) ∙ q))
     go (outcome-run R) =
         let i = run-inverse (sym (file-run f area R) ∙ q) in
-        rw (sym (i .0), sym (i .1), sym (i .2)) (parts-run f area R)
+        rw (sym (i .0), sym (i .1), sym (i .2), sym (i .3)) (parts-run f area R)

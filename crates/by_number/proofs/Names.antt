@@ -8,15 +8,17 @@ use native.Mathlib.Omega.{arith}
 use native.Mathlib.Decide.{ℕ-discrete, decLt}
 use lib.ListN.{getD, List·getD-eq-default}
 use lib.Dec.{eqb, leb, ltb}
-use borrow.Author.Tests.{ltb-true, leb-true, eqb-true, eqb-false, not-true, lt-ltb, le-ltb, ne-eqb}
+use borrow.Author.Tests.{ltb-true, leb-true, eqb-true, eqb-false, not-true, not-false, lt-ltb, le-ltb, ne-eqb}
 use Rattle.pws.specs.declared.Transition.{Transition}
 use Rattle.pws.specs.Program as pws
-use Rattle.pws.specs.Configurations.{MessageIn, StatesOf}
+use Rattle.pws.specs.Configurations.{MessageIn, StatesOf, StartingMemory}
 use Rattle.pws.specs.Entries.{ValueOrFF}
 use Rattle.program_part.specs.declared.program.Shape.{Shape}
 use Rattle.program_part.specs.Bytes.{byte}
-use Rattle.program_part.specs.Records.{inRange, valueExists, operationNames, operationOf, transitionAt, transitionNames, stateName, stateNames, stateAt, exists, pointerName, pointerNames, pointerAt, valueName, valueNames, messageNames, messageAt, waitingNames}
+use Rattle.program_part.specs.Records.{inRange, valueExists, operationNames, operationOf, transitionAt, transitionNames, stateName, stateNames, stateAt, exists, pointerName, pointerNames, pointerAt, valueName, valueNames, messageNames, messageAt, waitingNames, valueCount, checked, startName, startNames, startNumber, memoryAt}
 use Rattle.program_part.specs.ProgramPart.{shapeOf}
+use Rattle.program_part.specs.declared.program.Checked.the-variants.{Fine}
+use Rattle.program_part.proofs.RecordLaws.{good}
 use Rattle.program_part.proofs.ProgramLaws.{and-true}
 use Rattle.by_number.proofs.Tables.{of-four}
 
@@ -207,3 +209,40 @@ module _ (s : Shape) (f : List ℕ) (at : ℕ) where
       let a = and-true (exists s (byte f (at + 1)) (byte f (at + 2))) (valueName s (byte f (at + 2)) (byte f (at + 3))) e in
       let b = both-exist s (byte f (at + 1)) (byte f (at + 2)) (a .0) in
       (b .0, b .1, value-inside s (byte f (at + 2)) (byte f (at + 3)) (b .1) (a .1))
+
+-- ---- the memory that a run starts from
+
+pub start-named : (s : Shape) (f : List ℕ) (at : ℕ) → checked (startNumber s f at) at ≡ Fine → startNames s f at ≡ true
+unfolding startNumber
+start-named s f at e = not-false _ (good at e .names)
+
+start-inside : (s : Shape) (v x : ℕ) → v < s .variables → startName s v x ≡ true → x < valueCount s v
+unfolding startName
+start-inside s v x l e = ltb-true x (valueCount s v) (rw (lt-ltb v (s .variables) l) at e)
+
+start-none : (s : Shape) (v x : ℕ) → s .variables ≤ v → startName s v x ≡ true → x ≡ 0
+unfolding startName
+start-none s v x l e = eqb-true x 0 (rw (le-ltb v (s .variables) l) at e)
+
+module _ (s : Shape) (f : List ℕ) (at : ℕ) (e : startNames s f at ≡ true) where
+  named-start : (v : ℕ) → v < 4 → startName s v (getD (memoryAt f at) v 0) ≡ true
+  unfolding startNames
+  named-start =
+      let a = and-true (startName s 0 (byte f (at + 1))) _ e in
+      let b = and-true (startName s 1 (byte f (at + 2))) _ (a .1) in
+      let c = and-true (startName s 2 (byte f (at + 3))) (startName s 3 (byte f (at + 4))) (b .1) in
+      of-four (λ (v : ℕ). startName s v (getD (memoryAt f at) v 0) ≡ true) (a .0) (b .0) (c .0) (c .1)
+
+  memory-past : (v : ℕ) → 4 ≤ v → getD (memoryAt f at) v 0 ≡ 0
+  memory-past v l = List·getD-eq-default (memoryAt f at) 0 l
+
+  pub memory-named : s .variables ≤ 4 → StartingMemory (shapeOf s) (memoryAt f at)
+  memory-named few =
+      record {
+        room = refl;
+        values = λ v l. start-inside s v (getD (memoryAt f at) v 0) l (named-start v (omega arith));
+        absent = λ v l. elim (decLt v 4) [
+          | yes i ↦ start-none s v (getD (memoryAt f at) v 0) l (named-start v i)
+          | no i ↦ memory-past v (omega arith)
+        ];
+      }

@@ -7,7 +7,7 @@ use Rattle.pws.specs.declared.Step.{Step}
 use Rattle.pws.specs.declared.Step.the-variants.{Take, Serialise, Update}
 use Rattle.pws.specs.Program.{Program, ProgramInRange}
 use Rattle.pws.specs.Machine.{Configuration}
-use Rattle.pws.specs.Configurations.{StatesOf}
+use Rattle.pws.specs.Configurations.{StatesOf, StartingMemory}
 use Rattle.pws.specs.Entries.{EntryOf, entry}
 use Rattle.program_part.specs.declared.program.Program as declared
 use Rattle.whole_file.specs.declared.entry.Cube.{Cube}
@@ -43,8 +43,9 @@ StepOf P (Serialise p v) = (p < P .shape .processes) × (v < P .shape .variables
 StepOf P (Update p) = p < P .shape .processes
 
 -- claim 1
-pub record RunRead (P : Program) (ts : List (ℕ → ℕ)) (ss : List Step) : Type 0 where
+pub record RunRead (P : Program) (ts : List (ℕ → ℕ)) (memory : List ℕ) (ss : List Step) : Type 0 where
   pub part : ProgramPartRead P ts
+  pub permitted : StartingMemory (P .shape) memory
   pub steps : (k : ℕ) → k < length ss → StepOf P (getD ss k (Update 0))
   pub count : length ss ≤ 1024
 

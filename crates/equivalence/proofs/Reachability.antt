@@ -11,21 +11,21 @@ use Rattle.pws.specs.declared.Message.{Message}
 use Rattle.pws.specs.declared.Step.{Step}
 use Rattle.pws.specs.Program.{Program, ProgramInRange}
 use Rattle.pws.specs.Machine.{Configuration, message}
-use Rattle.pws.specs.Configurations.{StartingMemory, Start}
+use Rattle.pws.specs.Configurations.{StartingMemory, startingMemory, Start}
 use Rattle.pws.specs.Sequences.{Takes, Visited, done, step}
 use Rattle.pws.specs.Sequences as sequences
 use Rattle.pso.specs.declared.PsoStep.{PsoStep}
 use Rattle.pso.specs.Machine.{PsoConfiguration}
-use Rattle.pso.specs.Runs.{MemoryOf, PsoStart, PsoTakes, PsoVisited}
+use Rattle.pso.specs.Runs.{PsoStart, PsoTakes, PsoVisited}
 use Rattle.pso.specs.Runs as runs
-use Rattle.equivalence.specs.Equivalence.{startingMemory, PwsStart, SameReachability}
+use Rattle.equivalence.specs.Equivalence.{PwsStart, SameReachability}
 use Rattle.equivalence.proofs.Forward.{pws-to-pso}
 use Rattle.equivalence.proofs.Backward.{pso-to-pws}
 
 -- ---- starts
 
 -- every memory has a start of the PSO machine
-pub pso-start : (P : Program) (memory : List ℕ) → MemoryOf (P .shape) memory → (d : PsoConfiguration) × PsoStart P memory d
+pub pso-start : (P : Program) (memory : List ℕ) → StartingMemory (P .shape) memory → (d : PsoConfiguration) × PsoStart P memory d
 pso-start P memory o = (
   record { state = P .initial; buffer = λ p v. []; memory = memory },
   record { permitted = o; states = λ p l. refl; buffers = λ p v l h. refl; starts = refl },
@@ -47,7 +47,7 @@ startOf P memory =
 one-message : (m : Message) (i : ℕ) → 1 ≤ i → i ≤ 1 → message (m ∷ []) i ≡ m
 one-message m i a b = let e : i ≡ 1 = omega arith in ap (message (m ∷ [])) e
 
-pub pws-start : (P : Program) → ProgramInRange P → (memory : List ℕ) → MemoryOf (P .shape) memory → PwsStart P memory (startOf P memory)
+pub pws-start : (P : Program) → ProgramInRange P → (memory : List ℕ) → StartingMemory (P .shape) memory → PwsStart P memory (startOf P memory)
 pws-start P R memory o =
     let n = P .shape .processes in
     let first : Message = record { process = 0; variable = 0; snapshot = memory } in
@@ -82,26 +82,19 @@ pws-start P R memory o =
       pointers = λ q e. rw (lt-ltb q n e);
     }
 
--- the starts with a permitted memory are the permitted starts
-pub permitted-start : (P : Program) (memory : List ℕ) (c : Configuration) → PwsStart P memory c → StartingMemory P memory → Start P c
-permitted-start P memory c s m =
-    record {
-      configuration = s .configuration;
-      states = s .states;
-      queues = s .queues;
-      one = s .one;
-      starting = rw (s .starts) m;
-      pointers = s .pointers;
-    }
+-- the starts with a memory are the starts
+pub permitted-start : (P : Program) (memory : List ℕ) (c : Configuration) → PwsStart P memory c → Start P c
+permitted-start P memory c s =
+    record { configuration = s .configuration; states = s .states; queues = s .queues; one = s .one; pointers = s .pointers }
 
-pub start-of : (P : Program) (c : Configuration) → Start P c → PwsStart P (startingMemory c) c
-start-of P c s = record { configuration = s .configuration; states = s .states; queues = s .queues; one = s .one; starts = refl; pointers = s .pointers }
+pub start-of : (P : Program) (memory : List ℕ) (c : Configuration) → Start P c → startingMemory c ≡ memory → PwsStart P memory c
+start-of P memory c s e = record { configuration = s .configuration; states = s .states; queues = s .queues; one = s .one; starts = e; pointers = s .pointers }
 
-pub memory-of : (P : Program) (memory : List ℕ) (c : Configuration) → PwsStart P memory c → MemoryOf (P .shape) memory
+pub memory-of : (P : Program) (memory : List ℕ) (c : Configuration) → PwsStart P memory c → StartingMemory (P .shape) memory
 memory-of P memory c s =
     let m = s .configuration .fits .memory .messages 1 (omega arith) (omega (arith, s .one)) in
-    let o : MemoryOf (P .shape) (startingMemory c) = record { room = m .room; values = m .values; absent = m .absent } in
-    subst (MemoryOf (P .shape)) (s .starts) o
+    let o : StartingMemory (P .shape) (startingMemory c) = record { room = m .room; values = m .values; absent = m .absent } in
+    subst (StartingMemory (P .shape)) (s .starts) o
 
 -- ---- what is visited is reached
 

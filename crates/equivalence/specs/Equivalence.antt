@@ -8,16 +8,12 @@ use mathlib.Core.List.{List, []}
 use lib.ListN.{length}
 use Rattle.pws.specs.declared.Step.{Step}
 use Rattle.pws.specs.Program.{Program, ProgramInRange}
-use Rattle.pws.specs.Machine.{Configuration, message}
-use Rattle.pws.specs.Configurations.{ConfigurationOf, InTarget}
+use Rattle.pws.specs.Machine.{Configuration}
+use Rattle.pws.specs.Configurations.{ConfigurationOf, startingMemory, InTarget}
 use Rattle.pws.specs.Sequences.{Takes}
 use Rattle.pso.specs.declared.PsoStep.{PsoStep}
 use Rattle.pso.specs.Machine.{PsoConfiguration}
 use Rattle.pso.specs.Runs.{PsoStart, PsoTakes, PsoReachable}
-
--- the memory that a start of the PWS machine has: the snapshot of its one message
-abbrev pub startingMemory : Configuration → List ℕ
-startingMemory c = message (c .memory .channel) 1 .snapshot
 
 -- a start of the PWS machine with this memory: initial local states, empty queues, one message of any existing label, all pointers 1
 -- (report, 5.1)

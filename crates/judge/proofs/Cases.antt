@@ -27,6 +27,9 @@ use Rattle.program_part.specs.Records.{
   stateNames,
   targetNumber,
   claimNumber,
+  startName,
+  startNames,
+  startNumber,
   stepBody,
   stepNames,
   stepNumber,
@@ -60,7 +63,7 @@ use Rattle.whole_file.specs.EvidencePart.{
   entriesFrom,
   entriesAllowed,
 }
-use Rattle.whole_file.specs.Reading.{Evidence, entries, steps, claimThen, evidenceFrom, programThen, partsOf, partsRead, readFile}
+use Rattle.whole_file.specs.Reading.{Evidence, entries, claimThen, runEvidence, evidenceFrom, programThen, partsOf, partsRead, readFile}
 use Rattle.replay.specs.Causes.{firstCause}
 use Rattle.judge.specs.Judge.{Verdict, ofFile, judged}
 use Rattle.judge.specs.Cases.{Row, file, below, notBelow, Holds, caseA, Each, no-row, row, cases}
@@ -76,7 +79,7 @@ evidenceWith f at p n =
     claimThen (unlessEnd f at (checked (claimNumber f at) at)) (λ _.
     choose (eqb (byte f (at + 1)) 0)
     (λ _. entries (entriesFrom n (p .shape) (p .states) f (at + 2) [] []))
-    (λ _. steps (stepsFrom (p .shape) (p .transitions .count) f (at + 2))))
+    (λ _. runEvidence f (at + 2) p))
 
 abbrev judgedWith : List ℕ → ℕ → Verdict
 judgedWith f n = ofFile (partsRead f (programThen (programFrom f 0) (λ p. evidenceWith f (p .claim) p n)))
@@ -85,15 +88,15 @@ judged-with : (f : List ℕ) (area : ℕ) → 65536 ≤ area → judged f area �
 unfolding judged readFile partsOf evidenceFrom
 judged-with f area l = rw (le-ltb area 65536 l)
 
--- six are allowed at least, and no row has more
-many : (area : ℕ) → 65536 ≤ area → (k : ℕ) × (entriesAllowed area ≡ suc (suc (suc (suc (suc (suc k))))))
+-- eight are allowed at least, and no row has more
+many : (area : ℕ) → 65536 ≤ area → (k : ℕ) × (entriesAllowed area ≡ suc (suc (suc (suc (suc (suc (suc (suc k))))))))
 unfolding entriesAllowed
-many area l = (entriesAllowed area - 6, omega arith)
+many area l = (entriesAllowed area - 8, omega arith)
 
 -- ---- what is computed
 
 abbrev Right : ℕ → Row → Type 0
-Right k (file f v) = judgedWith f (suc (suc (suc (suc (suc (suc k)))))) ≡ v
+Right k (file f v) = judgedWith f (suc (suc (suc (suc (suc (suc (suc (suc k)))))))) ≡ v
 Right k (below xs ys) = QueueBelow xs ys
 Right k (notBelow xs ys) = QueueBelow xs ys → ⊥
 
@@ -108,9 +111,9 @@ K-not-below : QueueBelow (1 ∷ []) (1 ∷ 0 ∷ []) → ⊥
 K-not-below q = let e = q .end in let z : _≡_ {A = ℕ} 0 1 = cc in omega arith
 
 rows-computed : (k : ℕ) → AllRight k cases
-unfolding firstCause firstNumber checked isKind inRange shapeNumber statesNumber valueExists allZero operationNames operationOf transitionNames transitionNumber stateName stateNames targetNumber claimNumber stepBody stepNames stepNumber stepAt pointerName pointerNames entryNumber valueName valueNames messageNames waitingNames messageNumber waitingNumber unlessEnd statesFrom rowFrom transitionsFrom atClaim targetsFrom rowsFrom restFrom programFrom stepsFrom stepsOf extended bodySize bodyNumber pointerInside pointsFirst pointersFit someFirst complete atBoundary finished entryFrom entryRead entriesFrom cut
+unfolding firstCause firstNumber checked isKind inRange shapeNumber statesNumber valueExists allZero operationNames operationOf transitionNames transitionNumber stateName stateNames targetNumber claimNumber startName startNames startNumber runEvidence stepBody stepNames stepNumber stepAt pointerName pointerNames entryNumber valueName valueNames messageNames waitingNames messageNumber waitingNumber unlessEnd statesFrom rowFrom transitionsFrom atClaim targetsFrom rowsFrom restFrom programFrom stepsFrom stepsOf extended bodySize bodyNumber pointerInside pointsFirst pointersFit someFirst complete atBoundary finished entryFrom entryRead entriesFrom cut
 rows-computed k =
-    (refl, (refl, (refl, (refl, (refl, (refl, (refl, (refl, (refl, (refl, (refl, (refl, (refl, (refl, (refl, (refl, (refl, (refl, (K-below, (K-not-below, (refl, (refl, (refl, (refl, (refl, (refl, (refl, (refl, (refl, tt)))))))))))))))))))))))))))))
+    (refl, (refl, (refl, (refl, (refl, (refl, (refl, (refl, (refl, (refl, (refl, (refl, (refl, (refl, (refl, (refl, (refl, (refl, (refl, (refl, (refl, (refl, (refl, (refl, (refl, (refl, (K-below, (K-not-below, (refl, (refl, (refl, (refl, (refl, (refl, (refl, (refl, (refl, tt)))))))))))))))))))))))))))))))))))))
 
 -- ---- the table
 

@@ -10,6 +10,7 @@ use lib.Dec.{T, eqb, leb}
 use Rattle.pws.specs.declared.Step.{Step}
 use Rattle.pws.specs.Program.{Program, ProgramInRange}
 use Rattle.pws.specs.Machine.{Configuration}
+use Rattle.pws.specs.Configurations.{StartingMemory}
 use Rattle.pws.proofs.Simulation.{simulation}
 use Rattle.lists.specs.Verdict as lists
 use Rattle.lists.specs.Decision as decision
@@ -178,15 +179,18 @@ module _ (f : List ℕ) (area : ℕ) where
     file-list-judged =
         verdict-judged P list-range es (λ k l. read .entries k l .of) ts (λ k l. read .part .targets k l) (λ k l. read .entries k l .first)
 
-  pub run-range : (P : Program) (ts : List (ℕ → ℕ)) (ss : List Step) → Reads (reading.run P ts ss) → ProgramInRange P
-  run-range P ts ss q = run-read f area q .part .program
+  pub run-range : (P : Program) (ts : List (ℕ → ℕ)) (m : List ℕ) (ss : List Step) → Reads (reading.run P ts m ss) → ProgramInRange P
+  run-range P ts m ss q = run-read f area q .part .program
+
+  run-memory : (P : Program) (ts : List (ℕ → ℕ)) (m : List ℕ) (ss : List Step) → Reads (reading.run P ts m ss) → StartingMemory (P .shape) m
+  run-memory P ts m ss q = run-read f area q .permitted
 
   file-judged : (r : reading.FileRead) → Reads r → FileJudged r (ofFile r) × ((v : Verdict) → FileJudged r v → v ≡ ofFile r)
   file-judged (reading.refused r) q = (refl, λ v e. e)
   file-judged (reading.list P ts es) q =
       let j = file-list-judged P ts es q in
       ((decision.verdictOf P ts es, j, refl), λ v x. x .2 ∙ ap ofList (verdict-unique P ts es (x .0) (decision.verdictOf P ts es) (x .1) j))
-  file-judged (reading.run P ts ss) q = (refl, λ v e. e)
+  file-judged (reading.run P ts m ss) q = (refl, λ v e. e)
 
   -- what is said of a list, and of a run
 
@@ -203,21 +207,28 @@ module _ (f : List ℕ) (area : ℕ) where
       go (reading.list P ts es) q e =
           let z = sym (list-back (decision.verdictOf P ts es)) ∙ ap toList (sym (judged-as _ q) ∙ e) ∙ list-back v in
           record { program = P; targets = ts; entries = es; reads = q; holds = subst (lists.ListJudged P ts es) z (file-list-judged P ts es q) }
-      go (reading.run P ts ss) q e = absurd (never-both v (runAnswer P ts ss) (sym e ∙ judged-as _ q))
+      go (reading.run P ts m ss) q e = absurd (never-both v (runAnswer P ts m ss) (sym e ∙ judged-as _ q))
 
-  pub run-said : (v : RunAnswer) → (judged f area ≡ ofRun v) ↔ OfRun f area (λ P ts ss. RunJudged P ts ss v)
+  pub run-said : (v : RunAnswer) → (judged f area ≡ ofRun v) ↔ OfRun f area (λ P ts m ss. RunJudged P ts m ss v)
   run-said v = (
     λ e. go (reading.readFile f area) refl e,
     λ x.
-        judged-as _ (x .reads) ∙ ap ofRun (run-only (x .program) (run-range _ _ _ (x .reads)) (x .targets) (x .steps) v (x .holds)),
+        judged-as _ (x .reads) ∙ ap ofRun (run-only (x .program) (run-range _ _ _ _ (x .reads)) (x .targets) (x .memory) (run-memory _ _ _ _ (x .reads)) (x .steps) v (x .holds)),
   )
     where
-      go : (r : reading.FileRead) → Reads r → judged f area ≡ ofRun v → OfRun f area (λ P ts ss. RunJudged P ts ss v)
+      go : (r : reading.FileRead) → Reads r → judged f area ≡ ofRun v → OfRun f area (λ P ts m ss. RunJudged P ts m ss v)
       go (reading.refused r) q e = absurd (omega (arith, refused-low f area r q .1, run-code v, ap code (sym (judged-as _ q) ∙ e)))
       go (reading.list P ts es) q e = absurd (never-both (decision.verdictOf P ts es) v (sym (judged-as _ q) ∙ e))
-      go (reading.run P ts ss) q e =
-          let z = sym (run-back (runAnswer P ts ss)) ∙ ap toRun (sym (judged-as _ q) ∙ e) ∙ run-back v in
-          record { program = P; targets = ts; steps = ss; reads = q; holds = subst (RunJudged P ts ss) z (run-judged P (run-range P ts ss q) ts ss) }
+      go (reading.run P ts m ss) q e =
+          let z = sym (run-back (runAnswer P ts m ss)) ∙ ap toRun (sym (judged-as _ q) ∙ e) ∙ run-back v in
+          record {
+            program = P;
+            targets = ts;
+            memory = m;
+            steps = ss;
+            reads = q;
+            holds = subst (RunJudged P ts m ss) z (run-judged P (run-range P ts m ss q) ts m (run-memory P ts m ss q) ss);
+          }
 
   -- and of the reading
 
@@ -229,7 +240,7 @@ module _ (f : List ℕ) (area : ℕ) where
           let z = sym (judged-as _ q) ∙ e in
           q ∙ ap₂ (λ (a b : ℕ). reading.refused (record { number = a; place = b })) (ap code z) (ap place z)
       go (reading.list P ts es) q e = absurd (omega (arith, l, list-code (decision.verdictOf P ts es), ap code (sym (judged-as _ q) ∙ e)))
-      go (reading.run P ts ss) q e = absurd (omega (arith, l, run-code (runAnswer P ts ss), ap code (sym (judged-as _ q) ∙ e)))
+      go (reading.run P ts m ss) q e = absurd (omega (arith, l, run-code (runAnswer P ts m ss), ap code (sym (judged-as _ q) ∙ e)))
 
 -- ---- demand 1
 
@@ -247,7 +258,7 @@ refused8 f area k = (
     placed : reading.FileRead → ℕ
     placed (reading.refused r) = r .place
     placed (reading.list P ts es) = 0
-    placed (reading.run P ts ss) = 0
+    placed (reading.run P ts m ss) = 0
 
     go : reading.readFile f area ≡ reading.refused (record { number = 8; place = k }) → (area < 65536) × (k ≡ 0)
     go q = elim (decLt area 65536) [
@@ -290,12 +301,13 @@ refused-step f area k = (
       record {
         program = x .program;
         targets = x .targets;
+        memory = x .memory;
         steps = x .steps;
         reads = x .reads;
-        holds = stopped-cannot (x .program) (run-range f area _ _ _ (x .reads)) (x .targets) (x .steps) k (c .0) (x .holds);
+        holds = stopped-cannot (x .program) (run-range f area _ _ _ _ (x .reads)) (x .targets) (x .memory) (run-memory f area _ _ _ _ (x .reads)) (x .steps) k (c .0) (x .holds);
       },
   λ x.
-      let w = cannot-stopped (x .program) (run-range f area _ _ _ (x .reads)) (x .targets) (x .steps) k (x .holds) in
+      let w = cannot-stopped (x .program) (run-range f area _ _ _ _ (x .reads)) (x .targets) (x .memory) (run-memory f area _ _ _ _ (x .reads)) (x .steps) k (x .holds) in
       (causeNumber (w .0), step-number (w .0), judged-as f area _ (x .reads) ∙ ap ofRun (w .1)),
 )
 
@@ -327,8 +339,8 @@ no-other f area n k e = go (reading.readFile f area) refl
     go (reading.list P ts es) q =
         let w = list-most (decision.verdictOf P ts es) (sym (judged-as f area _ q) ∙ e) in
         (omega (arith, w .0), omega (arith, w .1), λ x. omega (arith, w .1))
-    go (reading.run P ts ss) q =
-        let w = run-most (runAnswer P ts ss) (sym (judged-as f area _ q) ∙ e) in
+    go (reading.run P ts m ss) q =
+        let w = run-most (runAnswer P ts m ss) (sym (judged-as f area _ q) ∙ e) in
         (omega (arith, w .0), w .1, w .2)
 
 -- ---- demand 2
@@ -357,4 +369,4 @@ simulated : (P : Program) → ProgramInRange P → Simulated P
 simulated P R c d e oc od B ss t = simulation P R d oc od B t
 
 pub simulation-holds : Simulation
-simulation-holds f area P ts = (λ es q. simulated P (list-range f area P ts es q), λ ss q. simulated P (run-range f area P ts ss q))
+simulation-holds f area P ts = (λ es q. simulated P (list-range f area P ts es q), λ m ss q. simulated P (run-range f area P ts m ss q))

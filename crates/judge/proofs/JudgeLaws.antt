@@ -101,7 +101,7 @@ module _ (f w : List ℕ) (R : Reading) (r : R ≡ reading.readingOf (reading.pa
             (ap (λ (t : List ℕ). drop (12 * entriesAllowed (length w)) (last ++ t)) none ∙ ap (drop (12 * entriesAllowed (length w))) (append-nil last) ∙ k)
 
     pub run-said : (R .contents .claim ≡ 0 → ⊥) → (x : RunAnswer) (lower : ℕ) → lower ≡ 16384
-        → (pws.ProgramInRange (programOf f p) → n ≤ 1024 → lower ≡ 16384 → RunOf x (programOf f p) (targetsOf f p) (stepsOf f (R .contents .evidence .at) n))
+        → (pws.ProgramInRange (programOf f p) → n ≤ 1024 → lower ≡ 16384 → RunOf x (programOf f p) (targetsOf f p) (R .contents .memory) (stepsOf f (R .contents .evidence .at) n))
         → (v : Verdict) → v ≡ ofRun x → v ≡ judged f (length w)
     run-said c x lower l h v e =
         let s = reading-run f w R r q c in

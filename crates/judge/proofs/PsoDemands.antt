@@ -1,7 +1,6 @@
 -- The theorems of specs/PsoDemands: by the demands, which speak of the PWS machine, and the equivalence of the two machines.
 use Rattle.lists.specs.Verdict.{target}
 use Rattle.lists.proofs.Verdict.{safe-visited}
-use Rattle.equivalence.specs.Equivalence.{startingMemory}
 use Rattle.equivalence.proofs.Reachability.{permitted-start, start-of, visited-takes, takes-visited, same-reachability}
 use Rattle.judge.specs.PsoDemands.{PsoSafety, PsoReachability}
 use Rattle.judge.proofs.Demands.{list-range, run-range, accepted-list, accepted-run}
@@ -16,12 +15,12 @@ pso-safety f area n e =
       targets = x .targets;
       entries = x .entries;
       reads = x .reads;
-      holds = λ memory m d s us a v k l h.
+      holds = λ memory d s us a v k l h.
           let t = visited-takes v in
           let r =
           same-reachability P R memory (target (x .targets) k) .1
           (record { first = d; starts = s; steps = t .0; last = a; takes = t .1; reached = h }) in
-          safe-visited P R (x .targets) (x .entries) (x .holds .1) (permitted-start P memory (r .first) (r .starts) m) (r .steps) (takes-visited (r .takes)) .0
+          safe-visited P R (x .targets) (x .entries) (x .holds .1) (permitted-start P memory (r .first) (r .starts)) (r .steps) (takes-visited (r .takes)) .0
           k l (r .reached);
     }
 
@@ -29,16 +28,21 @@ pub pso-reachability : PsoReachability
 pso-reachability f area n k e =
     let x = accepted-run f area n k .0 e in
     let P = x .program in
-    let R = run-range f area P (x .targets) (x .steps) (x .reads) in
+    let R = run-range f area P (x .targets) (x .memory) (x .steps) (x .reads) in
     let r = x .holds in
     record {
       program = P;
       targets = x .targets;
+      memory = x .memory;
       steps = x .steps;
       reads = x .reads;
-      holds = (
-        r,
-        same-reachability P R (startingMemory (r .start)) (target (x .targets) k) .0
-            (record { first = r .start; starts = start-of P (r .start) (r .permitted); steps = x .steps; last = r .end; takes = r .takes; reached = r .met }),
-      );
+      holds = same-reachability P R (x .memory) (target (x .targets) k) .0
+          (record {
+            first = r .start;
+            starts = start-of P (x .memory) (r .start) (r .permitted) (r .memory);
+            steps = x .steps;
+            last = r .end;
+            takes = r .takes;
+            reached = r .met;
+          });
     }

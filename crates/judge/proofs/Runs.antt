@@ -12,7 +12,7 @@ use Rattle.pws.specs.declared.Step.{Step}
 use Rattle.pws.specs.declared.Step.the-variants.{Update}
 use Rattle.pws.specs.Program.{Shape, Program, ProgramInRange}
 use Rattle.pws.specs.Machine.{Configuration, may, after}
-use Rattle.pws.specs.Configurations.{Start, startWith, InTarget, inTarget}
+use Rattle.pws.specs.Configurations.{StartingMemory, startingMemory, Start, startWith, InTarget, inTarget}
 use Rattle.pws.specs.Sequences.{Takes, done, step}
 use Rattle.pws.proofs.Starts.{start-exists}
 use Rattle.lists.specs.Verdict.{target}
@@ -30,10 +30,10 @@ use Rattle.replay.proofs.Accepted.{answer-free, target-yes, target-is}
 use Rattle.judge.specs.Demands.{Reaches, Stops, Misses, Cannot}
 use Rattle.judge.proofs.StepCauses.{ReasonOf, cause-reason, reason-cause}
 
-abbrev pub RunJudged : Program → List (ℕ → ℕ) → List Step → RunAnswer → Type 0
-RunJudged P ts ss (Reachable n k) = Reaches P ts ss n k
-RunJudged P ts ss (Stopped k cause) = Stops (ReasonOf cause) P ss k
-RunJudged P ts ss (Missed n) = Misses P ts ss n
+abbrev pub RunJudged : Program → List (ℕ → ℕ) → List ℕ → List Step → RunAnswer → Type 0
+RunJudged P ts m ss (Reachable n k) = Reaches P ts m ss n k
+RunJudged P ts m ss (Stopped k cause) = Stops (ReasonOf cause) P m ss k
+RunJudged P ts m ss (Missed n) = Misses P ts m ss n
 
 -- ---- answers that differ
 
@@ -166,74 +166,74 @@ module _ (S : Shape) (c : Configuration) where
 
 -- ---- verdicts
 
-module _ (P : Program) (R : ProgramInRange P) (ts : List (ℕ → ℕ)) (ss : List Step) where
+module _ (P : Program) (R : ProgramInRange P) (ts : List (ℕ → ℕ)) (m : List ℕ) (M : StartingMemory (P .shape) m) (ss : List Step) where
   abbrev S : Shape
   S = P .shape
 
   abbrev origin : Configuration
-  origin = startWith P 0 0
+  origin = startWith P m 0 0
 
   permitted : Start P origin
-  permitted = start-exists P R 0 0 (R .shape .someProcess) (R .shape .someVariable)
+  permitted = start-exists P R m M 0 0 (R .shape .someProcess) (R .shape .someVariable)
 
-  last-judged : (d : Configuration) → Takes P origin ss d → (o : Option ℕ) → Lowest S d 0 ts o → RunJudged P ts ss (lastAnswer (length ss) o)
-  last-judged d t none h = record { count = refl; start = origin; permitted = permitted; end = d; takes = t; none = h }
+  last-judged : (d : Configuration) → Takes P origin ss d → (o : Option ℕ) → Lowest S d 0 ts o → RunJudged P ts m ss (lastAnswer (length ss) o)
+  last-judged d t none h = record { count = refl; start = origin; permitted = permitted; memory = refl; end = d; takes = t; none = h }
   last-judged d t (some j) h =
       let z : h .0 ≡ j = omega (arith, h .1) in
       record {
         count = refl;
         start = origin;
-        permitted = permitted;
+        permitted = permitted; memory = refl;
         end = d;
         takes = t;
         exists = omega (arith, h .2);
         met = subst (λ (i : ℕ). InTarget S (target ts i) d) z (h .3);
-        lower = λ m l. h .4 m (omega arith);
+        lower = λ j l. h .4 j (omega arith);
       }
 
-  end-judged : (x : RunAnswer) → runAnswer P ts ss ≡ x → isStopped x ≡ false → RunJudged P ts ss x
+  end-judged : (x : RunAnswer) → runAnswer P ts m ss ≡ x → isStopped x ≡ false → RunJudged P ts m ss x
   unfolding last
   end-judged x e i =
       let r = takes-all P ts (length ss) 0 origin ss x e i in
-      subst (RunJudged P ts ss) (sym (r .2)) (last-judged (r .0) (r .1) (lowestMet S 0 ts (r .0)) (lowest-is S (r .0) 0 ts))
+      subst (RunJudged P ts m ss) (sym (r .2)) (last-judged (r .0) (r .1) (lowestMet S 0 ts (r .0)) (lowest-is S (r .0) 0 ts))
 
-  stop-judged : (k : ℕ) (cause : Cause) → runAnswer P ts ss ≡ Stopped k cause → Stops (ReasonOf cause) P ss k
+  stop-judged : (k : ℕ) (cause : Cause) → runAnswer P ts m ss ≡ Stopped k cause → Stops (ReasonOf cause) P m ss k
   stop-judged k cause e =
       let r = stops-from P ts (length ss) 0 k cause origin ss e in
       let w = r .2 in
       let z : r .0 ≡ k = omega (arith, r .1) in
-      subst (Stops (ReasonOf cause) P ss) z
+      subst (Stops (ReasonOf cause) P m ss) z
       (record {
         exists = w .exists;
         start = origin;
-        permitted = permitted;
+        permitted = permitted; memory = refl;
         before = w .before;
         takes = w .takes;
         reason = cause-reason P (w .before) (getD ss (r .0) (Update 0)) cause (w .answer);
       })
 
   -- the answer says what the machine does
-  pub run-judged : RunJudged P ts ss (runAnswer P ts ss)
-  run-judged = go (runAnswer P ts ss) refl
+  pub run-judged : RunJudged P ts m ss (runAnswer P ts m ss)
+  run-judged = go (runAnswer P ts m ss) refl
     where
-      go : (x : RunAnswer) → runAnswer P ts ss ≡ x → RunJudged P ts ss x
+      go : (x : RunAnswer) → runAnswer P ts m ss ≡ x → RunJudged P ts m ss x
       go (Reachable n k) e = end-judged (Reachable n k) e refl
       go (Stopped k cause) e = stop-judged k cause e
       go (Missed n) e = end-judged (Missed n) e refl
 
-  ended-answer : (c d : Configuration) → Start P c → Takes P c ss d → runAnswer P ts ss ≡ lastAnswer (length ss) (lowestMet S 0 ts d)
+  ended-answer : (c d : Configuration) → Start P c → startingMemory c ≡ m → Takes P c ss d → runAnswer P ts m ss ≡ lastAnswer (length ss) (lowestMet S 0 ts d)
   unfolding last
-  ended-answer c d s t = sym (answer-free P R ts ss c s) ∙ answer-ends P ts (length ss) 0 c d ss t
+  ended-answer c d s w t = sym (answer-free P R ts m ss c s w) ∙ answer-ends P ts (length ss) 0 c d ss t
 
-  stopped-answer : (k : ℕ) (cause : Cause) → Stops (λ P c s. stepAnswer P c s ≡ Refused cause) P ss k → runAnswer P ts ss ≡ Stopped k cause
+  stopped-answer : (k : ℕ) (cause : Cause) → Stops (λ P c s. stepAnswer P c s ≡ Refused cause) P m ss k → runAnswer P ts m ss ≡ Stopped k cause
   stopped-answer k cause x =
-      sym (answer-free P R ts ss (x .start) (x .permitted))
+      sym (answer-free P R ts m ss (x .start) (x .permitted) (x .memory))
       ∙ from-stops P ts (length ss) 0 (x .start) (x .before) ss k cause (x .exists) (x .takes) (x .reason)
       ∙ ap (λ (j : ℕ). Stopped j cause) (omega arith)
 
   -- and nothing else that is said so is true of it
-  pub run-only : (v : RunAnswer) → RunJudged P ts ss v → runAnswer P ts ss ≡ v
-  run-only (Reachable n k) x = ended-answer (x .start) (x .end) (x .permitted) (x .takes) ∙ go (lowestMet S 0 ts (x .end)) (lowest-is S (x .end) 0 ts)
+  pub run-only : (v : RunAnswer) → RunJudged P ts m ss v → runAnswer P ts m ss ≡ v
+  run-only (Reachable n k) x = ended-answer (x .start) (x .end) (x .permitted) (x .memory) (x .takes) ∙ go (lowestMet S 0 ts (x .end)) (lowest-is S (x .end) 0 ts)
     where
       go : (o : Option ℕ) → Lowest S (x .end) 0 ts o → lastAnswer (length ss) o ≡ Reachable n k
       go none h = absurd (h k (x .exists) (x .met))
@@ -248,12 +248,12 @@ module _ (P : Program) (R : ProgramInRange P) (ts : List (ℕ → ℕ)) (ss : Li
       stopped-answer k cause (record {
         exists = x .exists;
         start = x .start;
-        permitted = x .permitted;
+        permitted = x .permitted; memory = x .memory;
         before = x .before;
         takes = x .takes;
         reason = reason-cause P (x .before) (getD ss k (Update 0)) cause (x .reason);
       })
-  run-only (Missed n) x = ended-answer (x .start) (x .end) (x .permitted) (x .takes) ∙ go (lowestMet S 0 ts (x .end)) (lowest-is S (x .end) 0 ts)
+  run-only (Missed n) x = ended-answer (x .start) (x .end) (x .permitted) (x .memory) (x .takes) ∙ go (lowestMet S 0 ts (x .end)) (lowest-is S (x .end) 0 ts)
     where
       go : (o : Option ℕ) → Lowest S (x .end) 0 ts o → lastAnswer (length ss) o ≡ Missed n
       go none h = ap Missed (sym (x .count))
@@ -262,23 +262,23 @@ module _ (P : Program) (R : ProgramInRange P) (ts : List (ℕ → ℕ)) (ss : Li
   -- ---- a step that the machine cannot take
 
   -- a refused step is one that it cannot take, whatever the cause
-  pub stopped-cannot : (k : ℕ) (cause : Cause) → Stops (ReasonOf cause) P ss k → Stops Cannot P ss k
+  pub stopped-cannot : (k : ℕ) (cause : Cause) → Stops (ReasonOf cause) P m ss k → Stops Cannot P m ss k
   stopped-cannot k cause x =
       record {
         exists = x .exists;
         start = x .start;
-        permitted = x .permitted;
+        permitted = x .permitted; memory = x .memory;
         before = x .before;
         takes = x .takes;
         reason = let s = getD ss k (Update 0) in sym (answer-may P (x .before) s) ∙ ap isPermitted (reason-cause P (x .before) s cause (x .reason));
       }
 
-  pub cannot-stopped : (k : ℕ) → Stops Cannot P ss k → (cause : Cause) × (runAnswer P ts ss ≡ Stopped k cause)
+  pub cannot-stopped : (k : ℕ) → Stops Cannot P m ss k → (cause : Cause) × (runAnswer P ts m ss ≡ Stopped k cause)
   cannot-stopped k x = go (stepAnswer P (x .before) (getD ss k (Update 0))) refl
     where
-      go : (a : Answer) → stepAnswer P (x .before) (getD ss k (Update 0)) ≡ a → (cause : Cause) × (runAnswer P ts ss ≡ Stopped k cause)
+      go : (a : Answer) → stepAnswer P (x .before) (getD ss k (Update 0)) ≡ a → (cause : Cause) × (runAnswer P ts m ss ≡ Stopped k cause)
       go Permitted e = true-false (sym (ap isPermitted e) ∙ answer-may P (x .before) (getD ss k (Update 0)) ∙ x .reason)
       go (Refused cause) e = (
         cause,
-        stopped-answer k cause (record { exists = x .exists; start = x .start; permitted = x .permitted; before = x .before; takes = x .takes; reason = e }),
+        stopped-answer k cause (record { exists = x .exists; start = x .start; permitted = x .permitted; memory = x .memory; before = x .before; takes = x .takes; reason = e }),
       )

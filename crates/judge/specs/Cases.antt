@@ -1,5 +1,5 @@
--- The worked cases A to K of document 01 ("Judged files"), with the causes of document 02, N1, and small examples of the refusal table, as
--- one table with one statement. Files are rows of bytes, K is two facts about queues. Bytes are in decimal: 15 is 0F, 16 to 18 are 10 to 12, 32 to 34 are 20 to 22, 255 is FF.
+-- The worked cases A to K of document 01 ("Judged files"), with the causes and starting memories of document 02, N1 and N3, and small examples of the refusal table, as
+-- one table with one statement. Files are rows of bytes, K is two facts about queues. Bytes are in decimal: 15 is 0F, 16 to 18 are 10 to 12, 31 is 1F, 32 to 34 are 20 to 22, 255 is FF.
 use Prim.Native.Nat.{ℕ, zero, suc, _≤_}
 use mathlib.Core.Path.{_≡_}
 use mathlib.Core.List.{List, [], _∷_, _++_}
@@ -45,12 +45,24 @@ target q r = 4 ∷ q ∷ r ∷ 0 ∷ 0 ∷ []
 abbrev pub claim : ℕ → List ℕ
 claim x = 15 ∷ x ∷ []
 
+-- the starting memory of a run, with this value in variable 0
+abbrev pub starting : ℕ → List ℕ
+starting x = 31 ∷ x ∷ 0 ∷ 0 ∷ 0 ∷ []
+
+-- a run from a memory of zeros
+abbrev pub fromZeros : List ℕ
+fromZeros = claim 1 ++ starting 0
+
 -- an entry of one process, whose pointer is 1
 abbrev pub entry : ℕ → List ℕ
 entry q = 16 ∷ q ∷ 0 ∷ 0 ∷ 0 ∷ 1 ∷ 0 ∷ 0 ∷ 0 ∷ []
 
 abbrev pub message : List ℕ
 message = 17 ∷ 0 ∷ 0 ∷ 255 ∷ 0 ∷ 0 ∷ 0 ∷ []
+
+-- with this value in variable 0
+abbrev pub holding : ℕ → List ℕ
+holding x = 17 ∷ 0 ∷ 0 ∷ x ∷ 0 ∷ 0 ∷ 0 ∷ []
 
 abbrev pub waiting : ℕ → List ℕ
 waiting x = 18 ∷ 0 ∷ 0 ∷ x ∷ []
@@ -100,6 +112,15 @@ programJ =
 abbrev pub programH : List ℕ
 programH = single ++ goes 0 0 2 0 1 1 ++ goes 0 1 1 0 1 2 ++ goes 0 1 1 0 0 2 ++ goes 0 1 4 0 0 2 ++ goes 0 1 3 0 0 2 ++ target 2 0
 
+-- one process reads 1
+abbrev pub programN : List ℕ
+programN = small ++ goes 0 0 1 0 1 1 ++ target 1 0
+
+-- with what it reads before, in state 0: the newest own value that waits, or else the newest message, is 1
+abbrev pub readsOne : List ℕ
+readsOne =
+    entry 0 ++ holding 1 ++ entry 0 ++ message ++ waiting 1 ++ entry 0 ++ message ++ holding 1 ++ entry 0 ++ message ++ message ++ waiting 1
+
 abbrev pub targets : ℕ → List ℕ
 targets zero = []
 targets (suc n) = target 1 0 ++ targets n
@@ -122,25 +143,36 @@ cases =
     ∷ file (small ++ target 1 0 ++ claim 0 ++ first 1 ++ second 1 0 ++ second 1 1 ++ others 1) (safe 5)
     -- E: with a transition; and as a run
     ∷ file (small ++ nop ++ target 1 0 ++ claim 0 ++ four 1) (refused 11 0)
-    ∷ file (small ++ nop ++ target 1 0 ++ claim 1 ++ takeStep 0) (reachable 1 0)
+    ∷ file (small ++ nop ++ target 1 0 ++ fromZeros ++ takeStep 0) (reachable 1 0)
     -- F: target and entries in state 0; and as a run
     ∷ file (small ++ target 0 0 ++ claim 0 ++ four 0) (refused 10 0)
-    ∷ file (small ++ target 0 0 ++ claim 1) (reachable 0 0)
+    ∷ file (small ++ target 0 0 ++ fromZeros) (reachable 0 0)
     -- G
-    ∷ file (programG ++ claim 1 ++ takeStep 0 ++ takeStep 1 ++ serialise 0 1 ++ update 1 ++ takeStep 2 ++ takeStep 3) (reachable 6 0)
+    ∷ file (programG ++ fromZeros ++ takeStep 0 ++ takeStep 1 ++ serialise 0 1 ++ update 1 ++ takeStep 2 ++ takeStep 3) (reachable 6 0)
     -- H: read 1 with the pointer still at 1; reading 0 there is not permitted
-    ∷ file (programH ++ claim 1 ++ takeStep 0 ++ serialise 0 0 ++ takeStep 1) (reachable 3 0)
-    ∷ file (programH ++ claim 1 ++ takeStep 0 ++ serialise 0 0 ++ takeStep 2) (refused 15 2)
+    ∷ file (programH ++ fromZeros ++ takeStep 0 ++ serialise 0 0 ++ takeStep 1) (reachable 3 0)
+    ∷ file (programH ++ fromZeros ++ takeStep 0 ++ serialise 0 0 ++ takeStep 2) (refused 15 2)
     -- I: after that serialise sfence is permitted and mfence is not; after one update mfence is
-    ∷ file (programH ++ claim 1 ++ takeStep 0 ++ serialise 0 0 ++ takeStep 3) (reachable 3 0)
-    ∷ file (programH ++ claim 1 ++ takeStep 0 ++ serialise 0 0 ++ takeStep 4) (refused 17 2)
-    ∷ file (programH ++ claim 1 ++ takeStep 0 ++ serialise 0 0 ++ update 0 ++ takeStep 4) (reachable 4 0)
+    ∷ file (programH ++ fromZeros ++ takeStep 0 ++ serialise 0 0 ++ takeStep 3) (reachable 3 0)
+    ∷ file (programH ++ fromZeros ++ takeStep 0 ++ serialise 0 0 ++ takeStep 4) (refused 17 2)
+    ∷ file (programH ++ fromZeros ++ takeStep 0 ++ serialise 0 0 ++ update 0 ++ takeStep 4) (reachable 4 0)
     -- J
-    ∷ file (programJ ++ claim 1 ++ takeStep 0 ++ takeStep 1) (refused 16 1)
+    ∷ file (programJ ++ fromZeros ++ takeStep 0 ++ takeStep 1) (refused 16 1)
     -- 12: the nop of E a second time, in state 1; 18: what was serialised is serialised again, and no newer message is there
-    ∷ file (small ++ nop ++ target 1 0 ++ claim 1 ++ takeStep 0 ++ takeStep 0) (refused 12 1)
-    ∷ file (programH ++ claim 1 ++ takeStep 0 ++ serialise 0 0 ++ serialise 0 0) (refused 18 2)
-    ∷ file (programH ++ claim 1 ++ takeStep 0 ++ update 0) (refused 18 1)
+    ∷ file (small ++ nop ++ target 1 0 ++ fromZeros ++ takeStep 0 ++ takeStep 0) (refused 12 1)
+    ∷ file (programH ++ fromZeros ++ takeStep 0 ++ serialise 0 0 ++ serialise 0 0) (refused 18 2)
+    ∷ file (programH ++ fromZeros ++ takeStep 0 ++ update 0) (refused 18 1)
+    -- a run that needs a starting value other than 0
+    ∷ file (programN ++ claim 1 ++ starting 1 ++ takeStep 0) (reachable 1 0)
+    ∷ file (programN ++ fromZeros ++ takeStep 0) (refused 15 0)
+    -- a list that holds no start of cleared memory: its entry 4 is a start whose variable is 1
+    ∷ file (programN ++ claim 0 ++ four 1 ++ readsOne) (refused 10 4)
+    -- the file ends before the starting memory; another record stands there; it stands there twice, or in a list; a value that does not exist
+    ∷ file (programN ++ claim 1) (refused 6 22)
+    ∷ file (programN ++ claim 1 ++ takeStep 0) (refused 2 22)
+    ∷ file (programN ++ fromZeros ++ starting 0) (refused 2 27)
+    ∷ file (programN ++ claim 0 ++ starting 0) (refused 2 22)
+    ∷ file (programN ++ claim 1 ++ starting 255) (refused 4 22)
     -- K
     ∷ below (1 ∷ []) (0 ∷ 1 ∷ [])
     ∷ notBelow (1 ∷ []) (1 ∷ 0 ∷ [])
@@ -153,5 +185,5 @@ cases =
     ∷ file (small ++ target 1 0 ++ claim 0 ++ (16 ∷ 1 ∷ 0 ∷ 0 ∷ 0 ∷ 0 ∷ 0 ∷ 0 ∷ 0 ∷ []) ++ message) (refused 7 14)
     ∷ file [] (refused 6 0)
     ∷ file (small ++ target 1 0 ++ claim 0) (refused 9 0)
-    ∷ file (small ++ target 1 0 ++ claim 1) (refused 13 0)
+    ∷ file (small ++ target 1 0 ++ fromZeros) (refused 13 0)
     ∷ []

@@ -13,7 +13,7 @@ use Rattle.pws.specs.declared.Operation.{Operation}
 use Rattle.pws.specs.declared.Operation.the-variants.{Nop, Read, Write, Mfence, Sfence, Arw}
 use Rattle.pws.specs.Program.{Shape, Program, transition}
 use Rattle.pws.specs.Machine.{Configuration, newest, sees, may}
-use Rattle.pws.specs.Configurations.{ConfigurationOf, Start, InTarget}
+use Rattle.pws.specs.Configurations.{ConfigurationOf, startingMemory, Start, InTarget}
 use Rattle.pws.specs.Order.{Below}
 use Rattle.pws.specs.Entries.{AboveList}
 use Rattle.pws.specs.Sequences.{Takes, Visited, Answers}
@@ -31,41 +31,45 @@ pub record OfList (f : List ℕ) (area : ℕ) (F : Program → List (ℕ → ℕ
   pub reads : reading.readFile f area ≡ reading.list program targets entries
   pub holds : F program targets entries
 
--- they give a program, targets and steps, of which F holds
-pub record OfRun (f : List ℕ) (area : ℕ) (F : Program → List (ℕ → ℕ) → List Step → Type 0) : Type 0 where
+-- they give a program, targets, a starting memory and steps, of which F holds
+pub record OfRun (f : List ℕ) (area : ℕ) (F : Program → List (ℕ → ℕ) → List ℕ → List Step → Type 0) : Type 0 where
   pub program : Program
   pub targets : List (ℕ → ℕ)
+  pub memory : List ℕ
   pub steps : List Step
-  pub reads : reading.readFile f area ≡ reading.run program targets steps
-  pub holds : F program targets steps
+  pub reads : reading.readFile f area ≡ reading.run program targets memory steps
+  pub holds : F program targets memory steps
 
 -- ---- what the machine does with a run's steps
 
--- reachable: it takes every step in turn from a permitted start and ends in the target of number k, and in no lower one; n is the number of steps
-pub record Reaches (P : Program) (ts : List (ℕ → ℕ)) (ss : List Step) (n k : ℕ) : Type 0 where
+-- reachable: it takes every step in turn from a start with the memory m and ends in the target of number k, and in no lower one; n is the number of steps
+pub record Reaches (P : Program) (ts : List (ℕ → ℕ)) (m : List ℕ) (ss : List Step) (n k : ℕ) : Type 0 where
   pub count : n ≡ length ss
   pub start : Configuration
   pub permitted : Start P start
+  pub memory : startingMemory start ≡ m
   pub end : Configuration
   pub takes : Takes P start ss end
   pub exists : k < length ts
   pub met : InTarget (P .shape) (target ts k) end
   pub lower : (j : ℕ) → j < k → InTarget (P .shape) (target ts j) end → ⊥
 
--- from a permitted start it takes the steps before that of number k, and does not take that one for the reason F
-pub record Stops (F : Program → Configuration → Step → Type 0) (P : Program) (ss : List Step) (k : ℕ) : Type 0 where
+-- from a start with the memory m it takes the steps before that of number k, and does not take that one for the reason F
+pub record Stops (F : Program → Configuration → Step → Type 0) (P : Program) (m : List ℕ) (ss : List Step) (k : ℕ) : Type 0 where
   pub exists : k < length ss
   pub start : Configuration
   pub permitted : Start P start
+  pub memory : startingMemory start ≡ m
   pub before : Configuration
   pub takes : Takes P start (take k ss) before
   pub reason : F P before (getD ss k (Update 0))
 
--- 13: it takes every step in turn from a permitted start, and ends in no target; n is the number of steps
-pub record Misses (P : Program) (ts : List (ℕ → ℕ)) (ss : List Step) (n : ℕ) : Type 0 where
+-- 13: it takes every step in turn from a start with the memory m, and ends in no target; n is the number of steps
+pub record Misses (P : Program) (ts : List (ℕ → ℕ)) (m : List ℕ) (ss : List Step) (n : ℕ) : Type 0 where
   pub count : n ≡ length ss
   pub start : Configuration
   pub permitted : Start P start
+  pub memory : startingMemory start ≡ m
   pub end : Configuration
   pub takes : Takes P start ss end
   pub none : (j : ℕ) → j < length ts → InTarget (P .shape) (target ts j) end → ⊥
@@ -174,28 +178,28 @@ Refused11 = (f : List ℕ) (area k : ℕ) → (judged f area ≡ refused 11 k) �
 
 -- 12, 16, 17, 15 and 18: the machine takes the steps before number k, and step k fails for this reason first
 abbrev pub Refused12 : Type 0
-Refused12 = (f : List ℕ) (area k : ℕ) → (judged f area ≡ refused 12 k) ↔ OfRun f area (λ P ts ss. Stops OtherState P ss k)
+Refused12 = (f : List ℕ) (area k : ℕ) → (judged f area ≡ refused 12 k) ↔ OfRun f area (λ P ts m ss. Stops OtherState P m ss k)
 
 abbrev pub Refused16 : Type 0
-Refused16 = (f : List ℕ) (area k : ℕ) → (judged f area ≡ refused 16 k) ↔ OfRun f area (λ P ts ss. Stops QueueWaits P ss k)
+Refused16 = (f : List ℕ) (area k : ℕ) → (judged f area ≡ refused 16 k) ↔ OfRun f area (λ P ts m ss. Stops QueueWaits P m ss k)
 
 abbrev pub Refused17 : Type 0
-Refused17 = (f : List ℕ) (area k : ℕ) → (judged f area ≡ refused 17 k) ↔ OfRun f area (λ P ts ss. Stops PointerBehind P ss k)
+Refused17 = (f : List ℕ) (area k : ℕ) → (judged f area ≡ refused 17 k) ↔ OfRun f area (λ P ts m ss. Stops PointerBehind P m ss k)
 
 abbrev pub Refused15 : Type 0
-Refused15 = (f : List ℕ) (area k : ℕ) → (judged f area ≡ refused 15 k) ↔ OfRun f area (λ P ts ss. Stops OtherValue P ss k)
+Refused15 = (f : List ℕ) (area k : ℕ) → (judged f area ≡ refused 15 k) ↔ OfRun f area (λ P ts m ss. Stops OtherValue P m ss k)
 
 abbrev pub Refused18 : Type 0
-Refused18 = (f : List ℕ) (area k : ℕ) → (judged f area ≡ refused 18 k) ↔ OfRun f area (λ P ts ss. Stops NothingThere P ss k)
+Refused18 = (f : List ℕ) (area k : ℕ) → (judged f area ≡ refused 18 k) ↔ OfRun f area (λ P ts m ss. Stops NothingThere P m ss k)
 
 -- together: one of them is said of step k exactly when the machine takes the steps before it and cannot take it
 abbrev pub RefusedStep : Type 0
-RefusedStep = (f : List ℕ) (area k : ℕ) → ((n : ℕ) × StepNumber n × (judged f area ≡ refused n k)) ↔ OfRun f area (λ P ts ss. Stops Cannot P ss k)
+RefusedStep = (f : List ℕ) (area k : ℕ) → ((n : ℕ) × StepNumber n × (judged f area ≡ refused n k)) ↔ OfRun f area (λ P ts m ss. Stops Cannot P m ss k)
 
 -- 13
 
 abbrev pub Refused13 : Type 0
-Refused13 = (f : List ℕ) (area n : ℕ) → (judged f area ≡ refused 13 n) ↔ OfRun f area (λ P ts ss. Misses P ts ss n)
+Refused13 = (f : List ℕ) (area n : ℕ) → (judged f area ≡ refused 13 n) ↔ OfRun f area (λ P ts m ss. Misses P ts m ss n)
 
 -- and there is no other number
 abbrev pub NoOther : Type 0
@@ -207,13 +211,13 @@ NoOther = (f : List ℕ) (area n k : ℕ) → judged f area ≡ refused n k → 
 abbrev pub AcceptedList : Type 0
 AcceptedList = (f : List ℕ) (area n : ℕ) → (judged f area ≡ safe n) ↔ OfList f area (λ P ts es. (n ≡ length es) × SafeList P ts es)
 
--- a run, if and only if the machine can take every step in turn and stops in a target
+-- a run, if and only if the machine can take every step in turn from a start with the file's memory and stops in a target
 abbrev pub AcceptedRun : Type 0
-AcceptedRun = (f : List ℕ) (area n k : ℕ) → (judged f area ≡ reachable n k) ↔ OfRun f area (λ P ts ss. Reaches P ts ss n k)
+AcceptedRun = (f : List ℕ) (area n k : ℕ) → (judged f area ≡ reachable n k) ↔ OfRun f area (λ P ts m ss. Reaches P ts m ss n k)
 
 -- ---- demand 3
 
--- In a file that is accepted as safe, with whatever work area, no sequence of steps, of any length and from any permitted start, visits a
+-- In a file that is accepted as safe, with whatever work area, no sequence of steps, of any length and from any start of any memory, visits a
 -- configuration in a target, or one above the list: not at its start and not after any step that the machine takes.
 abbrev pub Safety : Type 0
 Safety = (f : List ℕ) (area n : ℕ) → judged f area ≡ safe n → OfList f area (λ P ts es.
@@ -229,4 +233,4 @@ abbrev pub Simulation : Type 0
 Simulation =
     (f : List ℕ) (area : ℕ) (P : Program) (ts : List (ℕ → ℕ))
     → ((es : List Configuration) → reading.readFile f area ≡ reading.list P ts es → Simulated P)
-    × ((ss : List Step) → reading.readFile f area ≡ reading.run P ts ss → Simulated P)
+    × ((m : List ℕ) (ss : List Step) → reading.readFile f area ≡ reading.run P ts m ss → Simulated P)

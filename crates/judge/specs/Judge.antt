@@ -42,7 +42,7 @@ ofRun (Missed n) = refused 13 n
 abbrev pub FileJudged : reading.FileRead → Verdict → Type 0
 FileJudged (reading.refused r) v = v ≡ refused (r .number) (r .place)
 FileJudged (reading.list P ts es) v = (l : lists.ListVerdict) × lists.ListJudged P ts es l × (v ≡ ofList l)
-FileJudged (reading.run P ts ss) v = v ≡ ofRun (runAnswer P ts ss)
+FileJudged (reading.run P ts m ss) v = v ≡ ofRun (runAnswer P ts m ss)
 
 -- v is the verdict of the file f, with a work area of so many bytes
 unfoldable pub Judged : List ℕ → ℕ → Verdict → Type 0
@@ -52,7 +52,7 @@ Judged f area v = FileJudged (reading.readFile f area) v
 abbrev pub ofFile : reading.FileRead → Verdict
 ofFile (reading.refused r) = refused (r .number) (r .place)
 ofFile (reading.list P ts es) = ofList (decision.verdictOf P ts es)
-ofFile (reading.run P ts ss) = ofRun (runAnswer P ts ss)
+ofFile (reading.run P ts m ss) = ofRun (runAnswer P ts m ss)
 
 unfoldable pub judged : List ℕ → ℕ → Verdict
 judged f area = ofFile (reading.readFile f area)

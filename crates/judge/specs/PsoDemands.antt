@@ -4,23 +4,20 @@ use Prim.Native.Nat.{ℕ, _<_}
 use mathlib.Core.Path.{_≡_}
 use mathlib.Core.List.{List}
 use lib.ListN.{length}
-use Rattle.pws.specs.Configurations.{StartingMemory}
 use Rattle.lists.specs.Verdict.{target}
 use Rattle.pso.specs.declared.PsoStep.{PsoStep}
 use Rattle.pso.specs.Machine.{PsoConfiguration}
 use Rattle.pso.specs.Runs.{PsoStart, PsoVisited, PsoInTarget, PsoReachable}
-use Rattle.equivalence.specs.Equivalence.{startingMemory}
 use Rattle.judge.specs.Judge.{safe, reachable, judged}
-use Rattle.judge.specs.Demands.{OfList, OfRun, Reaches}
+use Rattle.judge.specs.Demands.{OfList, OfRun}
 
--- In a file that is accepted as safe, with whatever work area, no sequence of steps of the PSO machine, of any length and from any permitted
+-- In a file that is accepted as safe, with whatever work area, no sequence of steps of the PSO machine, of any length and from any
 -- memory, visits a configuration in a target: not at its start and not after any step that the machine takes.
 abbrev pub PsoSafety : Type 0
 PsoSafety = (f : List ℕ) (area n : ℕ) → judged f area ≡ safe n → OfList f area (λ P ts es.
-    (memory : List ℕ) → StartingMemory P memory → (d : PsoConfiguration) → PsoStart P memory d → (us : List PsoStep) (e : PsoConfiguration) → PsoVisited P d us e
+    (memory : List ℕ) (d : PsoConfiguration) → PsoStart P memory d → (us : List PsoStep) (e : PsoConfiguration) → PsoVisited P d us e
     → (k : ℕ) → k < length ts → PsoInTarget (P .shape) (target ts k) e → ⊥)
 
--- In a file that is accepted as reachable, the run starts from a memory from which a run of the PSO machine reaches the same target.
+-- In a file that is accepted as reachable, a run of the PSO machine reaches the same target from the file's memory.
 abbrev pub PsoReachability : Type 0
-PsoReachability = (f : List ℕ) (area n k : ℕ) → judged f area ≡ reachable n k → OfRun f area (λ P ts ss.
-    (r : Reaches P ts ss n k) × PsoReachable P (startingMemory (r .start)) (target ts k))
+PsoReachability = (f : List ℕ) (area n k : ℕ) → judged f area ≡ reachable n k → OfRun f area (λ P ts m ss. PsoReachable P m (target ts k))

@@ -243,7 +243,7 @@ zeroMessage m = record { process = m .process; variable = m .variable; snapshot 
 fill-zero : (x : ℕ) → Fill x (zeroed x)
 fill-zero x = elim (ℕ-discrete x FF) [ yes e ↦ inl e | no e ↦ rw (ne-eqb x FF e) (inr refl) ]
 
-fill-zeros : (xs : List ℕ) → FillValues xs (map zeroed xs)
+pub fill-zeros : (xs : List ℕ) → FillValues xs (map zeroed xs)
 fill-zeros [] = values-nil
 fill-zeros (x ∷ xs) = values-cons (fill-zero x) (fill-zeros xs)
 

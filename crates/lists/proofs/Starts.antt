@@ -1,31 +1,29 @@
 -- Number 10: a start is above an entry exactly when the entry looks started (theory, section 4). Some pointer of the entry is 1.
 use Prim.Native.Nat.{ℕ, _<_, _≤_}
 use mathlib.Core.Path.{_≡_, refl, sym, ap, subst, _∙_}
-use mathlib.Core.Logic.{inr, _↔_}
+use mathlib.Core.Logic.{_↔_}
 use mathlib.Core.Bool.{Bool, _&&_}
 use mathlib.Core.List.{List, [], _∷_}
 use native.Mathlib.Omega.{arith}
-use native.Mathlib.Decide.{decLe, decLt}
-use lib.ListN.{length, getD}
+use native.Mathlib.Decide.{decLe}
+use lib.ListN.{length}
 use lib.Dec.{T, eqb}
 use mir.Facts.{and-yes, yes-and, yes-eqb, eqb-yes}
-use Rattle.pws.specs.declared.Message.{Message}
 use Rattle.pws.specs.Program.{Shape, Program, ProgramInRange}
 use Rattle.pws.specs.Machine.{Memory, Configuration, message, isEmpty, allBelow, noneWaiting}
 use Rattle.pws.specs.Configurations.{startWith, inTarget}
 use Rattle.pws.specs.Order.{Live}
-use Rattle.pws.specs.Entries.{EntryOf, Fill, values-nil}
+use Rattle.pws.specs.Entries.{EntryOf, values-nil}
 use Rattle.pws.proofs.Queues.{queue-to, queued-empty}
 use Rattle.pws.proofs.Preorder.{maps-refl, queue-refl}
 use Rattle.pws.proofs.Insertion.{maps-right}
 use Rattle.pws.proofs.Starts.{start-exists}
 use Rattle.pws.proofs.Cases.{all-yes}
 use Rattle.lists.specs.Cubes.{memoryOf}
-use Rattle.lists.specs.Values.{fills}
 use Rattle.lists.specs.Verdict.{NoStartAbove, StartAbove}
 use Rattle.lists.specs.Decision.{looksStarted}
 use Rattle.lists.proofs.Lists.{yes-all}
-use Rattle.lists.proofs.Fillings.{fills-yes, yes-fills, fill-at, fill-each, channel-length, channel-at, channel-each}
+use Rattle.lists.proofs.Fillings.{zeroMessage, fill-zeros, message-zero, channel-length, channel-each}
 use Rattle.lists.proofs.Queues.{fill-empty}
 use Rattle.lists.proofs.Covering.{above-over}
 
@@ -34,32 +32,27 @@ record Looks (P : Program) (e : Configuration) : Type 0 where
   states : (p : ℕ) → p < P .shape .processes → e .state p ≡ P .initial p
   queues : (p v : ℕ) → p < P .shape .processes → v < P .shape .variables → T (isEmpty (e .queue p v))
   one : length (e .memory .channel) ≡ 1
-  values : (v : ℕ) → v < P .shape .variables → Fill (getD (message (e .memory .channel) 1 .snapshot) v 0) 0
 
 looks : (P : Program) (e : Configuration) → T (looksStarted P e) ↔ Looks P e
 looks P e =
     let S = P .shape in
-    let value : ℕ → ℕ = λ v. getD (message (e .memory .channel) 1 .snapshot) v 0 in
     let states : ℕ → Bool = λ p. eqb (e .state p) (P .initial p) in
     let empty : ℕ → ℕ → Bool = λ p v. isEmpty (e .queue p v) in
     let A = inTarget S (P .initial) e in
     let B = allBelow (S .processes) (noneWaiting S e) in
-    let C = eqb (length (e .memory .channel)) 1 in
-    let D = allBelow (S .variables) (λ v. fills (value v) 0) in (
+    let C = eqb (length (e .memory .channel)) 1 in (
       λ t.
-          let x = and-yes (A && B) (C && D) t in
+          let x = and-yes (A && B) C t in
           let y = and-yes A B (x .0) in
-          let z = and-yes C D (x .1) in
           record {
             states = λ p a. eqb-yes (all-yes (S .processes) states (y .0) p a);
             queues = λ p v a b. all-yes (S .variables) (empty p) (all-yes (S .processes) (noneWaiting S e) (y .1) p a) v b;
-            one = eqb-yes (z .0);
-            values = λ v b. fills-yes (value v) 0 (all-yes (S .variables) (λ v. fills (value v) 0) (z .1) v b);
+            one = eqb-yes (x .1);
           },
-      λ l. yes-and (A && B) (C && D)
+      λ l. yes-and (A && B) C
           (yes-and A B (yes-all (S .processes) states (λ p a. yes-eqb (l .states p a)))
           (yes-all (S .processes) (noneWaiting S e) (λ p a. yes-all (S .variables) (empty p) (λ v b. l .queues p v a b))))
-          (yes-and C D (yes-eqb (l .one)) (yes-all (S .variables) (λ v. fills (value v) 0) (λ v b. yes-fills (value v) 0 (l .values v b)))),
+          (yes-eqb (l .one)),
     )
 
 is-nil : (xs : List ℕ) → T (isEmpty xs) → xs ≡ []
@@ -87,17 +80,17 @@ module _ (P : Program) (R : ProgramInRange P) (e : Configuration) (oe : EntryOf 
           | yes b ↦ let l2 = live 2 (omega arith) b in absurd (omega (arith, A .below .maps .rises 1 2 l1 l2 (omega arith), to 1 l1, to 2 l2))
           | no b ↦ omega (arith, channel-length (A .filling .channel))
         ];
-        values = λ v b. subst (Fill (getD (message (e .memory .channel) 1 .snapshot) v 0))
-            (ap (λ (m : Message). getD (m .snapshot) v 0) (A .below .maps .equal 1 l1 ∙ ap (message (c .memory .channel)) (to 1 l1)) ∙ s .starting v b)
-            (fill-at (channel-at (A .filling .channel) 1 .snapshot) v);
       }
 
   looks-above : Looks P e → StartAbove P e
   looks-above l =
       let m = message (e .memory .channel) 1 in
       let o = oe .fits .memory .messages 1 (omega arith) (omega (arith, l .one)) in
-      let c = startWith P (m .process) (m .variable) in
-      let s = start-exists P R (m .process) (m .variable) (o .process) (o .variable) in
+      -- 0 where the entry has FF
+      let w = zeroMessage m in
+      let i = message-zero S (R .shape) m o in
+      let c = startWith P (w .snapshot) (m .process) (m .variable) in
+      let s = start-exists P R (w .snapshot) (record { room = i .room; values = i .values; absent = i .absent }) (m .process) (m .variable) (o .process) (o .variable) in
       let z = e .memory .pointer in
       let k : Memory = memoryOf (c .memory .channel) z in
       record {
@@ -114,10 +107,7 @@ module _ (P : Program) (R : ProgramInRange P) (e : Configuration) (oe : EntryOf 
                     (record {
                       process = refl;
                       variable = refl;
-                      snapshot = fill-each (m .snapshot) (0 ∷ 0 ∷ 0 ∷ 0 ∷ []) (o .room) (λ v b. elim (decLt v (S .variables)) [
-                        | yes w ↦ subst (Fill (getD (m .snapshot) v 0)) (sym (s .starting v w)) (l .values v w)
-                        | no w ↦ inr (o .absent v (omega arith) ∙ sym (s .configuration .fits .memory .messages 1 (omega arith) (omega arith) .absent v (omega arith)))
-                      ]);
+                      snapshot = fill-zeros (m .snapshot);
                     }));
                 h = λ i. i;
                 maps = maps-right S k (c .memory .pointer) (λ p a. omega (arith, oe .fits .memory .low p a, oe .fits .memory .high p a, l .one, s .pointers p a)) (maps-refl S k);

@@ -3,10 +3,10 @@ use Prim.Native.Nat.{ℕ}
 use mathlib.Core.Bool.{Bool, true, false, _&&_, not}
 use mathlib.Core.Option.{none, some}
 use mathlib.Core.List.{List, [], _∷_}
-use lib.ListN.{length, getD}
+use lib.ListN.{length}
 use lib.Dec.{eqb}
 use Rattle.pws.specs.Program.{Shape, Program}
-use Rattle.pws.specs.Machine.{Configuration, message, allBelow, noneWaiting}
+use Rattle.pws.specs.Machine.{Configuration, allBelow, noneWaiting}
 use Rattle.pws.specs.Configurations.{inTarget}
 use Rattle.pws.specs.Entries.{FF}
 use Rattle.lists.specs.Verdict.{ListVerdict, safe, unheld, started, entered}
@@ -39,11 +39,10 @@ held S es c = heldAt S es (places S c) c
 abbrev pub targetHeld : Program → List Configuration → (ℕ → ℕ) → Bool
 targetHeld P es t = every (held (P .shape) es) (shapeCubes (P .shape) t)
 
--- number 10: initial states, no waiting value, one message, and FF or 0 at each variable (theory, section 4)
+-- number 10: initial states, no waiting value and one message; a start has any values (theory, section 4)
 abbrev pub looksStarted : Program → Configuration → Bool
 looksStarted P e =
-    (inTarget (P .shape) (P .initial) e && allBelow (P .shape .processes) (noneWaiting (P .shape) e))
-    && (eqb (length (e .memory .channel)) 1 && allBelow (P .shape .variables) (λ v. fills (getD (message (e .memory .channel) 1 .snapshot) v 0) 0))
+    (inTarget (P .shape) (P .initial) e && allBelow (P .shape .processes) (noneWaiting (P .shape) e)) && eqb (length (e .memory .channel)) 1
 
 -- number 11
 abbrev pub closed : Program → List Configuration → Configuration → Bool

@@ -122,6 +122,22 @@ stateAt f at p = cond (ltb p 4) (byte f (at + (1 + p))) 0
 unfoldable pub claimNumber : List ℕ → ℕ → ℕ
 claimNumber f at = firstNumber (not (isKind f at 15)) (cut f at 1) false false (not (leb (byte f (at + 1)) 1))
 
+-- ---- 1F: the memory that a run starts from, four values (document 02, N3)
+
+-- a value of an existing variable, and 0 for a variable that the shape does not have
+unfoldable pub startName : Shape → ℕ → ℕ → Bool
+startName s v x = cond (ltb v (s .variables)) (ltb x (valueCount s v)) (eqb x 0)
+
+unfoldable pub startNames : Shape → List ℕ → ℕ → Bool
+startNames s f at =
+    startName s 0 (byte f (at + 1)) && (startName s 1 (byte f (at + 2)) && (startName s 2 (byte f (at + 3)) && startName s 3 (byte f (at + 4))))
+
+unfoldable pub startNumber : Shape → List ℕ → ℕ → ℕ
+startNumber s f at = firstNumber (not (isKind f at 31)) (cut f at 4) false false (not (startNames s f at))
+
+abbrev pub memoryAt : List ℕ → ℕ → List ℕ
+memoryAt f at = byte f (at + 1) ∷ byte f (at + 2) ∷ byte f (at + 3) ∷ byte f (at + 4) ∷ []
+
 -- ---- 20, 21, 22: transition number; serialise process, variable; update process; at most 1,024 in all
 
 abbrev pub isStep : List ℕ → ℕ → Bool

@@ -1,24 +1,18 @@
 -- Starts, sequences of steps and targets of the PSO machine (report, 4.1 and 4.2).
-use Prim.Native.Nat.{ℕ, suc, _<_, _≤_}
+use Prim.Native.Nat.{ℕ, suc, _<_}
 use mathlib.Core.Path.{_≡_}
 use mathlib.Core.Bool.{Bool, true, false}
 use mathlib.Core.List.{List, [], _∷_}
-use lib.ListN.{length, getD}
 use lib.Dec.{T, eqb}
 use Rattle.pws.specs.Program.{Shape, Program}
 use Rattle.pws.specs.Machine.{allBelow}
+use Rattle.pws.specs.Configurations.{StartingMemory}
 use Rattle.pso.specs.declared.PsoStep.{PsoStep}
 use Rattle.pso.specs.Machine.{PsoConfiguration, psoMay, psoAfter}
 
--- a memory that a run may start from: any value in each variable, and 0 in the room of those that the shape does not have
-pub record MemoryOf (S : Shape) (memory : List ℕ) : Type 0 where
-  pub room : length memory ≡ 4
-  pub values : (v : ℕ) → v < S .variables → getD memory v 0 < S .values v
-  pub absent : (v : ℕ) → S .variables ≤ v → getD memory v 0 ≡ 0
-
 -- a start with this memory: initial local states, empty buffers
 pub record PsoStart (P : Program) (memory : List ℕ) (d : PsoConfiguration) : Type 0 where
-  pub permitted : MemoryOf (P .shape) memory
+  pub permitted : StartingMemory (P .shape) memory
   pub states : (p : ℕ) → p < P .shape .processes → d .state p ≡ P .initial p
   pub buffers : (p v : ℕ) → p < P .shape .processes → v < P .shape .variables → d .buffer p v ≡ []
   pub starts : d .memory ≡ memory

@@ -11,12 +11,13 @@ use lib.Dec.{T, eqb, eqb→eq}
 use mir.Facts.{yes-and}
 use Rattle.pws.specs.Program.{Shape, Program, ProgramInRange}
 use Rattle.pws.specs.Machine.{allBelow}
+use Rattle.pws.specs.Configurations.{StartingMemory}
 use Rattle.pws.proofs.Facts.{T-eq}
 use Rattle.pws.proofs.Cases.{all-yes}
 use Rattle.pso.specs.declared.PsoStep.{PsoStep}
 use Rattle.pso.specs.declared.PsoStep.the-variants.{RemoveMark}
 use Rattle.pso.specs.Machine.{PsoConfiguration, psoMay, psoAfter}
-use Rattle.pso.specs.Runs.{MemoryOf, PsoStart, psoStartWith, PsoTakes, done, step, PsoInTarget, psoInTarget}
+use Rattle.pso.specs.Runs.{PsoStart, psoStartWith, PsoTakes, done, step, PsoInTarget, psoInTarget}
 use Rattle.replay.specs.declared.step.Answer.{Answer}
 use Rattle.replay.specs.declared.step.Answer.the-variants.{Permitted, Refused}
 use Rattle.replay.specs.declared.run.RunAnswer.{RunAnswer}
@@ -149,7 +150,7 @@ module _ (P : Program) (R : ProgramInRange P) (memory : List ℕ) (ts : List (�
   start-alike d s = record { states = s .states; buffers = s .buffers; memory = s .starts }
 
   -- the computed answer is one
-  pub pso-answered : MemoryOf (P .shape) memory → PsoAnswered P memory ts us (psoRunAnswer P memory ts us)
+  pub pso-answered : StartingMemory (P .shape) memory → PsoAnswered P memory ts us (psoRunAnswer P memory ts us)
   pso-answered o = go (psoRunAnswer P memory ts us) (from-answer P ts (length us) us 0 (psoStartWith P memory))
     where
       begins : PsoStart P memory (psoStartWith P memory)

@@ -10,7 +10,7 @@ use mir.Facts.{and-yes}
 use Rattle.pws.specs.declared.Step.{Step}
 use Rattle.pws.specs.Program.{Shape, Program}
 use Rattle.pws.specs.Machine.{Configuration, allBelow, may, after}
-use Rattle.pws.specs.Configurations.{Start, startWith, InTarget, inTarget}
+use Rattle.pws.specs.Configurations.{Start, startingMemory, startWith, InTarget, inTarget}
 use Rattle.pws.specs.Order.{QueueBelow, Maps}
 use Rattle.pws.specs.Sequences.{Takes, done, step, Replay, ended, stopped, replay}
 use Rattle.pws.specs.Cases.{Row, ends, stops, below, notBelow, notMapped, Holds, programH, messages, Each, no-row, row, cases}
@@ -23,14 +23,14 @@ all-yes (suc n) f t i l =
     let r = and-yes (allBelow n f) (f n) t in
     elim (ℕ-discrete i n) [ yes e ↦ rw e (r .1) | no e ↦ all-yes n f (r .0) i (omega arith) ]
 
--- what holds for each label holds for each start
-each-start : (P : Program) (test : Configuration → Bool) → T (allBelow (P .shape .processes) (λ p. allBelow (P .shape .variables) (λ v. test (startWith P p v))))
-    → (c : Configuration) → Start P c → T (test c)
-each-start P test t c s =
-    let r = start-is P c s in
+-- what holds for each label holds for each start with this memory
+each-start : (P : Program) (m : List ℕ) (test : Configuration → Bool) → T (allBelow (P .shape .processes) (λ p. allBelow (P .shape .variables) (λ v. test (startWith P m p v))))
+    → (c : Configuration) → Start P c → startingMemory c ≡ m → T (test c)
+each-start P m test t c s e =
+    let r = start-is P m c s e in
     subst (λ (d : Configuration). T (test d)) (sym (r .same))
-    (all-yes (P .shape .variables) (λ v. test (startWith P (r .process) v))
-    (all-yes (P .shape .processes) (λ p. allBelow (P .shape .variables) (λ v. test (startWith P p v))) t (r .process) (r .processExists)) (r .variable) (r .variableExists))
+    (all-yes (P .shape .variables) (λ v. test (startWith P m (r .process) v))
+    (all-yes (P .shape .processes) (λ p. allBelow (P .shape .variables) (λ v. test (startWith P m p v))) t (r .process) (r .processExists)) (r .variable) (r .variableExists))
 
 -- ---- tests of a replay
 
@@ -62,22 +62,22 @@ target-is S t c y p l = eqb→eq (c .state p) (t p) (all-yes (S .processes) (λ 
 
 -- ---- rows
 
-abbrev labels : Program → (Configuration → Bool) → Bool
-labels P test = allBelow (P .shape .processes) (λ p. allBelow (P .shape .variables) (λ v. test (startWith P p v)))
+abbrev labels : Program → List ℕ → (Configuration → Bool) → Bool
+labels P m test = allBelow (P .shape .processes) (λ p. allBelow (P .shape .variables) (λ v. test (startWith P m p v)))
 
 test : Row → Bool
-test (ends P ss q) = labels P (λ c. endsIn (P .shape) (λ p. q) (replay P 0 c ss))
-test (stops P ss k) = labels P (λ c. stopsAt k (replay P 0 c ss))
+test (ends P m ss q) = labels P m (λ c. endsIn (P .shape) (λ p. q) (replay P 0 c ss))
+test (stops P m ss k) = labels P m (λ c. stopsAt k (replay P 0 c ss))
 test (below xs ys) = false
 test (notBelow xs ys) = false
 test (notMapped S m n) = false
 
 run : (r : Row) → T (test r) → Holds r
 unfolding test Holds
-run (ends P ss q) t = λ c s.
-    let r = takes-all P ss 0 c (λ p. q) (each-start P (λ c. endsIn (P .shape) (λ p. q) (replay P 0 c ss)) t c s) in
+run (ends P m ss q) t = λ c s e.
+    let r = takes-all P ss 0 c (λ p. q) (each-start P m (λ c. endsIn (P .shape) (λ p. q) (replay P 0 c ss)) t c s e) in
     (r .0, r .1, target-is (P .shape) (λ p. q) (r .0) (r .2))
-run (stops P ss k) t = λ c s. stops-is k (replay P 0 c ss) (each-start P (λ c. stopsAt k (replay P 0 c ss)) t c s)
+run (stops P m ss k) t = λ c s e. stops-is k (replay P 0 c ss) (each-start P m (λ c. stopsAt k (replay P 0 c ss)) t c s e)
 run (below xs ys) t = absurd t
 run (notBelow xs ys) t = absurd t
 run (notMapped S m n) t = absurd t
@@ -104,6 +104,8 @@ cases-hold =
     (row (run _ tt)
     (row (run _ tt)
     (row (run _ tt)
+    (row (run _ tt)
+    (row (run _ tt)
     (row K-below
     (row K-not-below
-    (row unmatched no-row)))))))))
+    (row unmatched no-row)))))))))))

@@ -1,4 +1,4 @@
--- There is a permitted start for each label, and every permitted start is one of these.
+-- There is a start for each memory and label, and every start is one of these.
 use Prim.Native.Nat.{ℕ, zero, suc, _<_, _≤_}
 use mathlib.Core.Path.{_≡_, refl, sym, ap, subst, _∙_, fun-ext}
 use mathlib.Core.Logic.{_⊎_, inl, inr, ⊎-elim}
@@ -7,13 +7,12 @@ use mathlib.Core.List.{List, [], _∷_}
 use native.Mathlib.Omega.{arith}
 use native.Mathlib.Decide.{decLt}
 use lib.ListN.{length, getD}
-use lib.Seq.{ext-getD}
 use lib.Dec.{ltb}
 use borrow.Author.Tests.{lt-ltb, le-ltb}
 use Rattle.pws.specs.declared.Message.{Message}
 use Rattle.pws.specs.Program.{Shape, Program, ProgramInRange}
 use Rattle.pws.specs.Machine.{Memory, Configuration, message}
-use Rattle.pws.specs.Configurations.{MessageIn, ValueOf, Start, startWith}
+use Rattle.pws.specs.Configurations.{MessageIn, ValueOf, StartingMemory, startingMemory, Start, startWith}
 
 -- a value for the processes that exist, and 0 for the others
 pub exists-same : (n : ℕ) (f g : ℕ → ℕ) → ((p : ℕ) → p < n → f p ≡ g p) → ((p : ℕ) → n ≤ p → f p ≡ 0) → f ≡ (λ p. cond (ltb p n) (g p) 0)
@@ -29,20 +28,14 @@ exists-at n g p l = rw (lt-ltb p n l)
 absent-at : (n : ℕ) (g : ℕ → ℕ) (p : ℕ) → n ≤ p → cond (ltb p n) (g p) 0 ≡ 0
 absent-at n g p l = rw (le-ltb p n l)
 
-zeros-at : (v : ℕ) → _≡_ {A = ℕ} (getD (0 ∷ 0 ∷ 0 ∷ 0 ∷ []) v 0) 0
-zeros-at zero = refl
-zeros-at (suc zero) = refl
-zeros-at (suc (suc zero)) = refl
-zeros-at (suc (suc (suc zero))) = refl
-zeros-at (suc (suc (suc (suc v)))) = refl
-
 one-message : (m : Message) (i : ℕ) → 1 ≤ i → i ≤ 1 → message (m ∷ []) i ≡ m
 one-message m i a b = let e : i ≡ 1 = omega arith in ap (message (m ∷ [])) e
 
-pub start-exists : (P : Program) → ProgramInRange P → (p v : ℕ) → p < P .shape .processes → v < P .shape .variables → Start P (startWith P p v)
-start-exists P R p v pe ve =
+pub start-exists : (P : Program) → ProgramInRange P → (memory : List ℕ) → StartingMemory (P .shape) memory → (p v : ℕ) → p < P .shape .processes
+    → v < P .shape .variables → Start P (startWith P memory p v)
+start-exists P R memory m p v pe ve =
     let n = P .shape .processes in
-    let first : Message = record { process = p; variable = v; snapshot = 0 ∷ 0 ∷ 0 ∷ 0 ∷ [] } in
+    let first : Message = record { process = p; variable = v; snapshot = memory } in
     record {
       configuration =
           record {
@@ -62,9 +55,9 @@ start-exists P R p v pe ve =
                             (record {
                               process = pe;
                               variable = ve;
-                              room = refl;
-                              values = λ u ue. rw (zeros-at u) (R .shape .someValue u ue);
-                              absent = λ u l. zeros-at u;
+                              room = m .room;
+                              values = m .values;
+                              absent = m .absent;
                             });
                         absent = λ q l. absent-at n (λ q. 1) q l;
                       };
@@ -74,33 +67,33 @@ start-exists P R p v pe ve =
       states = λ q e. exists-at n (P .initial) q e;
       queues = λ q u e f. refl;
       one = refl;
-      starting = λ u ue. zeros-at u;
       pointers = λ q e. exists-at n (λ q. 1) q e;
     }
 
-pub record StartsWith (P : Program) (c : Configuration) : Type 0 where
+pub record StartsWith (P : Program) (memory : List ℕ) (c : Configuration) : Type 0 where
   pub process : ℕ
   pub variable : ℕ
   pub processExists : process < P .shape .processes
   pub variableExists : variable < P .shape .variables
-  pub same : c ≡ startWith P process variable
+  pub same : c ≡ startWith P memory process variable
 
 one-channel : (ms : List Message) → length ms ≡ 1 → ms ≡ message ms 1 ∷ []
 one-channel [] e = absurd (omega arith)
 one-channel (m ∷ []) e = refl
 one-channel (m ∷ n ∷ ms) e = absurd (omega arith)
 
-pub start-is : (P : Program) (c : Configuration) → Start P c → StartsWith P c
-start-is P c s =
+-- the memory of a start is one that a run may start from
+pub start-memory : (P : Program) (c : Configuration) → Start P c → StartingMemory (P .shape) (startingMemory c)
+start-memory P c s =
+    let o = s .configuration .fits .memory .messages 1 (omega arith) (omega (arith, s .one)) in
+    record { room = o .room; values = o .values; absent = o .absent }
+
+pub start-is : (P : Program) (memory : List ℕ) (c : Configuration) → Start P c → startingMemory c ≡ memory → StartsWith P memory c
+start-is P memory c s same =
     let m = message (c .memory .channel) 1 in
     let o = s .configuration .fits .memory .messages 1 (omega arith) (omega (arith, s .one)) in
-    let zeros : m .snapshot ≡ 0 ∷ 0 ∷ 0 ∷ 0 ∷ [] =
-    ext-getD 0 (m .snapshot) (0 ∷ 0 ∷ 0 ∷ 0 ∷ []) (o .room) (λ v l. elim (decLt v (P .shape .variables)) [
-      | yes e ↦ s .starting v e ∙ sym (zeros-at v)
-      | no e ↦ o .absent v (omega arith) ∙ sym (zeros-at v)
-    ]) in
-    let channel : c .memory .channel ≡ record { process = m .process; variable = m .variable; snapshot = 0 ∷ 0 ∷ 0 ∷ 0 ∷ [] } ∷ [] =
-    one-channel (c .memory .channel) (s .one) ∙ ap (λ (w : List ℕ). record { process = m .process; variable = m .variable; snapshot = w } ∷ []) zeros in
+    let channel : c .memory .channel ≡ record { process = m .process; variable = m .variable; snapshot = memory } ∷ [] =
+    one-channel (c .memory .channel) (s .one) ∙ ap (λ (w : List ℕ). record { process = m .process; variable = m .variable; snapshot = w } ∷ []) same in
     let states = exists-same (P .shape .processes) (c .state) (P .initial) (s .states) (s .configuration .states .absent) in
     let pointers = exists-same (P .shape .processes) (c .memory .pointer) (λ q. 1) (s .pointers) (s .configuration .fits .memory .absent) in
     let queues : c .queue ≡ (λ p v. []) = fun-ext (λ p. fun-ext (λ v. elim (decLt p (P .shape .processes)) [

@@ -12,27 +12,27 @@ use Rattle.pws.specs.declared.Step.{Step}
 use Rattle.pws.specs.declared.Step.the-variants.{Take, Serialise, Update}
 use Rattle.pws.specs.Program.{Shape, Program}
 use Rattle.pws.specs.Machine.{Memory, Configuration}
-use Rattle.pws.specs.Configurations.{Start, InTarget}
+use Rattle.pws.specs.Configurations.{Start, startingMemory, InTarget}
 use Rattle.pws.specs.Order.{QueueBelow, Maps}
 use Rattle.pws.specs.Sequences.{Takes, replay, Replay, stopped}
 
 -- ---- rows and what they say
 
 pub data Row : Type 0 where
-  -- the machine takes these steps and ends with all processes in this local state
-  ends : Program → List Step → ℕ → Row
-  -- the machine cannot take the step of this number
-  stops : Program → List Step → ℕ → Row
+  -- from this memory the machine takes these steps and ends with all processes in this local state
+  ends : Program → List ℕ → List Step → ℕ → Row
+  -- from this memory the machine cannot take the step of this number
+  stops : Program → List ℕ → List Step → ℕ → Row
   -- the first queue is below the second, or is not
   below : List ℕ → List ℕ → Row
   notBelow : List ℕ → List ℕ → Row
   -- no map takes the first memory's messages to the second's
   notMapped : Shape → Memory → Memory → Row
 
--- runs are from every permitted start
+-- runs are from every start with the memory
 unfoldable pub Holds : Row → Type 0
-Holds (ends P ss q) = (c : Configuration) → Start P c → (d : Configuration) × Takes P c ss d × InTarget (P .shape) (λ p. q) d
-Holds (stops P ss k) = (c : Configuration) → Start P c → replay P 0 c ss ≡ stopped k
+Holds (ends P m ss q) = (c : Configuration) → Start P c → startingMemory c ≡ m → (d : Configuration) × Takes P c ss d × InTarget (P .shape) (λ p. q) d
+Holds (stops P m ss k) = (c : Configuration) → Start P c → startingMemory c ≡ m → replay P 0 c ss ≡ stopped k
 Holds (below xs ys) = QueueBelow xs ys
 Holds (notBelow xs ys) = QueueBelow xs ys → ⊥
 Holds (notMapped S m n) = (h : ℕ → ℕ) → Maps S m n h → ⊥
@@ -64,7 +64,14 @@ programJ = program 2 2 (step 0 0 (Write 0 1) ∷ step 0 1 Sfence ∷ step 0 2 (W
 abbrev pub programH : Program
 programH = program 1 1 (step 0 0 (Write 0 1) ∷ step 0 1 (Read 0 1) ∷ step 0 1 (Read 0 0) ∷ step 0 1 Sfence ∷ step 0 1 Mfence ∷ [])
 
+-- one process reads 1
+abbrev pub programN : Program
+programN = program 1 1 (step 0 0 (Read 0 1) ∷ [])
+
 -- ---- the memories
+
+abbrev pub zeros : List ℕ
+zeros = 0 ∷ 0 ∷ 0 ∷ 0 ∷ []
 
 -- message i has the value i - 1 and the label (0, 0)
 abbrev counting : ℕ → List Message
@@ -84,16 +91,19 @@ pub data Each (F : Row → Type 0) : List Row → Type 0 where
 abbrev pub cases : List Row
 cases =
     -- G
-    ends programG (Take 0 ∷ Take 1 ∷ Serialise 0 1 ∷ Update 1 ∷ Take 2 ∷ Take 3 ∷ []) 2
+    ends programG zeros (Take 0 ∷ Take 1 ∷ Serialise 0 1 ∷ Update 1 ∷ Take 2 ∷ Take 3 ∷ []) 2
     -- H: read 1 with the pointer still at 1; reading 0 there is not permitted
-    ∷ ends programH (Take 0 ∷ Serialise 0 0 ∷ Take 1 ∷ []) 2
-    ∷ stops programH (Take 0 ∷ Serialise 0 0 ∷ Take 2 ∷ []) 2
+    ∷ ends programH zeros (Take 0 ∷ Serialise 0 0 ∷ Take 1 ∷ []) 2
+    ∷ stops programH zeros (Take 0 ∷ Serialise 0 0 ∷ Take 2 ∷ []) 2
     -- I: after that serialise sfence is permitted and mfence is not; after one update mfence is
-    ∷ ends programH (Take 0 ∷ Serialise 0 0 ∷ Take 3 ∷ []) 2
-    ∷ stops programH (Take 0 ∷ Serialise 0 0 ∷ Take 4 ∷ []) 2
-    ∷ ends programH (Take 0 ∷ Serialise 0 0 ∷ Update 0 ∷ Take 4 ∷ []) 2
+    ∷ ends programH zeros (Take 0 ∷ Serialise 0 0 ∷ Take 3 ∷ []) 2
+    ∷ stops programH zeros (Take 0 ∷ Serialise 0 0 ∷ Take 4 ∷ []) 2
+    ∷ ends programH zeros (Take 0 ∷ Serialise 0 0 ∷ Update 0 ∷ Take 4 ∷ []) 2
     -- J
-    ∷ stops programJ (Take 0 ∷ Take 1 ∷ []) 1
+    ∷ stops programJ zeros (Take 0 ∷ Take 1 ∷ []) 1
+    -- a value that is only there at the start
+    ∷ ends programN (1 ∷ 0 ∷ 0 ∷ 0 ∷ []) (Take 0 ∷ []) 1
+    ∷ stops programN zeros (Take 0 ∷ []) 0
     -- K
     ∷ below (1 ∷ []) (0 ∷ 1 ∷ [])
     ∷ notBelow (1 ∷ []) (1 ∷ 0 ∷ [])

@@ -1,4 +1,4 @@
--- Which configurations are a program's, which of them are permitted starts, and which are in a target (document 01, "The machine"
+-- Which configurations are a program's, which of them are starts, and which are in a target (document 01, "The machine"
 -- and "What the contracts carry"; report, 5.1: all quadruples, whether a run leads to them or not).
 use Prim.Native.Nat.{ℕ, _<_, _≤_}
 use mathlib.Core.Path.{_≡_}
@@ -59,28 +59,33 @@ pub record ConfigurationOf (P : Program) (c : Configuration) : Type 0 where
 
 -- ---- starts
 
--- the memories that a run may start from: 0 in every variable
-abbrev pub StartingMemory : Program → List ℕ → Type 0
-StartingMemory P snapshot = (v : ℕ) → v < P .shape .variables → getD snapshot v 0 ≡ 0
+-- a memory that a run may start from (document 02, N3): any value in each variable, and 0 in the room of those that the shape does not have
+pub record StartingMemory (S : Shape) (memory : List ℕ) : Type 0 where
+  pub room : length memory ≡ 4
+  pub values : (v : ℕ) → v < S .variables → getD memory v 0 < S .values v
+  pub absent : (v : ℕ) → S .variables ≤ v → getD memory v 0 ≡ 0
 
--- initial local states, empty queues, one message of any existing label, all pointers 1
+-- the memory of a start: the snapshot of its one message
+abbrev pub startingMemory : Configuration → List ℕ
+startingMemory c = message (c .memory .channel) 1 .snapshot
+
+-- initial local states, empty queues, one message of any existing label with any values, all pointers 1
 pub record Start (P : Program) (c : Configuration) : Type 0 where
   pub configuration : ConfigurationOf P c
   pub states : (p : ℕ) → p < P .shape .processes → c .state p ≡ P .initial p
   pub queues : (p v : ℕ) → p < P .shape .processes → v < P .shape .variables → c .queue p v ≡ []
   pub one : length (c .memory .channel) ≡ 1
-  pub starting : StartingMemory P (message (c .memory .channel) 1 .snapshot)
   pub pointers : (p : ℕ) → p < P .shape .processes → c .memory .pointer p ≡ 1
 
--- such a start, with the label (p, v)
-abbrev pub startWith : Program → ℕ → ℕ → Configuration
-startWith P p v =
+-- such a start, with this memory and the label (p, v)
+abbrev pub startWith : Program → List ℕ → ℕ → ℕ → Configuration
+startWith P memory p v =
     record {
       state = λ q. cond (ltb q (P .shape .processes)) (P .initial q) 0;
       queue = λ q u. [];
       memory =
           record {
-            channel = record { process = p; variable = v; snapshot = 0 ∷ 0 ∷ 0 ∷ 0 ∷ [] } ∷ [];
+            channel = record { process = p; variable = v; snapshot = memory } ∷ [];
             pointer = λ q. cond (ltb q (P .shape .processes)) 1 0;
           };
     }

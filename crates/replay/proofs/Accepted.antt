@@ -17,7 +17,7 @@ use Rattle.pws.specs.declared.Step.{Step}
 use Rattle.pws.specs.declared.Step.the-variants.{Take, Serialise, Update}
 use Rattle.pws.specs.Program.{Shape, Program, transition, ProgramInRange}
 use Rattle.pws.specs.Machine.{Configuration, put, message, newest, labelled, lastLabelled, lastWrite, newestWaiting, newestOr, sees, queueAfter, memoryAfter, afterTake, may, after, copyWith, allBelow}
-use Rattle.pws.specs.Configurations.{Start, startWith, InTarget, inTarget}
+use Rattle.pws.specs.Configurations.{StartingMemory, startingMemory, Start, startWith, InTarget, inTarget}
 use Rattle.pws.specs.Sequences.{Takes, done, step, Replay, ended, stopped, replay}
 use Rattle.pws.proofs.Starts.{start-is, start-exists}
 use Rattle.pws.proofs.Facts.{put-each, T-eq}
@@ -246,8 +246,8 @@ verdict-like P R ts n k (s ∷ ss) c d l = go (verdict-like P R ts n (suc k) ss 
     go h true false e = absurd (subst T e tt)
     go h false true e = absurd (subst T (sym e) tt)
 
-starts-like : (P : Program) (p v q u : ℕ) → Like P (startWith P p v) (startWith P q u)
-starts-like P p v q u =
+starts-like : (P : Program) (memory : List ℕ) (p v q u : ℕ) → Like P (startWith P memory p v) (startWith P memory q u)
+starts-like P memory p v q u =
     record {
       states = refl;
       queues = refl;
@@ -256,13 +256,13 @@ starts-like P p v q u =
       low = λ r e. rw (lt-ltb r (P .shape .processes) e) (omega arith);
     }
 
--- the label of the first message makes no difference: the verdict is that from every permitted start
-pub label-free : (P : Program) → ProgramInRange P → (ts : List (ℕ → ℕ)) (ss : List Step) (c : Configuration) → Start P c
-    → run.verdictFrom P ts ss c ≡ run.runVerdict P ts ss
-label-free P R ts ss c s =
-    let r = start-is P c s in
+-- the label of the first message makes no difference: the verdict is that from every start with the memory
+pub label-free : (P : Program) → ProgramInRange P → (ts : List (ℕ → ℕ)) (memory : List ℕ) (ss : List Step) (c : Configuration) → Start P c
+    → startingMemory c ≡ memory → run.verdictFrom P ts ss c ≡ run.runVerdict P ts memory ss
+label-free P R ts memory ss c s e =
+    let r = start-is P memory c s e in
     ap (run.verdictFrom P ts ss) (r .same)
-    ∙ verdict-like P R ts (length ss) 0 ss (startWith P (r .process) (r .variable)) (startWith P 0 0) (starts-like P (r .process) (r .variable) 0 0)
+    ∙ verdict-like P R ts (length ss) 0 ss (startWith P memory (r .process) (r .variable)) (startWith P memory 0 0) (starts-like P memory (r .process) (r .variable) 0 0)
 
 answers-like : (P : Program) → ProgramInRange P → (ts : List (ℕ → ℕ)) (n k : ℕ) (ss : List Step) (c d : Configuration) → Like P c d
     → answerFrom P ts n k c ss ≡ answerFrom P ts n k d ss
@@ -272,12 +272,12 @@ answers-like P R ts n k (s ∷ ss) c d l =
     ∙ ap (λ (r : RunAnswer). answerThen (stepAnswer P d s) k (λ _. r)) (answers-like P R ts n (suc k) ss (after P c s) (after P d s) (after-like P R c d l s))
 
 -- the same of the answer, with its cause
-pub answer-free : (P : Program) → ProgramInRange P → (ts : List (ℕ → ℕ)) (ss : List Step) (c : Configuration) → Start P c
-    → answerFrom P ts (length ss) 0 c ss ≡ runAnswer P ts ss
-answer-free P R ts ss c s =
-    let r = start-is P c s in
+pub answer-free : (P : Program) → ProgramInRange P → (ts : List (ℕ → ℕ)) (memory : List ℕ) (ss : List Step) (c : Configuration) → Start P c
+    → startingMemory c ≡ memory → answerFrom P ts (length ss) 0 c ss ≡ runAnswer P ts memory ss
+answer-free P R ts memory ss c s e =
+    let r = start-is P memory c s e in
     ap (λ (x : Configuration). answerFrom P ts (length ss) 0 x ss) (r .same)
-    ∙ answers-like P R ts (length ss) 0 ss (startWith P (r .process) (r .variable)) (startWith P 0 0) (starts-like P (r .process) (r .variable) 0 0)
+    ∙ answers-like P R ts (length ss) 0 ss (startWith P memory (r .process) (r .variable)) (startWith P memory 0 0) (starts-like P memory (r .process) (r .variable) 0 0)
 
 -- ---- accepted runs
 
@@ -351,31 +351,32 @@ accepted-end S ts m n k (ended d) e = (d, refl, met-some (run.lowestMet S 0 ts d
     met-some (some j) e = ap some (reachable-same e)
 accepted-end S ts m n k (stopped i) e = absurd (stopped-reachable e)
 
--- a run is accepted if and only if the machine can take every step in turn from a permitted start and stops in a target
-pub run-accepted : (P : Program) → ProgramInRange P → (ts : List (ℕ → ℕ)) (ss : List Step)
-    → ((n k : ℕ) → run.runVerdict P ts ss ≡ run.reachable n k → run.Accepted P ts ss)
-    × (run.Accepted P ts ss → (k : ℕ) × (run.runVerdict P ts ss ≡ run.reachable (length ss) k))
-run-accepted P R ts ss = (accepts, accepted)
+-- a run is accepted if and only if the machine can take every step in turn from a start with its memory and stops in a target
+pub run-accepted : (P : Program) → ProgramInRange P → (ts : List (ℕ → ℕ)) (memory : List ℕ) → StartingMemory (P .shape) memory → (ss : List Step)
+    → ((n k : ℕ) → run.runVerdict P ts memory ss ≡ run.reachable n k → run.Accepted P ts memory ss)
+    × (run.Accepted P ts memory ss → (k : ℕ) × (run.runVerdict P ts memory ss ≡ run.reachable (length ss) k))
+run-accepted P R ts memory w ss = (accepts, accepted)
   where
-    accepts : (n k : ℕ) → run.runVerdict P ts ss ≡ run.reachable n k → run.Accepted P ts ss
+    accepts : (n k : ℕ) → run.runVerdict P ts memory ss ≡ run.reachable n k → run.Accepted P ts memory ss
     accepts n k e =
-        let r = accepted-end (P .shape) ts (length ss) n k (replay P 0 (startWith P 0 0) ss) e in
+        let r = accepted-end (P .shape) ts (length ss) n k (replay P 0 (startWith P memory 0 0) ss) e in
         let m = lowest-met (P .shape) 0 ts (r .0) k (r .2) in
         record {
-          start = startWith P 0 0;
-          permitted = start-exists P R 0 0 (R .shape .someProcess) (R .shape .someVariable);
+          start = startWith P memory 0 0;
+          holds = refl;
+          permitted = start-exists P R memory w 0 0 (R .shape .someProcess) (R .shape .someVariable);
           end = r .0;
-          takes = takes-all P 0 (startWith P 0 0) (r .0) ss (r .1);
+          takes = takes-all P 0 (startWith P memory 0 0) (r .0) ss (r .1);
           number = m .number;
           exists = m .exists;
           met = target-is (P .shape) (target ts (m .number)) (r .0) (m .met);
         }
 
-    accepted : run.Accepted P ts ss → (k : ℕ) × (run.runVerdict P ts ss ≡ run.reachable (length ss) k)
+    accepted : run.Accepted P ts memory ss → (k : ℕ) × (run.runVerdict P ts memory ss ≡ run.reachable (length ss) k)
     accepted a =
         let m = met-lowest (P .shape) 0 ts (a .end) (a .number) (a .exists) (target-yes (P .shape .processes) (a .end .state) (target ts (a .number)) (a .met)) in (
           m .0,
-          sym (label-free P R ts ss (a .start) (a .permitted))
+          sym (label-free P R ts memory ss (a .start) (a .permitted) (a .holds))
               ∙ ap (run.verdictOf (P .shape) ts (length ss)) (replay-ends P 0 (a .takes))
               ∙ ap (run.lastTest (length ss)) (m .1),
         )

@@ -18,6 +18,9 @@ use Rattle.program_part.specs.Records.{
   stateNames,
   targetNumber,
   claimNumber,
+  startName,
+  startNames,
+  startNumber,
   stepBody,
   stepNames,
   stepNumber,
@@ -25,11 +28,11 @@ use Rattle.program_part.specs.Records.{
 }
 use Rattle.program_part.specs.ProgramPart.{unlessEnd, statesFrom, rowFrom, transitionsFrom, atClaim, targetsFrom, rowsFrom, restFrom, programFrom}
 use Rattle.whole_file.specs.EvidencePart.{stepsFrom, stepsOf}
-use Rattle.whole_file.specs.Reading.{evidenceFrom, partsOf, readFile}
+use Rattle.whole_file.specs.Reading.{runEvidence, evidenceFrom, partsOf, readFile}
 use Rattle.replay.specs.Cases.{ofRun, Holds, Each, no-row, row, cases}
 
 pub cases-hold : Each Holds cases
-unfolding Holds ofRun readFile partsOf evidenceFrom programFrom restFrom rowsFrom statesFrom transitionsFrom targetsFrom atClaim rowFrom unlessEnd stepsFrom stepsOf stepAt stepNumber stepNames stepBody claimNumber targetNumber stateNames stateName transitionNumber transitionNames operationNames operationOf allZero valueExists statesNumber shapeNumber inRange isKind checked firstNumber cut
+unfolding Holds ofRun readFile partsOf evidenceFrom runEvidence startNumber startNames startName programFrom restFrom rowsFrom statesFrom transitionsFrom targetsFrom atClaim rowFrom unlessEnd stepsFrom stepsOf stepAt stepNumber stepNames stepBody claimNumber targetNumber stateNames stateName transitionNumber transitionNames operationNames operationOf allZero valueExists statesNumber shapeNumber inRange isKind checked firstNumber cut
 cases-hold =
     row refl
     (row refl
@@ -40,4 +43,6 @@ cases-hold =
     (row refl
     (row refl
     (row refl
-    (row refl no-row)))))))))
+    (row refl
+    (row refl
+    (row refl no-row)))))))))))

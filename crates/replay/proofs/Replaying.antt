@@ -60,8 +60,8 @@ answers-verdict P ts n k c (s ∷ ss) =
     (answer-may P c s) (answers-verdict P ts n (suc k) (after P c s) ss)
 
 -- the answer says the verdict
-pub answer-verdict : (P : pws.Program) (ts : List (ℕ → ℕ)) (ss : List Step) → verdictOfRun (runAnswer P ts ss) ≡ run.runVerdict P ts ss
-answer-verdict P ts ss = answers-verdict P ts (length ss) 0 (startWith P 0 0) ss
+pub answer-verdict : (P : pws.Program) (ts : List (ℕ → ℕ)) (memory : List ℕ) (ss : List Step) → verdictOfRun (runAnswer P ts memory ss) ≡ run.runVerdict P ts memory ss
+answer-verdict P ts memory ss = answers-verdict P ts (length ss) 0 (startWith P memory 0 0) ss
 
 -- ---- past the end of a file everything is 0
 
@@ -163,12 +163,13 @@ ones-at (suc (suc (suc (suc i)))) l = absurd (omega arith)
 first-row : (q : ℕ) → q < 4 → getD firstRows q [] ≡ replicate 5 1
 first-row q l = getD-replicate 4 q (replicate 5 1) [] l
 
-module _ (f : List ℕ) (p : Program) (R : pws.ProgramInRange (programOf f p)) (four : length (p .initial) ≡ 4) (a : List ℕ) (room : length a ≡ 16384) where
+module _ (f : List ℕ) (p : Program) (R : pws.ProgramInRange (programOf f p)) (four : length (p .initial) ≡ 4) (memory : List ℕ) (values : length memory ≡ 4)
+    (a : List ℕ) (room : length a ≡ 16384) where
   abbrev S₀ : pws.Shape
   S₀ = shapeOf (p .shape)
 
   abbrev c₀ : Configuration
-  c₀ = startWith (programOf f p) 0 0
+  c₀ = startWith (programOf f p) memory 0 0
 
   points-first : (q : ℕ) → q < p .shape .processes → c₀ .memory .pointer q ≡ 1
   points-first q l = rw (lt-ltb q (p .shape .processes) l)
@@ -181,12 +182,12 @@ module _ (f : List ℕ) (p : Program) (R : pws.ProgramInRange (programOf f p)) (
       go true = refl
       go false = refl
 
-  first-memory : MemoryHeld S₀ 1 firstRows (putSnapshot a 1 (replicate 4 0)) (c₀ .memory)
+  first-memory : MemoryHeld S₀ 1 firstRows (putSnapshot a 1 memory) (c₀ .memory)
   first-memory =
       record {
         count = refl;
         some = omega arith;
-        snapshots = λ i l h. let e : i ≡ 1 = omega arith in rw e (snapshot-same a 1 (replicate 4 0) (omega arith) refl);
+        snapshots = λ i l h. let e : i ≡ 1 = omega arith in rw e (snapshot-same a 1 memory (omega arith) values);
         pointers = λ q e. ap (λ (r : List ℕ). getD r 0 0) (first-row q (omega (arith, R .shape .processes))) ∙ sym (points-first q e);
         lastWrites = λ q v e ve.
             ap (λ (r : List ℕ). getD r (v + 1) 0) (first-row q (omega (arith, R .shape .processes))) ∙ ones-at v (omega (arith, R .shape .variables))
@@ -197,7 +198,7 @@ module _ (f : List ℕ) (p : Program) (R : pws.ProgramInRange (programOf f p)) (
         high = λ q e. omega (arith, points-first q e);
       }
 
-  first-queues : QueuesHeld S₀ (replicate 16 0) (replicate 16 0) (putSnapshot a 1 (replicate 4 0)) 0 (c₀ .queue)
+  first-queues : QueuesHeld S₀ (replicate 16 0) (replicate 16 0) (putSnapshot a 1 memory) 0 (c₀ .queue)
   first-queues =
       record {
         values = λ q v e ve. rw (zeros-at 16 (4 * q + v)) refl;
@@ -207,9 +208,9 @@ module _ (f : List ℕ) (p : Program) (R : pws.ProgramInRange (programOf f p)) (
         most = λ q. omega (arith, zeros-at 16 q);
       }
 
-  first-kept : Kept S₀ 0 (firstRun (p .initial)) firstRows (putSnapshot a 1 (replicate 4 0)) c₀
+  first-kept : Kept S₀ 0 (firstRun (p .initial)) firstRows (putSnapshot a 1 memory) c₀
   first-kept =
-      kept-of (λ q e. sym (rw (lt-ltb q (p .shape .processes) e))) four first-memory first-queues (snapshot-length a 1 (replicate 4 0) ∙ room) (omega arith)
+      kept-of (λ q e. sym (rw (lt-ltb q (p .shape .processes) e))) four first-memory first-queues (snapshot-length a 1 memory ∙ room) (omega arith)
 
 -- ---- all steps
 
@@ -245,12 +246,12 @@ module _ (f : List ℕ) (p : Program) (R : pws.ProgramInRange (programOf f p)) (
       (step-kept f p R k run rows a c K (omega arith) s t)) (omega arith)
       ∙ ap₂ (λ (j : ℕ) (ss : List Step). answerFrom P₁ (targetsOf f p) steps j (after P₁ c s) ss) (sym e) (sym (steps-next f n at)))
 
--- the code's answer is that of the machine's run, from a permitted start over the steps of the file
-pub replay-right : (f : List ℕ) (p : Program) → pws.ProgramInRange (programOf f p) → length (p .initial) ≡ 4 → (at count : ℕ) → count ≤ 1024 → (a : List ℕ)
-    → length a ≡ 16384 → replayIn f p at count a ≡ runAnswer (programOf f p) (targetsOf f p) (stepsOf f at count)
-replay-right f p R four at count few a room =
-    all-steps f p R count count 0 at (firstRun (p .initial)) firstRows (putSnapshot a 1 (replicate 4 0)) (startWith (programOf f p) 0 0) (first-kept f p R four a room) (omega arith)
-    ∙ ap (λ (n : ℕ). answerFrom (programOf f p) (targetsOf f p) n 0 (startWith (programOf f p) 0 0) (stepsOf f at count)) (sym (steps-length f count at))
+-- the code's answer is that of the machine's run, from a start with the memory over the steps of the file
+pub replay-right : (f : List ℕ) (p : Program) → pws.ProgramInRange (programOf f p) → length (p .initial) ≡ 4 → (memory : List ℕ) → length memory ≡ 4 → (at count : ℕ)
+    → count ≤ 1024 → (a : List ℕ) → length a ≡ 16384 → replayIn f p memory at count a ≡ runAnswer (programOf f p) (targetsOf f p) memory (stepsOf f at count)
+replay-right f p R four memory values at count few a room =
+    all-steps f p R count count 0 at (firstRun (p .initial)) firstRows (putSnapshot a 1 memory) (startWith (programOf f p) memory 0 0) (first-kept f p R four memory values a room) (omega arith)
+    ∙ ap (λ (n : ℕ). answerFrom (programOf f p) (targetsOf f p) n 0 (startWith (programOf f p) memory 0 0) (stepsOf f at count)) (sym (steps-length f count at))
 
-pub run-of : {r : RunAnswer} (P : pws.Program) (ts : List (ℕ → ℕ)) (ss : List Step) → r ≡ runAnswer P ts ss → RunOf r P ts ss
-run-of P ts ss e = record { answer = e; verdict = ap verdictOfRun e ∙ answer-verdict P ts ss }
+pub run-of : {r : RunAnswer} (P : pws.Program) (ts : List (ℕ → ℕ)) (memory : List ℕ) (ss : List Step) → r ≡ runAnswer P ts memory ss → RunOf r P ts memory ss
+run-of P ts memory ss e = record { answer = e; verdict = ap verdictOfRun e ∙ answer-verdict P ts memory ss }

@@ -35,10 +35,10 @@ answerFrom P ts n k c [] = lastAnswer n (lowestMet (P .shape) 0 ts c)
 answerFrom P ts n k c (s ∷ ss) = answerThen (stepAnswer P c s) k (λ _. answerFrom P ts n (suc k) (after P c s) ss)
 
 -- `answer-verdict` says that this is the verdict of specs/Replay.antt
-abbrev pub runAnswer : Program → List (ℕ → ℕ) → List Step → RunAnswer
-runAnswer P ts ss = answerFrom P ts (length ss) 0 (startWith P 0 0) ss
+abbrev pub runAnswer : Program → List (ℕ → ℕ) → List ℕ → List Step → RunAnswer
+runAnswer P ts memory ss = answerFrom P ts (length ss) 0 (startWith P memory 0 0) ss
 
 -- the answer to a run: with the cause, and document 01's verdict
-pub record RunOf (r : RunAnswer) (P : Program) (ts : List (ℕ → ℕ)) (ss : List Step) : Type 0 where
-  pub answer : r ≡ runAnswer P ts ss
-  pub verdict : verdictOfRun r ≡ runVerdict P ts ss
+pub record RunOf (r : RunAnswer) (P : Program) (ts : List (ℕ → ℕ)) (memory : List ℕ) (ss : List Step) : Type 0 where
+  pub answer : r ≡ runAnswer P ts memory ss
+  pub verdict : verdictOfRun r ≡ runVerdict P ts memory ss

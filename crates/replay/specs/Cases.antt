@@ -17,7 +17,7 @@ pub record Row : Type 0 where
 unfoldable pub ofRun : FileRead → Option RunVerdict
 ofRun (refused r) = none
 ofRun (list P ts es) = none
-ofRun (run P ts ss) = some (runVerdict P ts ss)
+ofRun (run P ts m ss) = some (runVerdict P ts m ss)
 
 -- with the smallest work area
 unfoldable pub Holds : Row → Type 0
@@ -27,15 +27,19 @@ pub data Each (F : Row → Type 0) : List Row → Type 0 where
   no-row : Each F []
   row : {r : Row} {rs : List Row} → F r → Each F rs → Each F (r ∷ rs)
 
--- ---- the files, up to the claim
+-- ---- the files, up to the steps
 
 -- one process, one variable, two values; two local states
 abbrev small : List ℕ
 small = 1 ∷ 1 ∷ 1 ∷ 2 ∷ 2 ∷ 2 ∷ 0 ∷ []
 
--- the claim 1
+-- the claim 1, and a starting memory of zeros
 abbrev claim : List ℕ
-claim = 15 ∷ 1 ∷ []
+claim = 15 ∷ 1 ∷ 31 ∷ 0 ∷ 0 ∷ 0 ∷ 0 ∷ []
+
+-- one process reads 1; up to the starting memory
+abbrev fileN : List ℕ
+fileN = small ++ (3 ∷ 0 ∷ 0 ∷ 1 ∷ 0 ∷ 1 ∷ 0 ∷ 1 ∷ []) ++ (4 ∷ 1 ∷ 0 ∷ 0 ∷ 0 ∷ []) ++ (15 ∷ 1 ∷ [])
 
 -- E: a nop from 0 to 1, and the target 1
 abbrev fileE : List ℕ
@@ -95,4 +99,7 @@ cases =
     ∷ says (fileH ++ written ++ (34 ∷ 0 ∷ 32 ∷ 4 ∷ [])) (reachable 4 0)
     -- J
     ∷ says (fileJ ++ (32 ∷ 0 ∷ 32 ∷ 1 ∷ [])) (stopped 1)
+    -- a value that is only there at the start
+    ∷ says (fileN ++ (31 ∷ 1 ∷ 0 ∷ 0 ∷ 0 ∷ 32 ∷ 0 ∷ [])) (reachable 1 0)
+    ∷ says (fileN ++ (31 ∷ 0 ∷ 0 ∷ 0 ∷ 0 ∷ 32 ∷ 0 ∷ [])) (stopped 0)
     ∷ []

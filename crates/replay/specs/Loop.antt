@@ -65,6 +65,6 @@ runFrom f s transitions targets steps k at run rows a (suc n) =
     answerThen (answerIn run rows a s m) k (λ _.
     runFrom f s transitions targets steps (k + 1) (nextStep f at) (runAfter run m) (rowsAfter rows (run .messages) m) (lowerAfter a run m) n)
 
-abbrev pub replayIn : List ℕ → Program → ℕ → ℕ → List ℕ → RunAnswer
-replayIn f p at count a =
-    runFrom f (p .shape) (p .transitions) (p .targets) count 0 at (firstRun (p .initial)) firstRows (putSnapshot a 1 (replicate 4 0)) count
+abbrev pub replayIn : List ℕ → Program → List ℕ → ℕ → ℕ → List ℕ → RunAnswer
+replayIn f p memory at count a =
+    runFrom f (p .shape) (p .transitions) (p .targets) count 0 at (firstRun (p .initial)) firstRows (putSnapshot a 1 memory) count

@@ -1,6 +1,7 @@
 -- The verdict of a run (document 01, "The machine" and "Verdicts and refusal table"): the machine takes the steps of the file in turn from a
--- permitted start. The first that it does not permit ends the replay; else the last local states are tested for the targets.
+-- start with its memory. The first that it does not permit ends the replay; else the last local states are tested for the targets.
 use Prim.Native.Nat.{ℕ, suc, _<_}
+use mathlib.Core.Path.{_≡_}
 use mathlib.Core.Bool.{cond}
 use mathlib.Core.Option.{Option, none, some}
 use mathlib.Core.List.{List, [], _∷_}
@@ -8,7 +9,7 @@ use lib.ListN.{length, getD}
 use Rattle.pws.specs.declared.Step.{Step}
 use Rattle.pws.specs.Program.{Shape, Program}
 use Rattle.pws.specs.Machine.{Configuration}
-use Rattle.pws.specs.Configurations.{Start, startWith, InTarget, inTarget}
+use Rattle.pws.specs.Configurations.{Start, startingMemory, startWith, InTarget, inTarget}
 use Rattle.pws.specs.Sequences as sequences
 
 pub data RunVerdict : Type 0 where
@@ -37,15 +38,16 @@ verdictOf S ts n (sequences.stopped k) = stopped k
 abbrev pub verdictFrom : Program → List (ℕ → ℕ) → List Step → Configuration → RunVerdict
 verdictFrom P ts ss c = verdictOf (P .shape) ts (length ss) (sequences.replay P 0 c ss)
 
--- from the start whose message has the label (0, 0); `label-free` says that it is the verdict from every permitted start
-abbrev pub runVerdict : Program → List (ℕ → ℕ) → List Step → RunVerdict
-runVerdict P ts ss = verdictFrom P ts ss (startWith P 0 0)
+-- from the start with this memory whose message has the label (0, 0); `label-free` says that it is the verdict from every start with it
+abbrev pub runVerdict : Program → List (ℕ → ℕ) → List ℕ → List Step → RunVerdict
+runVerdict P ts memory ss = verdictFrom P ts ss (startWith P memory 0 0)
 
--- The machine can take every step in turn from a permitted start, and stops in a target: `run-accepted` says that these are the runs with
--- the verdict reachable.
-pub record Accepted (P : Program) (ts : List (ℕ → ℕ)) (ss : List Step) : Type 0 where
+-- The machine can take every step in turn from a start with this memory, and stops in a target: `run-accepted` says that these are the runs
+-- with the verdict reachable.
+pub record Accepted (P : Program) (ts : List (ℕ → ℕ)) (memory : List ℕ) (ss : List Step) : Type 0 where
   pub start : Configuration
   pub permitted : Start P start
+  pub holds : startingMemory start ≡ memory
   pub end : Configuration
   pub takes : sequences.Takes P start ss end
   pub number : ℕ

@@ -133,24 +133,24 @@ fn first_rows() -> [[u16; 5]; 4]
     [row; 4]
 }
 
-// `count` steps from `at` on; afterwards the lower part is 0.
+// `count` steps from `at` on, from this memory; afterwards the lower part is 0.
 fn replay_steps(
     file: &[u8],
     program: Program,
+    memory: [u8; 4],
     at: usize,
     count: usize,
     lower: &mut [u8],
 ) -> RunAnswer
-    ensures { λ r. ⌜ r ≡ replayIn (now (file .entry)) program at count (now (lower .entry)) ⌝ }
+    ensures { λ r. ⌜ r ≡ replayIn (now (file .entry)) program memory at count (now (lower .entry)) ⌝ }
     ensures { λ r. ⌜ now (lower .exit) ≡ replicate (length (now (lower .entry))) 0 ⌝ }
-    ensures { λ r. ⌜ (ProgramInRange (programOf (now (file .entry)) program) → count ≤ 1024 → length (now (lower .entry)) ≡ 16384 → r ≡ runAnswer (programOf (now (file .entry)) program) (targetsOf (now (file .entry)) program) (stepsOf (now (file .entry)) at count)) ⌝ }
+    ensures { λ r. ⌜ (ProgramInRange (programOf (now (file .entry)) program) → count ≤ 1024 → length (now (lower .entry)) ≡ 16384 → r ≡ runAnswer (programOf (now (file .entry)) program) (targetsOf (now (file .entry)) program) memory (stepsOf (now (file .entry)) at count)) ⌝ }
 {
     let shape = program.shape;
     let transitions = program.transitions;
     let targets = program.targets;
     let states = program.initial;
-    let zeros = [0u8; 4];
-    put_snapshot(lower, 1, zeros);
+    put_snapshot(lower, 1, memory);
     let mut run = first_run(states);
     let mut rows = first_rows();
     let mut k = at;
@@ -178,11 +178,12 @@ fn replay_steps(
 
 // The run of a file whose claim is 1.
 pub fn replay(file: &[u8], contents: Contents, lower: &mut [u8]) -> RunAnswer
-    ensures { λ r. ⌜ r ≡ replayIn (now (file .entry)) (contents .program) (contents .evidence .at) (contents .evidence .count) (now (lower .entry)) ⌝ }
+    ensures { λ r. ⌜ r ≡ replayIn (now (file .entry)) (contents .program) (contents .memory) (contents .evidence .at) (contents .evidence .count) (now (lower .entry)) ⌝ }
     ensures { λ r. ⌜ now (lower .exit) ≡ replicate (length (now (lower .entry))) 0 ⌝ }
-    ensures { λ r. ⌜ (ProgramInRange (programOf (now (file .entry)) (contents .program)) → contents .evidence .count ≤ 1024 → length (now (lower .entry)) ≡ 16384 → RunOf r (programOf (now (file .entry)) (contents .program)) (targetsOf (now (file .entry)) (contents .program)) (stepsOf (now (file .entry)) (contents .evidence .at) (contents .evidence .count))) ⌝ }
+    ensures { λ r. ⌜ (ProgramInRange (programOf (now (file .entry)) (contents .program)) → contents .evidence .count ≤ 1024 → length (now (lower .entry)) ≡ 16384 → RunOf r (programOf (now (file .entry)) (contents .program)) (targetsOf (now (file .entry)) (contents .program)) (contents .memory) (stepsOf (now (file .entry)) (contents .evidence .at) (contents .evidence .count))) ⌝ }
 {
     let program = contents.program;
+    let memory = contents.memory;
     let steps = contents.evidence;
-    replay_steps(file, program, steps.at, steps.count, lower)
+    replay_steps(file, program, memory, steps.at, steps.count, lower)
 }

@@ -7,7 +7,7 @@ use native.Mathlib.Omega.{arith}
 use lib.ListN.{length, getD, take}
 use lib.Dec.{eqb}
 use borrow.Author.Tests.{ne-eqb}
-use Rattle.pws.specs.Machine.{isEmpty, allBelow, noneWaiting, noMessage}
+use Rattle.pws.specs.Machine.{isEmpty, allBelow, noneWaiting}
 use Rattle.pws.specs.Configurations.{inTarget}
 use Rattle.program_part.specs.declared.program.Shape.{Shape}
 use Rattle.whole_file.specs.declared.entry.Queue.{Queue}
@@ -15,7 +15,6 @@ use Rattle.whole_file.specs.declared.entry.Cube.{Cube}
 use Rattle.program_part.specs.ProgramPart.{shapeOf}
 use Rattle.whole_file.specs.Cube.{waitingOf, queueOf, configurationOf}
 use Rattle.whole_file.proofs.CubeParts.{channel-length}
-use Rattle.lists.specs.Values.{fills}
 use Rattle.lists.specs.Decision.{looksStarted}
 use Rattle.targets.specs.Sizes.{Small, startsOf}
 
@@ -35,9 +34,6 @@ module _ (s : Shape) (initial : List ℕ) (c : Cube) (n m : ℕ) (en : n ≡ min
 
   abbrev empty : Bool
   empty = allBelow n (λ p. allBelow m (λ v. isEmpty (queueOf (c .queues) p v)))
-
-  abbrev zero-free : Bool
-  zero-free = allBelow m (λ v. fills (getD (getD (c .messages) 0 noMessage .snapshot) v 0) 0)
 
   all : n ≡ s .processes
   all = omega (arith, en, small .processes)
@@ -60,8 +56,5 @@ module _ (s : Shape) (initial : List ℕ) (c : Cube) (n m : ℕ) (en : n ≡ min
   pub some-waiting : states ≡ true → empty ≡ false → Right false
   some-waiting e f = sym (rw (sym states-are ∙ e) (rw (sym empty-are ∙ f) refl))
 
-  pub other-count : states ≡ true → empty ≡ true → eqb (c .count) 1 ≡ false → Right false
-  other-count e f g = sym (rw (sym states-are ∙ e) (rw (sym empty-are ∙ f) (rw (channel-length (c .messages) (c .count)) (rw g refl))))
-
-  pub one-message : states ≡ true → empty ≡ true → c .count ≡ 1 → Right zero-free
-  one-message e f g = sym (rw (sym states-are ∙ e) (rw (sym empty-are ∙ f) (rw g (ap (λ (k : ℕ). allBelow k (λ v. fills (getD (getD (c .messages) 0 noMessage .snapshot) v 0) 0)) (sym every-one)))))
+  pub by-count : states ≡ true → empty ≡ true → Right (eqb (c .count) 1)
+  by-count e f = sym (rw (sym states-are ∙ e) (rw (sym empty-are ∙ f) (ap (λ (k : ℕ). eqb k 1) (channel-length (c .messages) (c .count)))))

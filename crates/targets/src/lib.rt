@@ -10,7 +10,6 @@ ghost use Rattle.pws.specs.Machine.{isEmpty, allBelow, labelled};
 ghost use Rattle.program_part.specs.ProgramPart.{shapeOf};
 ghost use Rattle.whole_file.specs.Cube.{waitingOf, queueOf, channelOf, configurationOf};
 ghost use Rattle.lists.specs.Lists.{anyOf};
-ghost use Rattle.lists.specs.Values.{fills};
 ghost use Rattle.lists.specs.Cubes.{anyMessage};
 ghost use Rattle.lists.specs.Shapes.{allowed, queueShapes};
 ghost use Rattle.lists.specs.Decision.{targetHeld, looksStarted};
@@ -22,7 +21,6 @@ ghost use Rattle.targets.specs.Depth.{SmallShape, AtQueue, AtMessage, At
 use cover::search::search;
 use matching::least;
 use program_part::bytes::both;
-use program_part::bytes::either;
 use program_part::bytes::wide;
 use program_part::program::Shape;
 use pws::Message;
@@ -80,21 +78,7 @@ fn none_waiting(n: usize, m: usize, queues: [Queue; 16]) -> bool
     true
 }
 
-// 0 may stand at the first n values.
-fn may_be_zero(n: usize, values: [u8; 4]) -> bool
-    requires { ⌜ n ≤ 4 ⌝ }
-    ensures { λ r. ⌜ r ≡ allBelow n (λ v. fills (getD values v 0) 0) ⌝ }
-{
-    for v in 0..n {
-        let x = values[v];
-        if !either(x == 255, x == 0) {
-            return false;
-        }
-    }
-    true
-}
-
-// Initial states, no waiting value, one message, and FF or 0 at each variable.
+// Initial states, no waiting value and one message: a start has any values.
 pub fn looks_started(shape: Shape, initial: [u8; 4], cube: Cube) -> bool
     ensures { λ r. ⌜ (Small shape → r ≡ looksStarted (startsOf shape initial) (configurationOf cube)) ⌝ }
 {
@@ -108,12 +92,7 @@ pub fn looks_started(shape: Shape, initial: [u8; 4], cube: Cube) -> bool
     if !none_waiting(n, m, queues) {
         return false;
     }
-    if cube.count != 1 {
-        return false;
-    }
-    let message = cube.messages[0];
-    let values = message.snapshot;
-    may_be_zero(m, values)
+    cube.count == 1
 }
 
 // ---- shapes (section 3)

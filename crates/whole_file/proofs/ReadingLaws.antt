@@ -18,10 +18,10 @@ use Rattle.program_part.specs.declared.program.Counted.the-variants.{Records, S
 use Rattle.program_part.specs.declared.program.Program.{Program}
 use Rattle.program_part.specs.declared.program.ProgramRead.{ProgramRead}
 use Rattle.program_part.specs.Bytes.{byte, cut}
-use Rattle.program_part.specs.Records.{checked, claimNumber, isKind, shapeAt, shapeNumber}
+use Rattle.program_part.specs.Records.{checked, claimNumber, startNumber, memoryAt, isKind, shapeAt, shapeNumber}
 use Rattle.program_part.specs.ProgramPart.{unlessEnd, statesFrom, ofProcesses, transitionsFrom, targetsFrom, orRefused, withCount, rowsFrom, restFrom, programFrom}
 use Rattle.whole_file.specs.EvidencePart.{stepsFrom, EntriesRead, entriesFrom, entriesAllowed}
-use Rattle.whole_file.specs.Reading.{Evidence, refusal, entries, steps, evidenceFrom, Parts, noParts, twoParts, partsOf}
+use Rattle.whole_file.specs.Reading.{Evidence, refusal, entries, steps, claimThen, evidenceArea, runEvidence, evidenceFrom, Parts, noParts, twoParts, partsOf}
 use Rattle.program_part.proofs.RecordLaws.{fine-refused, good, cut-fits, unless-fine}
 use Rattle.program_part.proofs.ProgramLaws.{shape-fine}
 
@@ -45,13 +45,40 @@ module _ (f : List ℕ) (at : ℕ) (p : Program) (area : ℕ) where
   unfolding evidenceFrom
   evidence-entries e d = rw (e, eq-eqb (byte f (at + 1)) 0 d)
 
-  pub evidence-steps : Claims Fine → (byte f (at + 1) ≡ 0 → ⊥) → evidenceFrom f at p area ≡ steps (stepsFrom (p .shape) (p .transitions .count) f (at + 2))
+  pub evidence-run : Claims Fine → (byte f (at + 1) ≡ 0 → ⊥) → evidenceFrom f at p area ≡ runEvidence f (at + 2) p
   unfolding evidenceFrom
-  evidence-steps e d = rw (e, ne-eqb (byte f (at + 1)) 0 d)
+  evidence-run e d = rw (e, ne-eqb (byte f (at + 1)) 0 d)
 
   pub claim-fits : Claims Fine → at + 1 < length f
   unfolding claimNumber
   claim-fits e = cut-fits f at 1 (good at (unless-fine f at _ e .1) .whole)
+
+-- ---- a run, from the place after its claim on
+
+module _ (f : List ℕ) (at : ℕ) (p : Program) where
+  abbrev Starts : Checked → Type 0
+  Starts x = unlessEnd f at (checked (startNumber (p .shape) f at) at) ≡ x
+
+  pub start-refused : (r : Refusal) → Starts (Refused r) → runEvidence f at p ≡ refusal r
+  unfolding runEvidence
+  start-refused r e = rw e
+
+  pub run-steps : Starts Fine → runEvidence f at p ≡ steps (memoryAt f at) (stepsFrom (p .shape) (p .transitions .count) f (at + 5))
+  unfolding runEvidence
+  run-steps e = rw e
+
+  pub start-fits : Starts Fine → at + 4 < length f
+  unfolding startNumber
+  start-fits e = cut-fits f at 4 (good at (unless-fine f at _ e .1) .whole)
+
+-- no run touches the area
+pub run-area : (f : List ℕ) (p : Program) (w : List ℕ) (at : ℕ) → w ≡ evidenceArea (runEvidence f at p) w
+unfolding runEvidence
+run-area f p w at = go (unlessEnd f at (checked (startNumber (p .shape) f at) at))
+  where
+    go : (x : Checked) → w ≡ evidenceArea (claimThen x (λ _. steps (memoryAt f at) (stepsFrom (p .shape) (p .transitions .count) f (at + 5)))) w
+    go Fine = refl
+    go (Refused r) = refl
 
 -- ---- the program part, when nothing of it is refused
 

@@ -17,7 +17,7 @@ use Rattle.program_part.specs.declared.program.Program.{Program}
 use Rattle.program_part.specs.declared.program.ProgramRead.{ProgramRead}
 use Rattle.whole_file.specs.declared.evidence.Reading.{Reading}
 use Rattle.program_part.specs.Bytes.{choose, byte}
-use Rattle.program_part.specs.Records.{checked, claimNumber}
+use Rattle.program_part.specs.Records.{checked, claimNumber, startNumber, memoryAt}
 use Rattle.program_part.specs.ProgramPart.{unlessEnd, noProgram, programFrom, programOf, targetsOf}
 use Rattle.whole_file.specs.EvidencePart.{stepsFrom, stepsOf, EntriesRead, entriesFrom, entriesAllowed, wroteFrom}
 use Rattle.whole_file.specs.Tally.{countOf}
@@ -28,19 +28,26 @@ use Rattle.whole_file.specs.Tally.{countOf}
 pub data Evidence : Type 0 where
   refusal : Refusal → Evidence
   entries : EntriesRead → Evidence
-  steps : Counted → Evidence
+  -- the memory that the run starts from, and its steps
+  steps : List ℕ → Counted → Evidence
 
 abbrev pub claimThen : Checked → (Unit {0} → Evidence) → Evidence
 claimThen Fine x = x tt
 claimThen (Refused r) x = refusal r
 
--- claim 0: entries; claim 1: steps. `at` is the place of the claim, `area` the work area's length.
+-- from `at` on, a 1F and the steps (document 02, N3)
+unfoldable pub runEvidence : List ℕ → ℕ → Program → Evidence
+runEvidence f at p =
+    claimThen (unlessEnd f at (checked (startNumber (p .shape) f at) at)) (λ _.
+    steps (memoryAt f at) (stepsFrom (p .shape) (p .transitions .count) f (at + 5)))
+
+-- claim 0: entries; claim 1: a run. `at` is the place of the claim, `area` the work area's length.
 unfoldable pub evidenceFrom : List ℕ → ℕ → Program → ℕ → Evidence
 evidenceFrom f at p area =
     claimThen (unlessEnd f at (checked (claimNumber f at) at)) (λ _.
     choose (eqb (byte f (at + 1)) 0)
     (λ _. entries (entriesFrom (entriesAllowed area) (p .shape) (p .states) f (at + 2) [] []))
-    (λ _. steps (stepsFrom (p .shape) (p .transitions .count) f (at + 2))))
+    (λ _. runEvidence f (at + 2) p))
 
 pub data Parts : Type 0 where
   noParts : Refusal → Parts
@@ -63,8 +70,8 @@ pub data FileRead : Type 0 where
   refused : Refusal → FileRead
   -- program, targets, entries
   list : pws.Program → List (ℕ → ℕ) → List Configuration → FileRead
-  -- program, targets, steps
-  run : pws.Program → List (ℕ → ℕ) → List Step → FileRead
+  -- program, targets, the memory that the run starts from, steps
+  run : pws.Program → List (ℕ → ℕ) → List ℕ → List Step → FileRead
 
 abbrev pub listRead : List ℕ → Program → Checked → EntriesRead → FileRead
 listRead f p Fine r = list (programOf f p) (targetsOf f p) (r .entries)
@@ -73,8 +80,8 @@ listRead f p (Refused q) r = refused q
 abbrev pub evidenceRead : List ℕ → Program → Evidence → FileRead
 evidenceRead f p (refusal r) = refused r
 evidenceRead f p (entries r) = listRead f p (r .answer) r
-evidenceRead f p (steps (Records n)) = run (programOf f p) (targetsOf f p) (stepsOf f (p .claim + 2) n)
-evidenceRead f p (steps (Stopped r)) = refused r
+evidenceRead f p (steps m (Records n)) = run (programOf f p) (targetsOf f p) m (stepsOf f (p .claim + 2 + 5) n)
+evidenceRead f p (steps m (Stopped r)) = refused r
 
 abbrev pub partsRead : List ℕ → Parts → FileRead
 partsRead f (noParts r) = refused r
@@ -86,21 +93,27 @@ readFile f area = partsRead f (partsOf f area)
 
 -- ---- what the code hands on, and what it leaves in the work area
 
+-- a list has none
+abbrev pub noMemory : List ℕ
+noMemory = 0 ∷ 0 ∷ 0 ∷ 0 ∷ []
+
 abbrev pub readingRefused : Refusal → Reading
-readingRefused r = record { answer = Refused r; contents = record { program = noProgram; claim = 0; evidence = record { at = 0; count = 0 } } }
+readingRefused r =
+    record { answer = Refused r; contents = record { program = noProgram; claim = 0; memory = noMemory; evidence = record { at = 0; count = 0 } } }
 
--- n records of evidence
-abbrev pub readingWith : Program → ℕ → ℕ → Reading
-readingWith p claim n = record { answer = Fine; contents = record { program = p; claim = claim; evidence = record { at = p .claim + 2; count = n } } }
+-- a starting memory, and n records of evidence from `at` on
+abbrev pub readingWith : Program → ℕ → List ℕ → ℕ → ℕ → Reading
+readingWith p claim memory at n =
+    record { answer = Fine; contents = record { program = p; claim = claim; memory = memory; evidence = record { at = at; count = n } } }
 
-abbrev pub countReading : Program → ℕ → Counted → Reading
-countReading p claim (Records n) = readingWith p claim n
-countReading p claim (Stopped r) = readingRefused r
+abbrev pub countReading : Program → ℕ → List ℕ → ℕ → Counted → Reading
+countReading p claim memory at (Records n) = readingWith p claim memory at n
+countReading p claim memory at (Stopped r) = readingRefused r
 
 abbrev pub evidenceReading : Program → Evidence → Reading
 evidenceReading p (refusal r) = readingRefused r
-evidenceReading p (entries r) = countReading p 0 (countOf r)
-evidenceReading p (steps n) = countReading p 1 n
+evidenceReading p (entries r) = countReading p 0 noMemory (p .claim + 2) (countOf r)
+evidenceReading p (steps m n) = countReading p 1 m (p .claim + 2 + 5) n
 
 abbrev pub readingOf : Parts → Reading
 readingOf (noParts r) = readingRefused r
@@ -113,7 +126,7 @@ listArea offsets w = take 16384 w ++ wroteFrom 0 offsets (drop 16384 w)
 abbrev pub evidenceArea : Evidence → List ℕ → List ℕ
 evidenceArea (refusal r) w = w
 evidenceArea (entries r) w = listArea (r .offsets) w
-evidenceArea (steps n) w = w
+evidenceArea (steps m n) w = w
 
 abbrev pub areaRead : Parts → List ℕ → List ℕ
 areaRead (noParts r) w = w

@@ -3,8 +3,10 @@ ghost use mathlib.Core.Path.{_≡_};
 ghost use Prim.Native.Nat.{_+_, _≤_, _<_};
 ghost use lib.ListN.{length};
 ghost use Rattle.whole_file.specs.EvidencePart.{entriesAllowed};
-ghost use Rattle.whole_file.specs.Reading.{partsOf, evidenceFrom, evidenceReading, countReading, readingOf, readingRefused, areaRead, evidenceArea};
+ghost use Rattle.whole_file.specs.Reading.{partsOf, runEvidence, evidenceFrom, evidenceReading, countReading, readingOf, readingRefused, areaRead, evidenceArea};
 use crate::list::entries_from;
+use crate::start::check_start;
+use crate::start::memory_at;
 use crate::steps::check_claim;
 use crate::steps::steps_from;
 use program_part::bytes::field;
@@ -21,10 +23,11 @@ use program_part::program::unless_end;
 
 // ---- the whole reading
 
-// What a file holds: its program, its claim, and its entries (claim 0) or steps (claim 1).
+// What a file holds: its program, its claim, and its entries (claim 0), or the memory that a run starts from and its steps (claim 1).
 pub struct Contents {
     pub program: Program,
     pub claim: u8,
+    pub memory: [u8; 4],
     pub evidence: Row,
 }
 
@@ -53,15 +56,21 @@ fn reading_refused(refusal: Refusal) -> Reading
                 claim: 0,
             },
             claim: 0,
+            memory: none,
             evidence: Row { at: 0, count: 0 },
         },
     }
 }
 
 // The contents with so many records of evidence, or the refusal of one.
-fn reading_with(program: Program, claim: u8, counted: Counted) -> Reading
-    requires { ⌜ program .claim + 2 < 18446744073709551616 ⌝ }
-    ensures { λ r. ⌜ r ≡ countReading program claim counted ⌝ }
+fn reading_with(
+    program: Program,
+    claim: u8,
+    memory: [u8; 4],
+    at: usize,
+    counted: Counted,
+) -> Reading
+    ensures { λ r. ⌜ r ≡ countReading program claim memory at counted ⌝ }
 {
     let Counted::Records(n) = counted else {
         return reading_refused(stop_of(counted));
@@ -71,10 +80,8 @@ fn reading_with(program: Program, claim: u8, counted: Counted) -> Reading
         contents: Contents {
             program: program,
             claim: claim,
-            evidence: Row {
-                at: program.claim + 2,
-                count: n,
-            },
+            memory: memory,
+            evidence: Row { at: at, count: n },
         },
     }
 }
@@ -88,6 +95,23 @@ pub fn entries_allowed(area: usize) -> usize
     }
     let most = (area - 16384) / 12;
     if most < 524288 { most } else { 524288 }
+}
+
+// A run, from the place after its claim on.
+fn read_run(file: &[u8], program: Program, at: usize) -> Reading
+    requires { ⌜ at ≡ program .claim + 2 ⌝ }
+    ensures { λ r. ⌜ r ≡ evidenceReading program (runEvidence (now (file .entry)) at program) ⌝ }
+{
+    let shape = program.shape;
+    let start = unless_end(file, at, check_start(file, at, shape));
+    let Checked::Fine = start else {
+        return reading_refused(refusal_of(start));
+    };
+    let memory = memory_at(file, at);
+    let transitions = program.transitions;
+    let first = at + 5;
+    let taken = steps_from(file, first, shape, transitions.count);
+    reading_with(program, 1, memory, first, taken)
 }
 
 // From the claim on.
@@ -106,11 +130,10 @@ fn read_evidence(file: &[u8], program: Program, work: &mut [u8]) -> Reading
         let states = program.states;
         let most = entries_allowed(work.len());
         let listed = entries_from(file, at + 2, shape, states, most, &mut work[16384..]);
-        return reading_with(program, 0, listed);
+        let none = [0u8; 4];
+        return reading_with(program, 0, none, at + 2, listed);
     }
-    let transitions = program.transitions;
-    let taken = steps_from(file, at + 2, shape, transitions.count);
-    reading_with(program, 1, taken)
+    read_run(file, program, at + 2)
 }
 
 // The file's contents or the first refusal; the offsets of its entries go into the work area, from byte 16,384 on.

@@ -1,7 +1,7 @@
 use native.Mathlib.Omega.{arith}
-use borrow.Author.Tests.{not-true, not-false, ne-eqb}
+use borrow.Author.Tests.{not-true, not-false}
 use mathlib.Core.Path.{sym, _∙_}
-use Rattle.targets.proofs.StartLaws.{other-states, some-waiting, other-count, one-message}
+use Rattle.targets.proofs.StartLaws.{other-states, some-waiting, by-count}
 use borrow.Author.Needs.{needs}
 use Rattle.targets.proofs.looks_started.Statement.{statement}
 use Rattle.targets.proofs.looks_started.Tie as tie
@@ -21,10 +21,4 @@ looks-started-spec = tie.close (tie.spec
     -- returns-2
     (λ c small. some-waiting (c .before .before .before .before .before .before .before .before .args .shape) (c .before .before .before .before .before .before .before .before .args .initial) (c .before .before .before .before .before .before .before .before .args .t3) (c .before .before .before .before .before .before .before .least .result) (c .before .before .before .before .before .before .least2 .result) (c .before .before .before .before .before .before .before .least .ensures) (c .before .before .before .before .before .before .least2 .ensures) small (sym (c .before .before .before .before .same-bytes .ensures) ∙ not-false _ (c .before .before .before .if1 .left)) (sym (c .before .none-waiting .ensures) ∙ not-true _ (c .if2 .taken)))
     -- returns-3
-    (λ c small. other-count (c .before .before .before .before .before .before .before .before .before .args .shape) (c .before .before .before .before .before .before .before .before .before .args .initial) (c .before .before .before .before .before .before .before .before .before .args .t3) (c .before .before .before .before .before .before .before .before .least .result) (c .before .before .before .before .before .before .before .least2 .result) (c .before .before .before .before .before .before .before .before .least .ensures) (c .before .before .before .before .before .before .before .least2 .ensures) small (sym (c .before .before .before .before .before .same-bytes .ensures) ∙ not-false _ (c .before .before .before .before .if1 .left)) (sym (c .before .before .none-waiting .ensures) ∙ not-false _ (c .before .if2 .left)) (ne-eqb _ _ (c .if3 .taken)))
-    -- element-copy-out-message
-    (λ c. search needs)
-    -- may-be-zero-requires
-    (λ c κs. omega (arith, c .before .before .before .before .before .before .before .before .before .least2 .ensures))
-    -- returns-4
-    (λ c small. c .may-be-zero .ensures ∙ one-message (c .before .before .before .before .before .before .before .before .before .before .before .before .args .shape) (c .before .before .before .before .before .before .before .before .before .before .before .before .args .initial) (c .before .before .before .before .before .before .before .before .before .before .before .before .args .t3) (c .before .before .before .before .before .before .before .before .before .before .before .least .result) (c .before .before .before .before .before .before .before .before .before .before .least2 .result) (c .before .before .before .before .before .before .before .before .before .before .before .least .ensures) (c .before .before .before .before .before .before .before .before .before .before .least2 .ensures) small (sym (c .before .before .before .before .before .before .before .before .same-bytes .ensures) ∙ not-false _ (c .before .before .before .before .before .before .before .if1 .left)) (sym (c .before .before .before .before .before .none-waiting .ensures) ∙ not-false _ (c .before .before .before .before .if2 .left)) (c .before .before .before .if3 .left)))
+    (λ c small. by-count (c .before .before .before .before .before .before .before .before .args .shape) (c .before .before .before .before .before .before .before .before .args .initial) (c .before .before .before .before .before .before .before .before .args .t3) (c .before .before .before .before .before .before .before .least .result) (c .before .before .before .before .before .before .least2 .result) (c .before .before .before .before .before .before .before .least .ensures) (c .before .before .before .before .before .before .least2 .ensures) small (sym (c .before .before .before .before .same-bytes .ensures) ∙ not-false _ (c .before .before .before .if1 .left)) (sym (c .before .none-waiting .ensures) ∙ not-false _ (c .if2 .left))))

@@ -10,4 +10,4 @@ replay-spec = tie.close (tie.spec
     -- same-length 180:1
     (λ c. search needs)
     -- returns 180:1
-    (λ c. let e = c .before .before .replay-steps .ensures in (e .0, (e .1 .0, (λ R few room. run-of _ _ _ (e .1 .1 R few room))))))
+    (λ c. let e = c .before .before .replay-steps .ensures in (e .0, (e .1 .0, (λ R few room. run-of _ _ _ _ (e .1 .1 R few room))))))

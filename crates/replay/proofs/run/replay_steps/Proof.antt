@@ -25,8 +25,11 @@ kept c =
 four : (c : tie.Start Inv-loop μ-loop) → length (c .args .program .initial) ≡ 4
 four c = search needs
 
+values : (c : tie.Start Inv-loop μ-loop) → length (c .args .memory) ≡ 4
+values c = search needs
+
 said : (c : tie.After-slice-known4 Inv-loop μ-loop)
-    → c .before .before .before .before .if1 .verdict ≡ replayIn (c .before .before .before .before .before .before .before .before .before .before .before .before .before .before .before .before .before .before .args .file .now) (c .before .before .before .before .before .before .before .before .before .before .before .before .before .before .before .before .before .before .args .program) (c .before .before .before .before .before .before .before .before .before .before .before .before .before .before .before .before .before .before .args .at) (c .before .before .before .before .before .before .before .before .before .before .before .before .before .before .before .before .before .before .args .count) (c .before .before .before .before .before .before .before .before .before .before .before .before .before .before .before .before .before .before .args .lower .now)
+    → c .before .before .before .before .if1 .verdict ≡ replayIn (c .before .before .before .before .before .before .before .before .before .before .before .before .before .before .before .before .before .before .args .file .now) (c .before .before .before .before .before .before .before .before .before .before .before .before .before .before .before .before .before .before .args .program) (c .before .before .before .before .before .before .before .before .before .before .before .before .before .before .before .before .before .before .args .memory) (c .before .before .before .before .before .before .before .before .before .before .before .before .before .before .before .before .before .before .args .at) (c .before .before .before .before .before .before .before .before .before .before .before .before .before .before .before .before .before .before .args .count) (c .before .before .before .before .before .before .before .before .before .before .before .before .before .before .before .before .before .before .args .lower .now)
 said c =
     let f = c .before .before .before .before .before .before .before .before .before .before .before .before .before .before .before .before .before .before .args .file .now in
     let s = c .before .before .before .before .before .before .before .before .before .before .before .before .before .before .before .before .before .before .args .program .shape in
@@ -94,6 +97,6 @@ replay-steps-spec = tie.close (tie.spec
       said c,
       (
         c .before .before .clear .ensures ∙ ap (λ (k : ℕ). replicate k 0) (c .before .before .before .before .before .loop .inv .same ∙ ap length (c .before .before .before .before .before .before .before .before .before .before .put-snapshot .ensures) ∙ snapshot-length _ _ _),
-        (λ R few room. said c ∙ replay-right (a .file .now) (a .program) R (four (c .before .before .before .before .before .before .before .before .before .before .before .before .before .before .before .before .before .before)) (a .at) (a .count) few (a .lower .now) room),
+        (λ R few room. said c ∙ replay-right (a .file .now) (a .program) R (four (c .before .before .before .before .before .before .before .before .before .before .before .before .before .before .before .before .before .before)) (a .memory) (values (c .before .before .before .before .before .before .before .before .before .before .before .before .before .before .before .before .before .before)) (a .at) (a .count) few (a .lower .now) room),
       ),
     )))

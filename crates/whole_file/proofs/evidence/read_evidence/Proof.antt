@@ -1,7 +1,7 @@
 use Prim.Native.Nat.{_-_}
 use lib.ListN.{take, drop}
-use Rattle.whole_file.proofs.ReadingLaws.{upper, evidence-refused, evidence-entries, evidence-steps, claim-fits}
-use Rattle.whole_file.specs.Reading.{Evidence, readingRefused, countReading, evidenceReading, evidenceArea}
+use Rattle.whole_file.proofs.ReadingLaws.{run-area, upper, evidence-refused, evidence-entries, evidence-run, claim-fits}
+use Rattle.whole_file.specs.Reading.{Evidence, noMemory, readingRefused, countReading, evidenceReading, evidenceArea}
 use Rattle.whole_file.specs.Tally.{countOf}
 use Rattle.whole_file.specs.EvidencePart.{EntriesRead, entriesFrom, entriesAllowed, wroteFrom}
 use Rattle.program_part.specs.ProgramPart.{refusalOf, unlessEnd}
@@ -54,17 +54,17 @@ read-evidence-spec = tie.close (tie.spec
     (λ c. search needs)
     -- entries-from-requires 533:13
     (λ c κs. (c .before .before .before .before .before .before .before .before .before .before .before .before .pre .1, c .before .before .before .before .before .before .before .before .before .before .before .before .pre .2, few (c .before)))
-    -- reading-with-requires 534:9
-    (λ c κs. omega (arith, claim-fits (c .before .before .before .before .before .before .before .before .before .before .before .before .before .before .before .args .file .now) (c .before .before .before .before .before .before .before .before .before .before .before .before .before .before .before .args .program .claim) (c .before .before .before .before .before .before .before .before .before .before .before .before .before .before .before .args .program) 0 (fine (c .before .before .before .before .before .before .before .before .before))))
+    -- add-reading-with
+    (λ c. omega (arith, claim-fits (c .before .before .before .before .before .before .before .before .before .before .before .before .before .before .before .args .file .now) (c .before .before .before .before .before .before .before .before .before .before .before .before .before .before .before .args .program .claim) (c .before .before .before .before .before .before .before .before .before .before .before .before .before .before .before .args .program) 0 (fine (c .before .before .before .before .before .before .before .before .before))))
+    -- reading-with-requires
+    (λ c κs. search needs)
     -- same-length 534:9
     (λ c. search needs)
     -- returns-2 534:9
-    (λ c. let a = c .before .before .before .before .before .before .before .before .before .before .before .before .before .before .before .before .args in let f = a .file .now in let p = a .program in let w = a .work .now in let e = evidence-entries f (p .claim) p (length w) (fine (c .before .before .before .before .before .before .before .before .before .before)) (sym (c .before .before .before .before .before .before .before .before .field .ensures) ∙ c .before .before .before .before .before .before .before .if1 .taken) in let read : ℕ → EntriesRead = λ m. entriesFrom m (p .shape) (p .states) f (p .claim + 2) [] [] in let m : c .before .before .before .before .before .entries-allowed .result ≡ entriesAllowed (length w) = c .before .before .before .before .before .entries-allowed .ensures in (c .reading-with .ensures ∙ ap (countReading p 0) (c .before .before .before .entries-from .ensures .0 ∙ ap (λ (m : ℕ). countOf (read m)) m) ∙ sym (ap (evidenceReading p) e), upper 16384 w (c .before .before .before .entries-from .last .1 .1 .1 .1 .1 .0) (λ l. wroteFrom 0 (read (entriesAllowed (length w)) .offsets) l) (omega (arith, c .before .before .before .before .before .before .before .before .before .before .before .before .before .before .before .before .pre .0)) (c .before .before .before .entries-from .ensures .1 ∙ ap (λ (m : ℕ). wroteFrom 0 (read m .offsets) (take (length w - 16384) (drop 16384 w))) m) ∙ sym (ap (λ (x : Evidence). evidenceArea x w) e)))
-    -- add-steps-from 537:34
-    (λ c. omega (arith, claim-fits (c .before .before .before .before .before .before .before .before .before .before .args .file .now) (c .before .before .before .before .before .before .before .before .before .before .args .program .claim) (c .before .before .before .before .before .before .before .before .before .before .args .program) 0 (fine (c .before .before .before .before))))
-    -- steps-from-requires 537:9
+    (λ c. let a = c .before .before .before .before .before .before .before .before .before .before .before .before .before .before .before .before .args in let f = a .file .now in let p = a .program in let w = a .work .now in let e = evidence-entries f (p .claim) p (length w) (fine (c .before .before .before .before .before .before .before .before .before .before)) (sym (c .before .before .before .before .before .before .before .before .field .ensures) ∙ c .before .before .before .before .before .before .before .if1 .taken) in let read : ℕ → EntriesRead = λ m. entriesFrom m (p .shape) (p .states) f (p .claim + 2) [] [] in let m : c .before .before .before .before .before .entries-allowed .result ≡ entriesAllowed (length w) = c .before .before .before .before .before .entries-allowed .ensures in (c .reading-with .ensures ∙ ap (countReading p 0 noMemory (p .claim + 2)) (c .before .before .before .entries-from .ensures .0 ∙ ap (λ (m : ℕ). countOf (read m)) m) ∙ sym (ap (evidenceReading p) e), upper 16384 w (c .before .before .before .entries-from .last .1 .1 .1 .1 .1 .0) (λ l. wroteFrom 0 (read (entriesAllowed (length w)) .offsets) l) (omega (arith, c .before .before .before .before .before .before .before .before .before .before .before .before .before .before .before .before .pre .0)) (c .before .before .before .entries-from .ensures .1 ∙ ap (λ (m : ℕ). wroteFrom 0 (read m .offsets) (take (length w - 16384) (drop 16384 w))) m) ∙ sym (ap (λ (x : Evidence). evidenceArea x w) e)))
+    -- add-read-run
+    (λ c. omega (arith, claim-fits (c .before .before .before .before .before .before .before .before .before .args .file .now) (c .before .before .before .before .before .before .before .before .before .args .program .claim) (c .before .before .before .before .before .before .before .before .before .args .program) 0 (fine (c .before .before .before))))
+    -- read-run-requires
     (λ c κs. search needs)
-    -- reading-with-requires-2 538:5
-    (λ c κs. omega (arith, claim-fits (c .before .before .before .before .before .before .before .before .before .before .before .args .file .now) (c .before .before .before .before .before .before .before .before .before .before .before .args .program .claim) (c .before .before .before .before .before .before .before .before .before .before .before .args .program) 0 (fine (c .before .before .before .before .before))))
-    -- returns-3 519:1
-    (λ c. let a = c .before .before .before .before .before .before .before .before .before .before .before .before .args in let f = a .file .now in let p = a .program in let w = a .work .now in let e = evidence-steps f (p .claim) p (length w) (fine (c .before .before .before .before .before .before)) (λ z. c .before .before .before .if1 .left (c .before .before .before .before .field .ensures ∙ z)) in (c .reading-with2 .ensures ∙ ap (countReading p 1) (c .before .steps-from .ensures) ∙ sym (ap (evidenceReading p) e), sym (ap (λ (x : Evidence). evidenceArea x w) e))))
+    -- returns-3
+    (λ c. let a = c .before .before .before .before .before .before .before .before .before .before .args in let f = a .file .now in let p = a .program in let w = a .work .now in let e = evidence-run f (p .claim) p (length w) (fine (c .before .before .before .before)) (λ z. c .before .if1 .left (c .before .before .field .ensures ∙ z)) in (c .read-run .ensures ∙ sym (ap (evidenceReading p) e), run-area f p w (p .claim + 2) ∙ sym (ap (λ (x : Evidence). evidenceArea x w) e))))

@@ -15,9 +15,7 @@ reading-with-spec = tie.close (tie.spec
     (λ c κs. search needs)
     -- reading-refused-requires 492:9
     (λ c κs. search needs)
-    -- returns 492:9
-    (λ c. c .reading-refused .ensures ∙ ap readingRefused (c .before .stop-of .ensures ∙ ap stopOf (c .before .before .enum-told .given .1)) ∙ sym (ap (countReading (c .before .before .before .before .args .program) (c .before .before .before .before .args .claim)) (c .before .before .enum-told .given .1)))
-    -- add-t7 500:21
-    (λ c. search needs)
-    -- returns-2 487:1
-    (λ c. rw (c .before .before .counted .given .1)))
+    -- returns
+    (λ c. let a = c .before .before .before .before .args in c .reading-refused .ensures ∙ ap readingRefused (c .before .stop-of .ensures ∙ ap stopOf (c .before .before .enum-told .given .1)) ∙ sym (ap (countReading (a .program) (a .claim) (a .memory) (a .at)) (c .before .before .enum-told .given .1)))
+    -- returns-2
+    (λ c. rw (c .before .counted .given .1)))

@@ -1,0 +1,45 @@
+use Rattle.whole_file.proofs.ReadingLaws.{start-refused, run-steps, start-fits}
+use Rattle.whole_file.specs.Reading.{readingRefused, countReading, evidenceReading}
+use Rattle.program_part.specs.ProgramPart.{refusalOf, unlessEnd}
+use Rattle.program_part.specs.Records.{checked, startNumber, memoryAt}
+use Rattle.whole_file.specs.EvidencePart.{stepsFrom}
+use Rattle.program_part.specs.declared.program.Checked.the-variants.{Fine, Refused}
+use Rattle.program_part.specs.declared.program.Counted.{Counted}
+use mathlib.Core.List.{List}
+use Prim.Native.Nat.{ℕ, _+_}
+use native.Mathlib.Omega.{arith}
+use mathlib.Core.Path.{_≡_, sym, ap, ap₂, _∙_}
+use borrow.Author.Needs.{needs}
+use Rattle.whole_file.proofs.evidence.read_run.Statement.{statement}
+use Rattle.whole_file.proofs.evidence.read_run.Tie as tie
+
+-- the 1F is fine
+fine : (c : tie.After-enum-told) → unlessEnd (c .before .before .before .before .before .before .args .file .now) (c .before .before .before .before .before .before .args .at) (checked (startNumber (c .before .before .before .before .before .before .args .program .shape) (c .before .before .before .before .before .before .args .file .now) (c .before .before .before .before .before .before .args .at)) (c .before .before .before .before .before .before .args .at)) ≡ Fine
+fine c = sym (ap (unlessEnd (c .before .before .before .before .before .before .args .file .now) (c .before .before .before .before .before .before .args .at)) (c .before .before .before .check-start .ensures)) ∙ sym (c .before .before .unless-end .ensures) ∙ c .enum-told .given .1
+
+pub read-run-spec : {M : Type 1} → statement M
+read-run-spec = tie.close (tie.spec
+    -- check-start-requires
+    (λ c κs. search needs)
+    -- unless-end-requires
+    (λ c κs. search needs)
+    -- enum-told
+    (λ c. search needs)
+    -- enum-told-2
+    (λ c. search needs)
+    -- refusal-of-requires
+    (λ c κs. search needs)
+    -- reading-refused-requires
+    (λ c κs. search needs)
+    -- returns
+    (λ c. let a = c .before .before .before .before .before .before .before .before .args in let f = a .file .now in let p = a .program in let r = c .before .before .enum-told2 .given .0 .0 in let u : unlessEnd f (a .at) (checked (startNumber (p .shape) f (a .at)) (a .at)) ≡ Refused r = sym (ap (unlessEnd f (a .at)) (c .before .before .before .before .before .check-start .ensures)) ∙ sym (c .before .before .before .before .unless-end .ensures) ∙ c .before .before .enum-told2 .given .1 in c .reading-refused .ensures ∙ ap readingRefused (c .before .refusal-of .ensures ∙ ap refusalOf (c .before .before .enum-told2 .given .1)) ∙ sym (ap (evidenceReading p) (start-refused f (a .at) p r u)))
+    -- memory-at-requires
+    (λ c κs. search needs)
+    -- add-first
+    (λ c. omega (arith, start-fits (c .before .before .before .before .before .before .before .before .args .file .now) (c .before .before .before .before .before .before .before .before .args .at) (c .before .before .before .before .before .before .before .before .args .program) (fine (c .before .before))))
+    -- steps-from-requires
+    (λ c κs. search needs)
+    -- reading-with-requires
+    (λ c κs. search needs)
+    -- returns-2
+    (λ c. let a = c .before .before .before .before .before .before .before .before .before .before .args in let f = a .file .now in let p = a .program in let e = run-steps f (a .at) p (fine (c .before .before .before .before)) in c .reading-with .ensures ∙ ap₂ (λ (m : List ℕ) (n : Counted). countReading p 1 m (a .at + 5) n) (c .before .before .before .memory-at .ensures) (c .before .steps-from .ensures) ∙ ap (λ (k : ℕ). countReading p 1 (memoryAt f (a .at)) (k + 5) (stepsFrom (p .shape) (p .transitions .count) f (a .at + 5))) (c .before .before .before .before .before .before .before .before .before .before .pre) ∙ sym (ap (evidenceReading p) e)))

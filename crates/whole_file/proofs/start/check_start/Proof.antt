@@ -1,0 +1,20 @@
+use Rattle.program_part.specs.Records.{startNumber}
+use borrow.Author.Needs.{needs}
+use Rattle.whole_file.proofs.start.check_start.Statement.{statement}
+use Rattle.whole_file.proofs.start.check_start.Tie as tie
+
+pub check-start-spec : {M : Type 1} → statement M
+unfolding startNumber
+check-start-spec = tie.close (tie.spec
+    -- start-names-requires
+    (λ c κs. search needs)
+    -- is-kind-requires
+    (λ c κs. search needs)
+    -- cut-requires
+    (λ c κs. search needs)
+    -- first-number-requires
+    (λ c κs. search needs)
+    -- answer-requires
+    (λ c κs. search needs)
+    -- returns
+    (λ c. cc))
