@@ -3,7 +3,7 @@
 use crate::search::closed_list;
 use crate::seeded::Random;
 use reference::cubes::least;
-use reference::{writing, Configuration, Operation, Program, Step, Transition, FF};
+use reference::{writing, Configuration, Operation, Program, Run, Step, Transition, FF};
 
 pub fn thousands(n: usize) -> String {
     if n < 1_000 {
@@ -120,9 +120,10 @@ pub fn many_targets(processes: usize, variables: usize, targets: u8) -> Listing 
     Listing { program, entries }
 }
 
-/// What a backward search finds for an arw that needs a 1 that nobody writes: entries with values.
+/// What a backward search finds for an arw that needs a 1, in a state where its process does not start: entries with values.
 pub fn found() -> Listing {
-    let mut program = shape(2, 2, vec![2, 1]);
+    let mut program = shape(2, 2, vec![3, 1]);
+    program.initial[0] = 2;
     program.transitions.push(Transition { process: 0, from: 0, operation: Operation::Arw { variable: 0, old: 1, new: 0 }, to: 1 });
     program.targets.push([1, 0, 0, 0]);
     let entries = closed_list(&program, &[], 524_288).expect("a closed list");
@@ -169,7 +170,7 @@ pub fn long_run() -> Vec<u8> {
         Step::Transition(3),
         Step::Update(0),
     ];
-    writing::run_file(&program, &round.repeat(128))
+    writing::run_file(&program, &Run { memory: [0; 4], steps: round.repeat(128) })
 }
 
 /// Reading alone: as many entries as can be, and a last record that is refused.

@@ -54,9 +54,9 @@ static size_t body(uint8_t kind)
     return kind < sizeof bodies ? bodies[kind] : 0;
 }
 
-enum found { STEPS, LIST, NEITHER };
+enum found { STEPS, LIST, NO_CLAIM, NO_MEMORY };
 
-/* Where the step records begin: at the file's start, or after a claim that is 1. */
+/* Where the step records begin: at the file's start, or after a claim that is 1 and the starting memory. */
 static enum found find_steps(const uint8_t *file, size_t length, size_t *start)
 {
     size_t at = 0;
@@ -66,10 +66,12 @@ static enum found find_steps(const uint8_t *file, size_t length, size_t *start)
     while (at < length && body(file[at]) != 0)
         at += 1 + body(file[at]);
     if (at + 2 > length || file[at] != 0x0F)
-        return NEITHER;
+        return NO_CLAIM;
     if (file[at + 1] != 1)
         return LIST;
-    *start = at + 2;
+    if (at + 7 > length || file[at + 2] != 0x1F)
+        return NO_MEMORY;
+    *start = at + 7;
     return STEPS;
 }
 
@@ -95,7 +97,9 @@ int main(int count, char **words)
         enum found found = find_steps(file, length, &start);
         if (found != STEPS) {
             fprintf(stderr, "%s: %s\n", name,
-                    found == LIST ? "its claim is 0: it holds a list and no run" : "no claim follows its program");
+                    found == LIST       ? "its claim is 0: it holds a list and no run"
+                    : found == NO_CLAIM ? "no claim follows its program"
+                                        : "no starting memory follows its claim");
             return 2;
         }
     }

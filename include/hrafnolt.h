@@ -16,6 +16,7 @@ extern "C" {
 
 /* kind HRAFNOLT_SAFE:      first = number of entries; line `safe FIRST`
  * kind HRAFNOLT_REACHABLE: first = number of steps, second = lowest target met; line `reachable FIRST SECOND`
+ *     A safe list is about every starting memory, a run about the one that its file gives after the claim.
  * kind HRAFNOLT_REFUSED:   first = number of the refusal table, second = place; line `refused FIRST SECOND`.
  *     A step that the machine can't take is 12, 15, 16, 17 or 18 by its cause, and the place is the step's number. */
 struct hrafnolt_verdict {

@@ -1,5 +1,5 @@
 //! evidence safe MOST      a file with claim 0 and a closed list of at most MOST entries
-//! evidence run WAITING    a file with claim 1 and a shortest run that keeps at most WAITING waiting values per process
+//! evidence run WAITING    a file with claim 1 and a shortest run, from any memory, that keeps at most WAITING waiting values per process
 //! The program is on standard input: records 01 to 04, or any whole file. Exit status 1 and nothing written if there is none.
 
 mod search;
@@ -14,13 +14,13 @@ fn main() {
     std::io::stdin().read_to_end(&mut file).expect("standard input");
     let (program, _) = reference::read(&file, 524_288)
         .or_else(|_| {
-            file.extend([0x0f, 1]);
+            file.extend([0x0f, 0]);
             reference::read(&file, 0)
         })
         .unwrap_or_else(|(n, place)| panic!("refused {} {}", n, place));
     let out = match words[1].as_str() {
         "safe" => search::closed_list(&program, &[], number).map(|list| writing::list_file(&program, &list)),
-        _ => match search::shortest_run(&program, number) {
+        _ => match search::shortest_run(&program, &program.memories(), number) {
             Ok(run) => Some(writing::run_file(&program, &run)),
             Err(seen) => {
                 eprintln!("no run among all {} configurations within the bound", seen);

@@ -24,11 +24,11 @@ pub fn full_files() -> Vec<Full> {
         10 02 00 1F 00 01 02 02 00  11 00 00 FF 01 00 00  11 02 01 02 FF 00 00  12 01 01 02  12 02 00 FF
         10 00 01 1F 00 02 01 01 00  12 00 00 00  11 01 00 FF FF 00 00  12 00 00 FF  11 00 01 00 00 00 00"));
     let run = hex(&(head.to_string()
-        + "0F 01
+        + "0F 01  1F 02 01 00 00
         20 00  20 02  21 01 01  22 00  20 01  20 04  22 02  22 01  20 03"));
-    // Safe 8: one process that reads 1, over case A, with the entries that the read needs.
+    // Safe 8: one process that reads 1 in a state where it does not start, over case A, with the entries that the read needs.
     let safe = hex(
-        "01 01 01 02  02 02 00  03 00 00 01 00 01 00 01  04 01 00 00 00  0F 00
+        "01 01 01 02  02 03 02  03 00 00 01 00 01 00 01  04 01 00 00 00  0F 00
         10 01 00 00 00 01 00 00 00  11 00 00 FF 00 00 00
         10 01 00 00 00 01 00 00 00  11 00 00 FF 00 00 00  12 00 00 FF
         10 01 00 00 00 01 00 00 00  11 00 00 FF 00 00 00  11 00 00 FF 00 00 00
@@ -89,12 +89,43 @@ pub fn sweeps(full: &Full, each: &mut dyn FnMut(&str, Vec<u8>)) {
     }
 }
 
+/// The 1F of every shape: each of its bytes in turn with values in range and outside, of existing variables and absent ones; cut; left out;
+/// twice; and after a claim of 0.
+pub fn memories(each: &mut dyn FnMut(&str, Vec<u8>)) {
+    for processes in 1..=4u8 {
+        for variables in 1..=4u8 {
+            for values in 1..=4u8 {
+                let head = [&[1, processes, variables, values][..], &[2, 1, 0].repeat(processes as usize), &[4, 0, 0, 0, 0]].concat();
+                let run = [&head[..], &[0x0f, 1]].concat();
+                let what = format!("shape {} {} {}, its memory", processes, variables, values);
+                for at in 0..4 {
+                    for byte in [0, 1, 2, 3, 4, 5, 0x1f, 0x7f, 0x80, 0xfe, 0xff] {
+                        let mut memory = [0; 4];
+                        memory[..variables as usize].fill(values - 1);
+                        memory[at] = byte;
+                        for end in [&[][..], &[0x22, 0]] {
+                            each(&what, [&run[..], &[0x1f], &memory, end].concat());
+                        }
+                        each(&what, [&head[..], &[0x0f, 0, 0x1f], &memory].concat());
+                        each(&what, [&run[..], &[0x1f, 0, 0, 0, 0, 0x1f], &memory].concat());
+                        each(&what, [&run[..], &[0x1f], &memory[..at]].concat());
+                    }
+                }
+                for end in [&[][..], &[0x20], &[0x22, 0], &[0x10], &[0x1f], &[0x0f, 1, 0x1f, 0, 0, 0, 0]] {
+                    each(&what, [&run[..], end].concat());
+                    each(&what, [&run[..], end, &[0x1f, 0, 0, 0, 0]].concat());
+                }
+            }
+        }
+    }
+}
+
 /// Files around the count limits, each with the work areas that matter to it.
 pub fn limits(each: &mut dyn FnMut(&str, Vec<u8>, usize)) {
     let p11 = hex("01 01 01 02  02 02 00");
     let target = hex("04 01 00 00 00");
     let claim0 = hex("0F 00");
-    let claim1 = hex("0F 01");
+    let claim1 = hex("0F 01  1F 00 00 00 00");
     let e = hex("10 01 00 00 00 01 00 00 00");
     let m = hex("11 00 00 FF 00 00 00");
     let w = hex("12 00 00 FF");
@@ -153,7 +184,7 @@ pub fn limits(each: &mut dyn FnMut(&str, Vec<u8>, usize)) {
         each(&format!("{} steps and a refused one", count), [&start[..], &hex("20 00").repeat(count), &hex("22 00")].concat(), small);
     }
     // A thousand waiting values, then serialised as far as steps allow; a thousand messages.
-    let writes = hex("01 01 01 04  02 01 00  03 00 00 02 00 03 00 00  03 00 00 05 00 00 00 00  04 00 00 00 00  0F 01");
+    let writes = hex("01 01 01 04  02 01 00  03 00 00 02 00 03 00 00  03 00 00 05 00 00 00 00  04 00 00 00 00  0F 01  1F 00 00 00 00");
     each("1,024 waiting values", [&writes[..], &hex("20 00").repeat(1_024)].concat(), small);
     each("512 waiting and serialised", [&writes[..], &hex("20 00").repeat(512), &hex("21 00 00").repeat(512)].concat(), small);
     each("341 three times", [&writes[..], &hex("20 00").repeat(341), &hex("21 00 00").repeat(341), &hex("22 00").repeat(342)].concat(), small);

@@ -273,31 +273,34 @@ fn brute_force(seed: u64, count: usize, judges: &mut Judges) {
     }
 }
 
-/// For a program without loops all configurations can be searched. Then exactly one of the two claims has evidence: either there is a run,
-/// and a start is above the closed list; or there is none, and the closed list is safe.
+/// For a program without loops all configurations can be searched, from every memory. Then exactly one of the two claims has evidence:
+/// either there is a run, and a start is above the closed list; or there is none, and the closed list is safe. Among those with a run are
+/// some that have none from cleared memory.
 fn reach(seed: u64, judges: &mut Judges) {
     let mut r = Random(seed);
     for (processes, variables, programs, most) in [(1, 1, 300, 400), (1, 2, 200, 600), (2, 1, 60, 2_500), (1, 3, 15, 2_500)] {
-        let (mut reached, mut safe) = (0, 0);
+        let (mut reached, mut uncleared, mut safe) = (0, 0, 0);
         while reached + safe < programs {
             let values = 1 + r.below(3) as u8;
             let program = random::program_without_loops(&mut r, processes, variables, values);
-            let run = search::shortest_run(&program, usize::MAX);
-            // Most random programs reach their target: half of those taken shall not.
-            if run.is_ok() && reached > safe {
+            let run = search::shortest_run(&program, &program.memories(), usize::MAX);
+            let from_cleared = search::shortest_run(&program, &[[0; 4]], usize::MAX).is_ok();
+            // Most random programs reach their target: half of those taken shall not, and some only from other memories.
+            if run.is_ok() && (reached > safe || from_cleared && reached > 3 * uncleared) {
                 continue;
             }
             let Some(entries) = search::closed_list(&program, &[], most) else { continue };
             *if run.is_ok() { &mut reached } else { &mut safe } += 1;
+            uncleared += (run.is_ok() && !from_cleared) as usize;
             let list = writing::list_file(&program, &entries);
             let area = enough(entries.len());
             let line = judge(&list, area);
             // Long lists that are safe take the judges long; the search has been made for them all.
             let short = entries.len() <= 600;
             match run {
-                Ok(steps) => {
-                    let run = writing::run_file(&program, &steps);
-                    let wanted = Verdict::Reachable(steps.len() as u64, 0);
+                Ok(found) => {
+                    let run = writing::run_file(&program, &found);
+                    let wanted = Verdict::Reachable(found.steps.len() as u64, 0);
                     if judge(&run, area) != wanted {
                         judges.fail("a run", "the separate judge", &wanted.to_string(), &judge(&run, area).to_string(), &run, area);
                     }
@@ -372,6 +375,15 @@ fn corpora(seed: u64, judges: &mut Judges) {
         }
     }
     refused_steps(&mut Random(seed ^ 0xca05e), judges);
+    for _ in 0..100 {
+        random::every_memory(&mut Random(r.next()), &mut |program, run| {
+            let file = writing::run_file(program, run);
+            judges.compare("run from every memory", &file, AREA_LEAST, judge(&file, AREA_LEAST), sample());
+        });
+    }
+    fixed::memories(&mut |what, file| {
+        judges.compare(what, &file, AREA_LEAST, judge(&file, AREA_LEAST), sample());
+    });
     let mut s = Random(seed ^ 0x5eed);
     random::lists(&mut r, &mut |program, entries| {
         let area = *s.pick(&areas);

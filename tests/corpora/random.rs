@@ -4,7 +4,7 @@ use crate::search::closed_list;
 use crate::seeded::Random;
 use reference::cubes::start_above;
 use reference::entries::Cube;
-use reference::{writing, Configuration, Message, Operation, Program, Step, Transition, FF};
+use reference::{writing, Configuration, Message, Operation, Program, Run, Step, Transition, FF};
 
 pub fn operation(r: &mut Random, variables: usize, values: u8) -> Operation {
     let variable = r.below(variables);
@@ -49,17 +49,26 @@ fn random_states(r: &mut Random, program: &Program) -> [u8; 4] {
     states
 }
 
+pub fn memory(r: &mut Random, program: &Program) -> [u8; 4] {
+    let mut memory = [0; 4];
+    for value in &mut memory[..program.variables] {
+        *value = r.below(program.values as usize) as u8;
+    }
+    memory
+}
+
 /// A run by random walk. The targets are the last local states, or by chance others.
-pub fn walk(r: &mut Random) -> (Program, Vec<Step>) {
+pub fn walk(r: &mut Random) -> (Program, Run) {
     let (processes, variables, values) = (1 + r.below(4), 1 + r.below(4), 1 + r.below(4) as u8);
     let most_states = *r.pick(&[2, 3, 4, 32]);
     let transitions = *r.pick(&[1, 4, 12, 12, 30, 60, 256]);
     let mut program = program(r, processes, variables, values, most_states, transitions);
     let length = *r.pick(&[0, 1, 3, 8, 20, 20, 60, 60, 200, 1_024]);
     let all = program.all_steps();
-    let mut c = Configuration::start(&program);
-    let mut run = Vec::new();
-    while run.len() < length {
+    let memory = memory(r, &program);
+    let mut c = Configuration::start(&program, memory);
+    let mut steps = Vec::new();
+    while steps.len() < length {
         // A few tries, then a look at all steps, so that a walk ends only where nothing is permitted.
         let mut taken = None;
         for _ in 0..20 {
@@ -73,7 +82,7 @@ pub fn walk(r: &mut Random) -> (Program, Vec<Step>) {
             taken = all.iter().copied().find(|step| c.take(&program, *step));
         }
         match taken {
-            Some(step) => run.push(step),
+            Some(step) => steps.push(step),
             None => break,
         }
     }
@@ -81,27 +90,28 @@ pub fn walk(r: &mut Random) -> (Program, Vec<Step>) {
         let at = r.below(program.targets.len());
         program.targets[at] = c.states;
     }
-    (program, run)
+    (program, Run { memory, steps })
 }
 
 /// One of the ways to damage a run.
-pub fn damaged_run(r: &mut Random, program: &Program, run: &[Step]) -> Vec<u8> {
+pub fn damaged_run(r: &mut Random, program: &Program, run: &Run) -> Vec<u8> {
     let mut program = program.clone();
-    let mut run = run.to_vec();
+    let mut run = run.clone();
+    let steps = &mut run.steps;
     let all = program.all_steps();
-    match r.below(8) {
-        0 if !run.is_empty() => {
-            let at = r.below(run.len());
-            run.remove(at);
+    match r.below(9) {
+        0 if !steps.is_empty() => {
+            let at = r.below(steps.len());
+            steps.remove(at);
         }
-        1 if run.len() > 1 => {
-            let at = r.below(run.len() - 1);
-            run.swap(at, at + 1);
+        1 if steps.len() > 1 => {
+            let at = r.below(steps.len() - 1);
+            steps.swap(at, at + 1);
         }
-        2 => run.insert(r.below(run.len() + 1), *r.pick(&all)),
-        3 if !run.is_empty() => {
-            let at = r.below(run.len());
-            run[at] = *r.pick(&all);
+        2 => steps.insert(r.below(steps.len() + 1), *r.pick(&all)),
+        3 if !steps.is_empty() => {
+            let at = r.below(steps.len());
+            steps[at] = *r.pick(&all);
         }
         4 if !program.transitions.is_empty() => {
             let at = r.below(program.transitions.len());
@@ -115,6 +125,7 @@ pub fn damaged_run(r: &mut Random, program: &Program, run: &[Step]) -> Vec<u8> {
             let p = r.below(program.processes);
             program.initial[p] = r.below(program.states[p] as usize) as u8;
         }
+        7 => run.memory = memory(r, &program),
         _ => return damaged_bytes(r, &writing::run_file(&program, &run)),
     }
     writing::run_file(&program, &run)
@@ -143,17 +154,17 @@ fn causes(program: &Program, c: &Configuration, t: &Transition) -> Vec<u64> {
 /// transition added to the program; and one for a serialise or an update. Each comes with its causes and the step's number.
 pub fn refused_steps(r: &mut Random, each: &mut dyn FnMut(&[u64], usize, &[u8])) {
     let (program, run) = walk(r);
-    let depth = r.below(run.len().min(1_023) + 1);
-    let mut c = Configuration::start(&program);
-    for step in &run[..depth] {
+    let depth = r.below(run.steps.len().min(1_023) + 1);
+    let mut c = Configuration::start(&program, run.memory);
+    for step in &run.steps[..depth] {
         c.take(&program, *step);
     }
-    let mut run = run[..depth].to_vec();
+    let mut run = Run { memory: run.memory, steps: run.steps[..depth].to_vec() };
     let still: Vec<Step> = program.all_steps().into_iter().filter(|step| !matches!(step, Step::Transition(_)) && c.refusal(&program, *step).is_some()).collect();
     if !still.is_empty() {
-        run.push(*r.pick(&still));
+        run.steps.push(*r.pick(&still));
         each(&[18], depth, &writing::run_file(&program, &run));
-        run.pop();
+        run.steps.pop();
     }
     let mut seen: Vec<Vec<u64>> = Vec::new();
     for _ in 0..200 {
@@ -165,7 +176,7 @@ pub fn refused_steps(r: &mut Random, each: &mut dyn FnMut(&[u64], usize, &[u8]))
             continue;
         }
         // In the place of a transition that the walk has not taken.
-        let free = (0..program.transitions.len()).find(|n| !run.contains(&Step::Transition(*n)));
+        let free = (0..program.transitions.len()).find(|n| !run.steps.contains(&Step::Transition(*n)));
         let mut with = program.clone();
         let number = match free {
             Some(n) => {
@@ -178,10 +189,26 @@ pub fn refused_steps(r: &mut Random, each: &mut dyn FnMut(&[u64], usize, &[u8]))
             }
             None => continue,
         };
-        run.push(Step::Transition(number));
+        run.steps.push(Step::Transition(number));
         each(&met, depth, &writing::run_file(&with, &run));
-        run.pop();
+        run.steps.pop();
         seen.push(met);
+    }
+}
+
+/// The run of a walk of a tiny shape, from every memory.
+pub fn every_memory(r: &mut Random, each: &mut dyn FnMut(&Program, &Run)) {
+    loop {
+        let (program, mut run) = walk(r);
+        let memories = program.memories();
+        if memories.len() > 16 {
+            continue;
+        }
+        for memory in memories {
+            run.memory = memory;
+            each(&program, &run);
+        }
+        return;
     }
 }
 
@@ -197,7 +224,7 @@ pub fn damaged_bytes(r: &mut Random, file: &[u8]) -> Vec<u8> {
             0 => file[at] = r.next() as u8,
             1 => file[at] = *r.pick(&[0, 1, 2, 3, 4, 5, 8, 16, 32, 254, 255]),
             2 => drop(file.remove(at)),
-            3 => file.insert(at, *r.pick(&[0, 1, 2, 3, 4, 15, 16, 17, 18, 32, 33, 34, 255])),
+            3 => file.insert(at, *r.pick(&[0, 1, 2, 3, 4, 15, 16, 17, 18, 31, 32, 33, 34, 255])),
             _ => file.truncate(at),
         }
     }

@@ -4,7 +4,7 @@
 use reference::cubes::{least, predecessors};
 use reference::entries::Cube;
 use reference::index::Index;
-use reference::{Configuration, Program, Step};
+use reference::{Configuration, Program, Run, Step};
 use std::collections::{HashMap, VecDeque};
 
 /// Entries that hold every target, the entries given and every predecessor; None if the list outgrows `most` entries or what an entry can
@@ -52,15 +52,13 @@ pub fn closed_list(program: &Program, given: &[Configuration], most: usize) -> O
     Some((0..index.len()).map(|number| index.entry(number).configuration(program)).collect())
 }
 
-/// A shortest run to a target that keeps at most `waiting` waiting values per process; else the number of configurations that there are
-/// within that bound. It ends for programs without loops, which make finitely many messages.
-pub fn shortest_run(program: &Program, waiting: usize) -> Result<Vec<Step>, usize> {
+/// A shortest run to a target, from one of these memories, that keeps at most `waiting` waiting values per process; else the number of
+/// configurations that there are within that bound. It ends for programs without loops, which make finitely many messages.
+pub fn shortest_run(program: &Program, memories: &[[u8; 4]], waiting: usize) -> Result<Run, usize> {
     let steps = program.all_steps();
-    let start = Configuration::start(program);
-    let mut from: HashMap<Configuration, Option<(usize, Step)>> = HashMap::new();
-    let mut order: Vec<Configuration> = vec![start.clone()];
-    from.insert(start, None);
-    let mut next: VecDeque<usize> = VecDeque::from([0]);
+    let mut order: Vec<Configuration> = memories.iter().map(|memory| Configuration::start(program, *memory)).collect();
+    let mut from: HashMap<Configuration, Option<(usize, Step)>> = order.iter().map(|start| (start.clone(), None)).collect();
+    let mut next: VecDeque<usize> = (0..order.len()).collect();
     while let Some(number) = next.pop_front() {
         let c = order[number].clone();
         if program.targets.contains(&c.states) {
@@ -71,7 +69,7 @@ pub fn shortest_run(program: &Program, waiting: usize) -> Result<Vec<Step>, usiz
                 at = before;
             }
             run.reverse();
-            return Ok(run);
+            return Ok(Run { memory: order[at].channel[0].snapshot, steps: run });
         }
         for step in &steps {
             let mut after = c.clone();

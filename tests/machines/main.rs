@@ -109,8 +109,7 @@ fn counted(program: &Program, number: usize) -> Option<usize> {
 }
 
 fn pws(program: &Program, memory: [u8; 4], most: u8, limit: usize) -> Option<(Set<Reached>, usize)> {
-    let mut start = reference::Configuration::start(program);
-    start.channel[0].snapshot = memory;
+    let start = reference::Configuration::start(program, memory);
     let steps: Vec<(Step, Option<usize>)> = program
         .all_steps()
         .into_iter()
@@ -228,19 +227,6 @@ fn program(r: &mut Random, loops: bool) -> Program {
     Program { processes, variables, values, states, initial: vec![0; processes], transitions, targets: Vec::new() }
 }
 
-fn memories(program: &Program) -> Vec<[u8; 4]> {
-    let mut all = vec![[0; 4]];
-    for v in 0..program.variables {
-        let with = |memory: &[u8; 4], value| {
-            let mut memory = *memory;
-            memory[v] = value;
-            memory
-        };
-        all = all.iter().flat_map(|memory| (0..program.values).map(move |value| with(memory, value))).collect();
-    }
-    all
-}
-
 fn main() {
     let words: Vec<u64> = std::env::args().skip(1).map(|word| word.parse().expect("machines SEED COUNT")).collect();
     let mut r = Random(words[0]);
@@ -254,7 +240,7 @@ fn main() {
         let most = if loops { 2 } else { u8::MAX };
         let sfence = program.transitions.iter().any(|t| t.operation == Operation::Sfence);
         let mut missed = false;
-        let all = memories(&program).into_iter().try_for_each(|memory| {
+        let all = program.memories().into_iter().try_for_each(|memory| {
             let (by_pws, a) = pws(&program, memory, most, limit)?;
             let (by_pso, b) = pso(&program, memory, most, limit, Fences::Kept)?;
             configurations += a + b;

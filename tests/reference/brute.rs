@@ -138,19 +138,7 @@ pub fn judge_list(program: &Program, entries: &[Configuration], bounds: &Bounds)
     let above_entry = |c: &Configuration, number: usize| filled[number].iter().any(|low| below(program, low, c));
     let above = |c: &Configuration| (0..entries.len()).any(|number| entries[number].states == c.states && above_entry(c, number));
 
-    let mut snapshots = vec![[0u8; 4]];
-    for v in 0..program.variables {
-        snapshots = snapshots
-            .iter()
-            .flat_map(|s| {
-                (0..program.values).map(move |value| {
-                    let mut next = *s;
-                    next[v] = value;
-                    next
-                })
-            })
-            .collect();
-    }
+    let snapshots = program.memories();
     let mut messages = Vec::new();
     for p in 0..program.processes {
         for v in 0..program.variables {
@@ -228,15 +216,17 @@ pub fn judge_list(program: &Program, entries: &[Configuration], bounds: &Bounds)
     if let Some(target) = target_missed {
         return Some(Verdict::Refused(9, target as u64));
     }
+    let starts: Vec<Configuration> = messages
+        .iter()
+        .map(|message| {
+            let mut start = Configuration::start(program, message.snapshot);
+            start.channel[0] = *message;
+            start
+        })
+        .collect();
     for (number, entry) in filled.iter().enumerate() {
-        for process in 0..program.processes {
-            for variable in 0..program.variables {
-                let mut start = Configuration::start(program);
-                start.channel[0] = Message { process: process as u8, variable: variable as u8, snapshot: [0; 4] };
-                if entry.iter().any(|low| below(program, low, &start)) {
-                    return Some(Verdict::Refused(10, number as u64));
-                }
-            }
+        if starts.iter().any(|start| entry.iter().any(|low| below(program, low, start))) {
+            return Some(Verdict::Refused(10, number as u64));
         }
     }
     if let Some(entry) = not_closed {

@@ -271,12 +271,11 @@ fn target_held(index: &Index, states: [u8; 4], count: Option<usize>) -> bool {
     structures.len() == count
 }
 
-/// Number 10 for one entry.
+/// Number 10 for one entry: its values do not matter, since a start has any memory.
 pub fn start_above(program: &Program, entry: &Cube) -> bool {
     (0..program.processes).all(|p| entry.states[p] == program.initial[p])
         && entry.lengths().iter().all(|length| *length == 0)
         && entry.channel().len() == 1
-        && entry.channel()[0].snapshot[..program.variables].iter().all(|v| *v == FF || *v == 0)
 }
 
 /// Claim 0, the list's entries being well formed.

@@ -1,4 +1,4 @@
-//! A judge written separately, from document 01 alone, to be compared with the proved one.
+//! A judge written separately, from the papers alone, to be compared with the proved one.
 //! It shares no code, no order of work and no layout with it: records are read into owned values, a channel has its oldest message first,
 //! lists are answered over a hash index by structure, and a second algorithm (`brute`) knows only the machine and the order. It is written
 //! to be fast, as a judge without proofs would be: times of the proved one are given as ratios to it (bench/run).
@@ -11,7 +11,7 @@ pub mod machine;
 pub mod reading;
 pub mod writing;
 
-pub use machine::{Configuration, Message, Operation, Program, Step, Transition};
+pub use machine::{Configuration, Message, Operation, Program, Run, Step, Transition};
 pub use reading::{read, Evidence};
 
 /// Stands for any value of its place, in an entry.
@@ -50,7 +50,7 @@ pub fn judge(file: &[u8], area: usize) -> Verdict {
     }
     match read(file, entries_allowed(area)) {
         Err((number, place)) => Verdict::Refused(number, place as u64),
-        Ok((program, Evidence::Run(steps))) => replay(&program, &steps),
+        Ok((program, Evidence::Run(run))) => replay(&program, &run),
         Ok((program, Evidence::List(list))) => cubes::judge_list(&program, &list),
     }
 }
@@ -63,17 +63,17 @@ pub fn judge_input(file: &[u8]) -> Verdict {
     judge(file, AREA_LEAST)
 }
 
-/// Claim 1: every step in turn, then the lowest target that the last local states meet.
-pub fn replay(program: &Program, steps: &[Step]) -> Verdict {
-    let mut configuration = Configuration::start(program);
-    for (number, step) in steps.iter().enumerate() {
+/// Claim 1: every step in turn from the starting memory, then the lowest target that the last local states meet.
+pub fn replay(program: &Program, run: &Run) -> Verdict {
+    let mut configuration = Configuration::start(program, run.memory);
+    for (number, step) in run.steps.iter().enumerate() {
         if let Some(cause) = configuration.refusal(program, *step) {
             return Verdict::Refused(cause, number as u64);
         }
         configuration.take(program, *step);
     }
     match program.targets.iter().position(|target| *target == configuration.states) {
-        Some(target) => Verdict::Reachable(steps.len() as u64, target as u64),
-        None => Verdict::Refused(13, steps.len() as u64),
+        Some(target) => Verdict::Reachable(run.steps.len() as u64, target as u64),
+        None => Verdict::Refused(13, run.steps.len() as u64),
     }
 }

@@ -25,6 +25,14 @@ pub enum Step {
     Update(usize),
 }
 
+/// The evidence of claim 1.
+#[derive(Clone, PartialEq, Eq, Debug, Default)]
+pub struct Run {
+    /// The snapshot of the start's message.
+    pub memory: [u8; 4],
+    pub steps: Vec<Step>,
+}
+
 #[derive(Clone, PartialEq, Eq, Debug, Default)]
 pub struct Program {
     pub processes: usize,
@@ -73,6 +81,20 @@ impl Program {
         process * self.variables + variable
     }
 
+    /// Every memory whose values are in range, 0 in absent variables.
+    pub fn memories(&self) -> Vec<[u8; 4]> {
+        let mut all = vec![[0; 4]];
+        for v in 0..self.variables {
+            let with = |memory: &[u8; 4], value| {
+                let mut memory = *memory;
+                memory[v] = value;
+                memory
+            };
+            all = all.iter().flat_map(|memory| (0..self.values).map(move |value| with(memory, value))).collect();
+        }
+        all
+    }
+
     /// Every step that the shape has, permitted or not: transitions, serialise, update.
     pub fn all_steps(&self) -> Vec<Step> {
         let mut steps: Vec<Step> = (0..self.transitions.len()).map(Step::Transition).collect();
@@ -87,9 +109,9 @@ impl Program {
 }
 
 impl Configuration {
-    /// The permitted start whose message is labelled (0, 0). No replay depends on that label: every pointer is at least 1, and so is
-    /// every LastWrite without it.
-    pub fn start(program: &Program) -> Configuration {
+    /// The permitted start with this memory whose message is labelled (0, 0). No replay depends on that label: every pointer is at least 1,
+    /// and so is every LastWrite without it.
+    pub fn start(program: &Program, memory: [u8; 4]) -> Configuration {
         let mut states = [0; 4];
         let mut pointers = [0; 4];
         for p in 0..program.processes {
@@ -99,7 +121,7 @@ impl Configuration {
         Configuration {
             states,
             queues: vec![Vec::new(); program.processes * program.variables],
-            channel: vec![Message { process: 0, variable: 0, snapshot: [0; 4] }],
+            channel: vec![Message { process: 0, variable: 0, snapshot: memory }],
             pointers,
         }
     }

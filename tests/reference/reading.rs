@@ -1,12 +1,12 @@
 //! Document 01, "Records" and the refusal table: bytes to program and evidence, or a number and a place.
 
 use crate::entries::{Cube, List};
-use crate::machine::{Message, Operation, Program, Step, Transition};
+use crate::machine::{Message, Operation, Program, Run, Step, Transition};
 use crate::FF;
 
 pub enum Evidence {
     List(List),
-    Run(Vec<Step>),
+    Run(Run),
 }
 
 /// Body lengths of the kinds that exist.
@@ -20,6 +20,7 @@ pub fn body_length(kind: u8) -> Option<usize> {
         0x10 => 8,
         0x11 => 6,
         0x12 => 3,
+        0x1f => 4,
         0x20 => 1,
         0x21 => 2,
         0x22 => 1,
@@ -37,6 +38,8 @@ struct Reader {
     latest: Option<Cube>,
     /// Offset of the latest entry's 10.
     latest_at: usize,
+    /// Of a run.
+    memory: Option<[u8; 4]>,
     steps: Vec<Step>,
 }
 
@@ -52,7 +55,8 @@ impl Reader {
             (0x0f, None) => all_states && !no_target,
             (0x10, Some(0)) => true,
             (0x11 | 0x12, Some(0)) => self.latest.is_some(),
-            (0x20 | 0x21 | 0x22, Some(1)) => true,
+            (0x1f, Some(1)) => self.memory.is_none(),
+            (0x20 | 0x21 | 0x22, Some(1)) => self.memory.is_some(),
             _ => false,
         }
     }
@@ -202,6 +206,13 @@ impl Reader {
                 }
                 self.latest.as_mut()?.push_newest(queue, body[2]);
             }
+            0x1f => {
+                let mut memory = [0; 4];
+                for (v, byte) in body.iter().enumerate() {
+                    memory[v] = if v < variables { value(*byte)? } else { zero(*byte).map(|_| 0)? };
+                }
+                self.memory = Some(memory);
+            }
             0x20 => {
                 if body[0] as usize >= self.program.transitions.len() {
                     return None;
@@ -253,9 +264,9 @@ pub fn read(file: &[u8], entries_allowed: usize) -> Result<(Program, Evidence), 
         return Err((7, reader.latest_at));
     }
     reader.end_entry();
-    match reader.claim {
-        None => Err((6, file.len())),
-        Some(0) => Ok((reader.program, Evidence::List(reader.list))),
-        Some(_) => Ok((reader.program, Evidence::Run(reader.steps))),
+    match (reader.claim, reader.memory) {
+        (Some(0), _) => Ok((reader.program, Evidence::List(reader.list))),
+        (Some(_), Some(memory)) => Ok((reader.program, Evidence::Run(Run { memory, steps: reader.steps }))),
+        _ => Err((6, file.len())), // before the claim, or before the memory that a run starts from
     }
 }
