@@ -44,9 +44,9 @@ both-exist s p v e =
 -- ---- transitions
 
 module _ (s : Shape) (v x y : ℕ) where
-  value-exists : (z : ℕ) → valueExists s v z ≡ true → (v < s .variables) × (z < s .values)
+  value-exists : (z : ℕ) → valueExists s v z ≡ true → (v < s .variables) × (z < valueCount s v)
   unfolding valueExists
-  value-exists z e = let r = and-true (ltb v (s .variables)) (ltb z (s .values)) e in (ltb-true v (s .variables) (r .0), ltb-true z (s .values) (r .1))
+  value-exists z e = let r = and-true (ltb v (s .variables)) (ltb z (valueCount s v)) e in (ltb-true v (s .variables) (r .0), ltb-true z (valueCount s v) (r .1))
 
   abbrev Named : ℕ → Type 0
   Named n = operationNames s n v x y ≡ true → pws.OperationOf (shapeOf s) (operationOf n v x y)
@@ -161,11 +161,11 @@ module _ (s : Shape) (f : List ℕ) (at : ℕ) where
 
 pub value-inside : (s : Shape) (v x : ℕ) → v < s .variables → valueName s v x ≡ true → ValueOrFF (shapeOf s) v x
 unfolding valueName
-value-inside s v x l e = go (or-cases (eqb x 255) (ltb x (s .values)) (rw (lt-ltb v (s .variables) l) at e))
+value-inside s v x l e = go (or-cases (eqb x 255) (ltb x (valueCount s v)) (rw (lt-ltb v (s .variables) l) at e))
   where
-    go : (eqb x 255 ≡ true) ⊎ (ltb x (s .values) ≡ true) → ValueOrFF (shapeOf s) v x
+    go : (eqb x 255 ≡ true) ⊎ (ltb x (valueCount s v) ≡ true) → ValueOrFF (shapeOf s) v x
     go (inl a) = inl (eqb-true x 255 a)
-    go (inr a) = inr (ltb-true x (s .values) a)
+    go (inr a) = inr (ltb-true x (valueCount s v) a)
 
 value-none : (s : Shape) (v x : ℕ) → s .variables ≤ v → valueName s v x ≡ true → x ≡ 0
 unfolding valueName

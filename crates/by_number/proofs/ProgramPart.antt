@@ -7,7 +7,7 @@ use mathlib.Core.List.{List}
 use native.Mathlib.Omega.{arith}
 use lib.ListN.{length, getD}
 use lib.Dec.{leb}
-use borrow.Author.Tests.{leb-true, ltb-true, lt-ltb, not-false}
+use borrow.Author.Tests.{eqb-true, leb-true, ltb-true, lt-ltb, le-ltb, not-false}
 use Rattle.pws.specs.Program as pws
 use Rattle.pws.specs.Configurations.{StatesOf}
 use Rattle.program_part.specs.declared.program.Shape.{Shape}
@@ -15,7 +15,7 @@ use Rattle.program_part.specs.declared.program.Program.{Program}
 use Rattle.program_part.specs.declared.program.Checked.the-variants.{Fine}
 use Rattle.program_part.specs.declared.program.Counted.the-variants.{Records}
 use Rattle.program_part.specs.Bytes.{byte}
-use Rattle.program_part.specs.Records.{checked, inRange, isKind, shapeAt, shapeNumber, transitionAt, transitionNumber, transitionNames, targetNumber, stateNames, stateAt}
+use Rattle.program_part.specs.Records.{checked, inRange, isKind, shapeAt, valueCount, countInRange, countsInRange, countIfAbsent, countsIfAbsent, shapeNumber, transitionAt, transitionNumber, transitionNames, targetNumber, stateNames, stateAt}
 use Rattle.program_part.specs.ProgramPart.{unlessEnd, statesFrom, ofProcess, ofProcesses, atClaim, transitionsFrom, targetsFrom, programFrom, programOf, targetsOf}
 use Rattle.program_part.proofs.RecordLaws.{good, unless-fine, states-fine, transition-fine, target-fine}
 use Rattle.program_part.proofs.ProgramLaws.{and-true, transitions-most, targets-most}
@@ -30,15 +30,47 @@ use Rattle.by_number.proofs.Rows.{row-each, row-stop, place-eight, plac
 pub record ShapeRange (s : Shape) : Type 0 where
   pub processes : (1 ≤ s .processes) × (s .processes ≤ 4)
   pub variables : (1 ≤ s .variables) × (s .variables ≤ 4)
-  pub values : (1 ≤ s .values) × (s .values ≤ 4)
+  pub values : (v : ℕ) → v < s .variables → (1 ≤ valueCount s v) × (valueCount s v ≤ 4)
+  pub absent : (v : ℕ) → v < 4 → s .variables ≤ v → valueCount s v ≡ 0
+
+module _ (s : Shape) where
+  count-range : (v : ℕ) → v < s .variables → countInRange s v ≡ true → (1 ≤ valueCount s v) × (valueCount s v ≤ 4)
+  unfolding countInRange
+  count-range v l e = range-true (valueCount s v) 4 (rw (lt-ltb v (s .variables) l) at e)
+
+  count-each : countsInRange s ≡ true → (v : ℕ) → v < 4 → countInRange s v ≡ true
+  unfolding countsInRange
+  count-each e =
+      let a = and-true (countInRange s 0) (countInRange s 1 && (countInRange s 2 && countInRange s 3)) e in
+      let b = and-true (countInRange s 1) (countInRange s 2 && countInRange s 3) (a .1) in
+      let c = and-true (countInRange s 2) (countInRange s 3) (b .1) in
+      of-four (λ (v : ℕ). countInRange s v ≡ true) (a .0) (b .0) (c .0) (c .1)
+
+  count-none : (v : ℕ) → s .variables ≤ v → countIfAbsent s v ≡ true → valueCount s v ≡ 0
+  unfolding countIfAbsent
+  count-none v l e = eqb-true (valueCount s v) 0 (rw (le-ltb v (s .variables) l) at e)
+
+  absent-each : countsIfAbsent s ≡ true → (v : ℕ) → v < 4 → countIfAbsent s v ≡ true
+  unfolding countsIfAbsent
+  absent-each e =
+      let a = and-true (countIfAbsent s 0) (countIfAbsent s 1 && (countIfAbsent s 2 && countIfAbsent s 3)) e in
+      let b = and-true (countIfAbsent s 1) (countIfAbsent s 2 && countIfAbsent s 3) (a .1) in
+      let c = and-true (countIfAbsent s 2) (countIfAbsent s 3) (b .1) in
+      of-four (λ (v : ℕ). countIfAbsent s v ≡ true) (a .0) (b .0) (c .0) (c .1)
 
 pub shape-in : (f : List ℕ) (at : ℕ) → unlessEnd f at (checked (shapeNumber f at) at) ≡ Fine → ShapeRange (shapeAt f at)
 unfolding shapeNumber
 shape-in f at e =
     let g = good at (unless-fine f at _ e .1) in
-    let a = and-true (inRange (byte f (at + 1)) 4) (inRange (byte f (at + 2)) 4 && inRange (byte f (at + 3)) 4) (not-false _ (g .range)) in
-    let b = and-true (inRange (byte f (at + 2)) 4) (inRange (byte f (at + 3)) 4) (a .1) in
-    record { processes = range-true (byte f (at + 1)) 4 (a .0); variables = range-true (byte f (at + 2)) 4 (b .0); values = range-true (byte f (at + 3)) 4 (b .1) }
+    let a = and-true (inRange (byte f (at + 1)) 4) (inRange (byte f (at + 2)) 4 && countsInRange (shapeAt f at)) (not-false _ (g .range)) in
+    let b = and-true (inRange (byte f (at + 2)) 4) (countsInRange (shapeAt f at)) (a .1) in
+    let few = range-true (byte f (at + 2)) 4 (b .0) in
+    record {
+      processes = range-true (byte f (at + 1)) 4 (a .0);
+      variables = few;
+      values = λ v l. count-range (shapeAt f at) v l (count-each (shapeAt f at) (b .1) v (omega arith));
+      absent = λ v l m. count-none (shapeAt f at) v m (absent-each (shapeAt f at) (not-false _ (g .names)) v l);
+    }
 
 -- ---- states
 
@@ -91,17 +123,17 @@ module _ (f : List ℕ) (at : ℕ) (F : ProgramFine f at) where
   s = shapeAt f at
 
   abbrev states : List ℕ
-  states = ofProcesses f (at + 4) 1 (s .processes)
+  states = ofProcesses f (at + 7) 1 (s .processes)
 
   abbrev first : ℕ
-  first = at + 4 + 3 * s .processes
+  first = at + 7 + 3 * s .processes
 
   abbrev p : Program
   p =
       record {
         shape = s;
         states = states;
-        initial = ofProcesses f (at + 4) 2 (s .processes);
+        initial = ofProcesses f (at + 7) 2 (s .processes);
         transitions = record { at = first; count = F .transitions };
         targets = record { at = first + 8 * F .transitions; count = F .targets };
         claim = first + 8 * F .transitions + 5 * F .targets;
@@ -141,20 +173,20 @@ module _ (f : List ℕ) (at : ℕ) (F : ProgramFine f at) where
                     processes = range .processes .1;
                     someVariable = range .variables .0;
                     variables = range .variables .1;
-                    someValue = λ v l. range .values .0;
-                    values = λ v l. range .values .1;
+                    someValue = λ v l. range .values v l .0;
+                    values = λ v l. range .values v l .1;
                   };
-              initial = λ q l. initial-below f (at + 4) (s .processes) (range .processes .1) (F .states) q l;
+              initial = λ q l. initial-below f (at + 7) (s .processes) (range .processes .1) (F .states) q l;
               transitions = λ i l. taken i (omega (arith, count₁));
             };
-        states = λ q l. states-most f (at + 4) (s .processes) (range .processes .1) (F .states) q l;
+        states = λ q l. states-most f (at + 7) (s .processes) (range .processes .1) (F .states) q l;
         transitions = omega (arith, count₁, few-rows .0);
         targets = λ k l. aimed k (omega (arith, count₂));
         someTarget = omega (arith, count₂, targets-least s states f (first + 8 * F .transitions) (F .targets) (F .aims));
         fewTargets = omega (arith, count₂, few-rows .1);
       }
 
-  near : p .claim ≤ at + 2144
+  near : p .claim ≤ at + 2147
   near = omega (arith, few-rows .0, few-rows .1, range .processes .1)
 
   whole-sizes : _≡_ {A = ℕ} at 0 → ProgramSizes p
@@ -182,5 +214,5 @@ module _ (f : List ℕ) (at : ℕ) (q : programFrom f at .answer ≡ Fine) where
   part-sizes z = subst ProgramSizes (sym (F .same)) (whole-sizes f at F z)
 
   -- the claim stands near the beginning
-  pub claim-near : programFrom f at .program .claim ≤ at + 2144
-  claim-near = subst (λ (p : Program). p .claim ≤ at + 2144) (sym (F .same)) (near f at F)
+  pub claim-near : programFrom f at .program .claim ≤ at + 2147
+  claim-near = subst (λ (p : Program). p .claim ≤ at + 2147) (sym (F .same)) (near f at F)

@@ -10,6 +10,7 @@ use Rattle.pws.specs.Machine.{Configuration}
 use Rattle.pws.specs.Configurations.{StatesOf, StartingMemory}
 use Rattle.pws.specs.Entries.{EntryOf, entry}
 use Rattle.program_part.specs.declared.program.Program as declared
+use Rattle.program_part.specs.Records.{valueCount}
 use Rattle.whole_file.specs.declared.entry.Cube.{Cube}
 use Rattle.whole_file.specs.EvidencePart.{entriesAllowed}
 use Rattle.whole_file.specs.Cube.{noQueue}
@@ -55,10 +56,10 @@ pub record RunRead (P : Program) (ts : List (ℕ → ℕ)) (memory : List ℕ) (
 pub record ProgramSizes (p : declared.Program) : Type 0 where
   pub processes : (1 ≤ p .shape .processes) × (p .shape .processes ≤ 4)
   pub variables : (1 ≤ p .shape .variables) × (p .shape .variables ≤ 4)
-  pub values : (1 ≤ p .shape .values) × (p .shape .values ≤ 4)
+  pub values : (v : ℕ) → v < p .shape .variables → (1 ≤ valueCount (p .shape) v) × (valueCount (p .shape) v ≤ 4)
   pub transitions : p .transitions .count ≤ 256
   pub targets : (1 ≤ p .targets .count) × (p .targets .count ≤ 16)
-  pub claim : p .claim ≤ 2144
+  pub claim : p .claim ≤ 2147
 
 -- an entry
 pub record CubeRange (c : Cube) : Type 0 where

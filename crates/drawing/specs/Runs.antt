@@ -10,7 +10,7 @@ use Rattle.pws.specs.declared.Step.the-variants.{Take, Serialise, Update}
 use Rattle.program_part.specs.declared.program.Shape.{Shape}
 
 abbrev pub fullShape : Shape
-fullShape = record { processes = 4; variables = 4; values = 4 }
+fullShape = record { processes = 4; variables = 4; values = 4 ∷ 4 ∷ 4 ∷ 4 ∷ [] }
 
 -- the step names what a program of full shape has
 abbrev pub StepInRange : Step → Type 0

@@ -27,10 +27,11 @@ use whole_file::steps::steps_from;
 fn full_shape() -> Shape
     ensures { λ r. ⌜ r ≡ fullShape ⌝ }
 {
+    let values = [4u8; 4];
     Shape {
         processes: 4,
         variables: 4,
-        values: 4,
+        values: values,
     }
 }
 

@@ -12,7 +12,7 @@ use Rattle.program_part.specs.declared.program.Checked.the-variants.{Fin
 use Rattle.program_part.specs.declared.program.Counted.the-variants.{Records, Stopped}
 use Rattle.program_part.specs.declared.program.Shape.{Shape}
 use Rattle.program_part.specs.Bytes.{byte, cut}
-use Rattle.program_part.specs.Records.{checked, inRange, shapeAt, shapeNumber}
+use Rattle.program_part.specs.Records.{checked, inRange, countsInRange, shapeAt, shapeNumber}
 use Rattle.program_part.specs.ProgramPart.{unlessEnd, transitionsFrom, targetsFrom}
 use Rattle.program_part.proofs.RecordLaws.{Good, good, cut-fits, unless-fine, row-most}
 
@@ -27,13 +27,13 @@ range-most x most e = leb-true x most (and-true (not (eqb x 0)) (leb x most) e .
 
 -- a 01 that is fine
 pub shape-fine : (f : List ℕ) (at : ℕ) → unlessEnd f at (checked (shapeNumber f at) at) ≡ Fine
-    → (at + 3 < length f) × (shapeAt f at .processes ≤ 4) × (shapeAt f at .variables ≤ 4)
+    → (at + 6 < length f) × (shapeAt f at .processes ≤ 4) × (shapeAt f at .variables ≤ 4)
 unfolding shapeNumber
 shape-fine f at e =
     let g = good at (unless-fine f at _ e .1) in
-    let a = and-true (inRange (byte f (at + 1)) 4) (inRange (byte f (at + 2)) 4 && inRange (byte f (at + 3)) 4) (not-false _ (g .range)) in
-    let b = and-true (inRange (byte f (at + 2)) 4) (inRange (byte f (at + 3)) 4) (a .1) in
-    (cut-fits f at 3 (g .whole), range-most (byte f (at + 1)) 4 (a .0), range-most (byte f (at + 2)) 4 (b .0))
+    let a = and-true (inRange (byte f (at + 1)) 4) (inRange (byte f (at + 2)) 4 && countsInRange (shapeAt f at)) (not-false _ (g .range)) in
+    let b = and-true (inRange (byte f (at + 2)) 4) (countsInRange (shapeAt f at)) (a .1) in
+    (cut-fits f at 6 (g .whole), range-most (byte f (at + 1)) 4 (a .0), range-most (byte f (at + 2)) 4 (b .0))
 
 module _ (s : Shape) (states : List ℕ) (f : List ℕ) (at : ℕ) where
   pub transitions-most : (n : ℕ) → transitionsFrom s states f at ≡ Records n → n ≤ 256

@@ -80,7 +80,7 @@ targetsFrom s states f at = rowFrom (atClaim f) (λ k n. unlessEnd f k (checked 
 abbrev pub noProgram : Program
 noProgram =
     record {
-      shape = record { processes = 0; variables = 0; values = 0 };
+      shape = record { processes = 0; variables = 0; values = 0 ∷ 0 ∷ 0 ∷ 0 ∷ [] };
       states = 0 ∷ 0 ∷ 0 ∷ 0 ∷ [];
       initial = 0 ∷ 0 ∷ 0 ∷ 0 ∷ [];
       transitions = record { at = 0; count = 0 };
@@ -125,7 +125,7 @@ restFrom f at s =
 
 -- and the 01 before these
 unfoldable pub programFrom : List ℕ → ℕ → ProgramRead
-programFrom f at = orRefused (unlessEnd f at (checked (shapeNumber f at) at)) (λ _. restFrom f (at + 4) (shapeAt f at))
+programFrom f at = orRefused (unlessEnd f at (checked (shapeNumber f at) at)) (λ _. restFrom f (at + 7) (shapeAt f at))
 
 -- ---- what stands there
 

@@ -32,19 +32,38 @@ isKind f at kind = eqb (byte f at) kind
 unfoldable pub inRange : ℕ → ℕ → Bool
 inRange x most = not (eqb x 0) && leb x most
 
--- ---- 01: processes, variables, values per variable, each 1 to 4
+-- ---- 01: processes, variables, each 1 to 4; the number of values of each of four variables (document 02, N5)
 
 abbrev pub shapeAt : List ℕ → ℕ → Shape
-shapeAt f at = record { processes = byte f (at + 1); variables = byte f (at + 2); values = byte f (at + 3) }
-
-unfoldable pub shapeNumber : List ℕ → ℕ → ℕ
-shapeNumber f at =
-    firstNumber (not (isKind f at 1)) (cut f at 3) false
-    (not (inRange (byte f (at + 1)) 4 && (inRange (byte f (at + 2)) 4 && inRange (byte f (at + 3)) 4))) false
+shapeAt f at =
+    record {
+      processes = byte f (at + 1);
+      variables = byte f (at + 2);
+      values = byte f (at + 3) ∷ byte f (at + 4) ∷ byte f (at + 5) ∷ byte f (at + 6) ∷ [];
+    }
 
 -- the number of values of a variable
 abbrev pub valueCount : Shape → ℕ → ℕ
-valueCount s v = s .values
+valueCount s v = getD (s .values) v 0
+
+-- a variable that the shape has has 1 to 4 values
+unfoldable pub countInRange : Shape → ℕ → Bool
+countInRange s v = cond (ltb v (s .variables)) (inRange (valueCount s v) 4) true
+
+unfoldable pub countsInRange : Shape → Bool
+countsInRange s = countInRange s 0 && (countInRange s 1 && (countInRange s 2 && countInRange s 3))
+
+-- and one that it does not have has the count 0
+unfoldable pub countIfAbsent : Shape → ℕ → Bool
+countIfAbsent s v = cond (ltb v (s .variables)) true (eqb (valueCount s v) 0)
+
+unfoldable pub countsIfAbsent : Shape → Bool
+countsIfAbsent s = countIfAbsent s 0 && (countIfAbsent s 1 && (countIfAbsent s 2 && countIfAbsent s 3))
+
+unfoldable pub shapeNumber : List ℕ → ℕ → ℕ
+shapeNumber f at =
+    firstNumber (not (isKind f at 1)) (cut f at 6) false
+    (not (inRange (byte f (at + 1)) 4 && (inRange (byte f (at + 2)) 4 && countsInRange (shapeAt f at)))) (not (countsIfAbsent (shapeAt f at)))
 
 -- ---- 02: number of states 1 to 32, initial state
 

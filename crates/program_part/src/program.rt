@@ -32,11 +32,11 @@ pub enum Counted {
     Stopped(Refusal),
 }
 
-// Kind 01. The number of values is the same for every variable.
+// Kind 01. Each of four variables has its number of values, 0 where the shape does not have the variable.
 pub struct Shape {
     pub processes: usize,
     pub variables: usize,
-    pub values: u8,
+    pub values: [u8; 4],
 }
 
 // Records of one kind and size in a row: where the first stands, and how many there are.
@@ -63,7 +63,8 @@ pub struct ProgramRead {
 pub fn value_count(shape: Shape, variable: usize) -> u8
     ensures { λ r. ⌜ r ≡ valueCount shape variable ⌝ }
 {
-    shape.values
+    let values = shape.values;
+    of_four(values, variable)
 }
 
 // One of four bytes, and 0 past the fourth.
@@ -182,7 +183,7 @@ fn program_refused(refusal: Refusal) -> ProgramRead
             shape: Shape {
                 processes: 0,
                 variables: 0,
-                values: 0,
+                values: none,
             },
             states: none,
             initial: none,
@@ -193,13 +194,19 @@ fn program_refused(refusal: Refusal) -> ProgramRead
     }
 }
 
-fn shape_at(file: &[u8], at: usize) -> Shape
+pub(crate) fn shape_at(file: &[u8], at: usize) -> Shape
     ensures { λ r. ⌜ r ≡ shapeAt (now (file .entry)) at ⌝ }
 {
+    let values = [
+        field(file, at, 3),
+        field(file, at, 4),
+        field(file, at, 5),
+        field(file, at, 6),
+    ];
     Shape {
         processes: wide(field(file, at, 1)),
         variables: wide(field(file, at, 2)),
-        values: field(file, at, 3),
+        values: values,
     }
 }
 
@@ -285,5 +292,5 @@ pub fn read_program(file: &[u8], at: usize) -> ProgramRead
         return program_refused(refusal_of(opening));
     };
     let shape = shape_at(file, at);
-    read_rest(file, at + 4, shape)
+    read_rest(file, at + 7, shape)
 }

@@ -1,6 +1,6 @@
 // One record of the program part: its number in the refusal table, and what it says (document 01, "Records").
 ghost use mathlib.Core.Path.{_≡_};
-ghost use Rattle.program_part.specs.Records.{firstNumber, checked, isKind, inRange, shapeNumber, statesNumber, valueExists, allZero, operationNames, operationOf, transitionAt, transitionNames, transitionNumber, stateName, stateNames, targetNumber};
+ghost use Rattle.program_part.specs.Records.{firstNumber, checked, isKind, inRange, countInRange, countsInRange, countIfAbsent, countsIfAbsent, shapeNumber, statesNumber, valueExists, allZero, operationNames, operationOf, transitionAt, transitionNames, transitionNumber, stateName, stateNames, targetNumber};
 use crate::bytes::both;
 use crate::bytes::byte_at;
 use crate::bytes::cut;
@@ -10,6 +10,7 @@ use crate::program::Checked;
 use crate::program::Refusal;
 use crate::program::Shape;
 use crate::program::of_four;
+use crate::program::shape_at;
 use crate::program::value_count;
 use pws::Operation;
 use pws::Transition;
@@ -66,21 +67,60 @@ fn in_range(x: u8, most: u8) -> bool
     both(x != 0, x <= most)
 }
 
+fn count_in_range(shape: Shape, v: usize) -> bool
+    ensures { λ r. ⌜ r ≡ countInRange shape v ⌝ }
+{
+    if v < shape.variables {
+        return in_range(value_count(shape, v), 4);
+    }
+    true
+}
+
+// Every variable of the shape has 1 to 4 values.
+fn counts_in_range(shape: Shape) -> bool
+    ensures { λ r. ⌜ r ≡ countsInRange shape ⌝ }
+{
+    let a = count_in_range(shape, 0);
+    let b = count_in_range(shape, 1);
+    let c = count_in_range(shape, 2);
+    let d = count_in_range(shape, 3);
+    both(a, both(b, both(c, d)))
+}
+
+fn count_if_absent(shape: Shape, v: usize) -> bool
+    ensures { λ r. ⌜ r ≡ countIfAbsent shape v ⌝ }
+{
+    if v < shape.variables {
+        return true;
+    }
+    value_count(shape, v) == 0
+}
+
+// Every variable that it does not have has the count 0.
+fn counts_if_absent(shape: Shape) -> bool
+    ensures { λ r. ⌜ r ≡ countsIfAbsent shape ⌝ }
+{
+    let a = count_if_absent(shape, 0);
+    let b = count_if_absent(shape, 1);
+    let c = count_if_absent(shape, 2);
+    let d = count_if_absent(shape, 3);
+    both(a, both(b, both(c, d)))
+}
+
 pub(crate) fn check_shape(file: &[u8], at: usize) -> Checked
     ensures { λ r. ⌜ r ≡ checked (shapeNumber (now (file .entry)) at) at ⌝ }
 {
-    let more = both(
-        in_range(field(file, at, 2), 4),
-        in_range(field(file, at, 3), 4),
-    );
+    let shape = shape_at(file, at);
+    let more = both(in_range(field(file, at, 2), 4), counts_in_range(shape));
     let range = both(in_range(field(file, at, 1), 4), more);
+    let absent = counts_if_absent(shape);
     answer(
         first_number(
             !is_kind(file, at, 1),
-            cut(file, at, 3),
+            cut(file, at, 6),
             false,
             !range,
-            false,
+            !absent,
         ),
         at,
     )

@@ -96,7 +96,7 @@ unfolding appended
 waiting-appended a n v x l e q j =
     rw (next-is n (omega arith)) (waiting-past a (suc n) (set (snapshotAt a n) v x) q j (omega arith) (omega arith))
 
-module _ (s : Shape) (pl : s .processes ≤ 4) (vl : s .variables ≤ 4) (xl : s .values ≤ 4) (k : ℕ) (run : Run) (rows : List (List ℕ)) (a : List ℕ)
+module _ (s : Shape) (pl : s .processes ≤ 4) (vl : s .variables ≤ 4) (xl : (v : ℕ) → v < s .variables → shapeOf s .values v ≤ 4) (k : ℕ) (run : Run) (rows : List (List ℕ)) (a : List ℕ)
     (c : Configuration) (K : Kept (shapeOf s) k run rows a c) (few : k < 1024) where
   most-messages : run .messages ≤ 1024
   most-messages = omega (arith, K .channel)
@@ -119,7 +119,7 @@ module _ (s : Shape) (pl : s .processes ≤ 4) (vl : s .variables ≤ 4) (xl : s
   queues-taken p Nop pe oe = queues-area (queues-of K) (λ q j. refl)
   queues-taken p (Read v x) pe oe = queues-area (queues-of K) (λ q j. refl)
   queues-taken p (Write v x) pe oe =
-      queues-push (shapeOf s) pl vl (run .heads) (run .tails) a k (c .queue) (queues-of K) few p v pe (oe .0) x (omega (arith, oe .1, xl)) (K .area)
+      queues-push (shapeOf s) pl vl (run .heads) (run .tails) a k (c .queue) (queues-of K) few p v pe (oe .0) x (omega (arith, oe .1, xl v (oe .0))) (K .area)
   queues-taken p Mfence pe oe = queues-area (queues-of K) (λ q j. refl)
   queues-taken p Sfence pe oe = queues-area (queues-of K) (λ q j. refl)
   queues-taken p (Arw v x y) pe oe = queues-area (queues-of K) (waiting-appended a (run .messages) v y most-messages (K .area))
@@ -227,10 +227,6 @@ module _ (f : List ℕ) (p : Program) where
     answer-is (step.Serialise q v) = ap (firstCause true true true true) (serialise-is (p .shape) (R .shape .processes) (R .shape .variables) k run rows a c K q v)
     answer-is (step.Update q) = ap (firstCause true true true true) (update-is (p .shape) (R .shape .processes) (R .shape .variables) k run rows a c K q)
 
-    -- the number of values of a variable is the same for all
-    values-most : p .shape .values ≤ 4
-    values-most = R .shape .values 0 (R .shape .someVariable)
-
     some-waits : (q v : ℕ) → q < p .shape .processes → v < p .shape .variables → T (not (isEmpty (c .queue q v)))
         → getD (run .heads) (4 * q + v) 0 < getD (run .tails) (4 * q + v) 0
     some-waits q v qe ve t =
@@ -257,18 +253,18 @@ module _ (f : List ℕ) (p : Program) where
         let w = pws.transition (programOf f p) n in
         subst (λ (m : Move). Kept (shapeOf (p .shape)) (suc k) (runAfter run m) (rowsAfter rows (run .messages) m) (lowerAfter a run m) (afterTake c w))
         (sym (move-take n (omega (arith, transition-count))))
-        (kept-taken (p .shape) (R .shape .processes) (R .shape .variables) values-most k run rows a c K few w (o .process) (o .operation))
+        (kept-taken (p .shape) (R .shape .processes) (R .shape .variables) (R .shape .values) k run rows a c K few w (o .process) (o .operation))
     step-kept few (step.Serialise q v) t =
         let y = and-yes (ltb q (p .shape .processes) && ltb v (p .shape .variables)) (not (isEmpty (c .queue q v))) t in
         let z = and-yes (ltb q (p .shape .processes)) (ltb v (p .shape .variables)) (y .0) in
         let qe = ltb-true q (p .shape .processes) (T-true (ltb q (p .shape .processes)) (z .0)) in
         let ve = ltb-true v (p .shape .variables) (T-true (ltb v (p .shape .variables)) (z .1)) in
-        kept-serialised (p .shape) (R .shape .processes) (R .shape .variables) values-most k run rows a c K few q v qe ve (some-waits q v qe ve (y .1))
+        kept-serialised (p .shape) (R .shape .processes) (R .shape .variables) (R .shape .values) k run rows a c K few q v qe ve (some-waits q v qe ve (y .1))
     step-kept few (step.Update q) t =
         let y = and-yes (ltb q (p .shape .processes)) (ltb (c .memory .pointer q) (length (c .memory .channel))) t in
         let qe = ltb-true q (p .shape .processes) (T-true (ltb q (p .shape .processes)) (y .0)) in
         let l = ltb-true (c .memory .pointer q) (length (c .memory .channel)) (T-true (ltb (c .memory .pointer q) (length (c .memory .channel))) (y .1)) in
-        kept-updated (p .shape) (R .shape .processes) (R .shape .variables) values-most k run rows a c K few q qe l
+        kept-updated (p .shape) (R .shape .processes) (R .shape .variables) (R .shape .values) k run rows a c K few q qe l
 
     -- both: the step is permitted exactly if the machine may take it, and then what is left represents the configuration after it
     pub step-right : k < 1024 → (s : steps.Step)

@@ -86,17 +86,17 @@ pub record ProgramFine (f : List ℕ) (at : ℕ) : Type 0 where
   pub transitions : ℕ
   pub targets : ℕ
   pub shape : unlessEnd f at (checked (shapeNumber f at) at) ≡ Fine
-  pub states : statesFrom f (at + 4) (shapeAt f at .processes) ≡ Fine
-  pub rows : transitionsFrom (shapeAt f at) (ofProcesses f (at + 4) 1 (shapeAt f at .processes)) f (at + 4 + 3 * shapeAt f at .processes) ≡ Records transitions
-  pub aims : targetsFrom (shapeAt f at) (ofProcesses f (at + 4) 1 (shapeAt f at .processes)) f (at + 4 + 3 * shapeAt f at .processes + 8 * transitions) ≡ Records targets
+  pub states : statesFrom f (at + 7) (shapeAt f at .processes) ≡ Fine
+  pub rows : transitionsFrom (shapeAt f at) (ofProcesses f (at + 7) 1 (shapeAt f at .processes)) f (at + 7 + 3 * shapeAt f at .processes) ≡ Records transitions
+  pub aims : targetsFrom (shapeAt f at) (ofProcesses f (at + 7) 1 (shapeAt f at .processes)) f (at + 7 + 3 * shapeAt f at .processes + 8 * transitions) ≡ Records targets
   pub same : programFrom f at .program
       ≡ record {
         shape = shapeAt f at;
-        states = ofProcesses f (at + 4) 1 (shapeAt f at .processes);
-        initial = ofProcesses f (at + 4) 2 (shapeAt f at .processes);
-        transitions = record { at = at + 4 + 3 * shapeAt f at .processes; count = transitions };
-        targets = record { at = at + 4 + 3 * shapeAt f at .processes + 8 * transitions; count = targets };
-        claim = at + 4 + 3 * shapeAt f at .processes + 8 * transitions + 5 * targets;
+        states = ofProcesses f (at + 7) 1 (shapeAt f at .processes);
+        initial = ofProcesses f (at + 7) 2 (shapeAt f at .processes);
+        transitions = record { at = at + 7 + 3 * shapeAt f at .processes; count = transitions };
+        targets = record { at = at + 7 + 3 * shapeAt f at .processes + 8 * transitions; count = targets };
+        claim = at + 7 + 3 * shapeAt f at .processes + 8 * transitions + 5 * targets;
       }
 
 module _ (f : List ℕ) (at : ℕ) (q : programFrom f at .answer ≡ Fine) where
@@ -104,18 +104,18 @@ module _ (f : List ℕ) (at : ℕ) (q : programFrom f at .answer ≡ Fine) where
   s = shapeAt f at
 
   abbrev states : List ℕ
-  states = ofProcesses f (at + 4) 1 (s .processes)
+  states = ofProcesses f (at + 7) 1 (s .processes)
 
   abbrev first : ℕ
-  first = at + 4 + 3 * s .processes
+  first = at + 7 + 3 * s .processes
 
-  by-targets : (n : ℕ) (m : Counted) → unlessEnd f at (checked (shapeNumber f at) at) ≡ Fine → statesFrom f (at + 4) (s .processes) ≡ Fine
+  by-targets : (n : ℕ) (m : Counted) → unlessEnd f at (checked (shapeNumber f at) at) ≡ Fine → statesFrom f (at + 7) (s .processes) ≡ Fine
       → transitionsFrom s states f first ≡ Records n → targetsFrom s states f (first + 8 * n) ≡ m → ProgramFine f at
   unfolding programFrom restFrom rowsFrom
   by-targets n (Stopped r) a b c d = absurd (fine-refused {r = r} (sym q ∙ rw (a, b, c, d)))
   by-targets n (Records m) a b c d = record { transitions = n; targets = m; shape = a; states = b; rows = c; aims = d; same = rw (a, b, c, d) }
 
-  by-parts : (x y : Checked) (n : Counted) → unlessEnd f at (checked (shapeNumber f at) at) ≡ x → statesFrom f (at + 4) (s .processes) ≡ y
+  by-parts : (x y : Checked) (n : Counted) → unlessEnd f at (checked (shapeNumber f at) at) ≡ x → statesFrom f (at + 7) (s .processes) ≡ y
       → transitionsFrom s states f first ≡ n → ProgramFine f at
   unfolding programFrom restFrom rowsFrom
   by-parts (Refused r) y n a b c = absurd (fine-refused {r = r} (sym q ∙ rw a))

@@ -47,7 +47,7 @@ fn reading_refused(refusal: Refusal) -> Reading
                 shape: Shape {
                     processes: 0,
                     variables: 0,
-                    values: 0,
+                    values: none,
                 },
                 states: none,
                 initial: none,

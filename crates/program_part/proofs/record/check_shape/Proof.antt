@@ -6,29 +6,31 @@ use Rattle.program_part.proofs.record.check_shape.Tie as tie
 pub check-shape-spec : {M : Type 1} → statement M
 unfolding shapeNumber
 check-shape-spec = tie.close (tie.spec
-    -- field-requires 112:30
+    -- shape-at-requires
     (λ c κs. search needs)
-    -- in-range-requires 112:21
+    -- field-requires
     (λ c κs. search needs)
-    -- field-requires-2 112:63
+    -- in-range-requires
     (λ c κs. search needs)
-    -- in-range-requires-2 112:54
+    -- counts-in-range-requires
     (λ c κs. search needs)
-    -- both-requires 112:9
+    -- both-requires
     (λ c κs. search needs)
-    -- field-requires-3 113:31
+    -- field-requires-2
     (λ c κs. search needs)
-    -- in-range-requires-3 113:22
+    -- in-range-requires-2
     (λ c κs. search needs)
-    -- both-requires-2 113:9
+    -- both-requires-2
     (λ c κs. search needs)
-    -- is-kind-requires 114:26
+    -- counts-if-absent-requires
     (λ c κs. search needs)
-    -- cut-requires 114:48
+    -- is-kind-requires
     (λ c κs. search needs)
-    -- first-number-requires 114:12
+    -- cut-requires
     (λ c κs. search needs)
-    -- answer-requires 114:5
+    -- first-number-requires
     (λ c κs. search needs)
-    -- returns 109:1
-    (λ c. cc))
+    -- answer-requires
+    (λ c κs. search needs)
+    -- returns
+    (λ c. rw (c .answer .ensures, c .before .first-number .ensures, c .before .before .cut .ensures, c .before .before .before .is-kind .ensures, c .before .before .before .before .counts-if-absent .ensures, c .before .before .before .before .before .both2 .ensures, c .before .before .before .before .before .before .in-range2 .ensures, c .before .before .before .before .before .before .before .field2 .ensures, c .before .before .before .before .before .before .before .before .both .ensures, c .before .before .before .before .before .before .before .before .before .counts-in-range .ensures, c .before .before .before .before .before .before .before .before .before .before .in-range .ensures, c .before .before .before .before .before .before .before .before .before .before .before .field .ensures, c .before .before .before .before .before .before .before .before .before .before .before .before .shape-at .ensures)))

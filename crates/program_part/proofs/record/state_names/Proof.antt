@@ -29,4 +29,4 @@ state-names-spec = tie.close (tie.spec
     -- both-requires-3 240:5
     (λ c κs. search needs)
     -- returns 233:1
-    (λ c. cc))
+    (λ c. rw (c .both3 .ensures, c .before .both2 .ensures, c .before .before .both .ensures, c .before .before .before .state-name4 .ensures, c .before .before .before .before .field4 .ensures, c .before .before .before .before .before .state-name3 .ensures, c .before .before .before .before .before .before .field3 .ensures, c .before .before .before .before .before .before .before .state-name2 .ensures, c .before .before .before .before .before .before .before .before .field2 .ensures, c .before .before .before .before .before .before .before .before .before .state-name .ensures, c .before .before .before .before .before .before .before .before .before .before .field .ensures)))

@@ -33,4 +33,4 @@ transition-names-spec = tie.close (tie.spec
     -- both-requires-3 212:5
     (λ c κs. search needs)
     -- returns 204:1
-    (λ c. cc))
+    (λ c. rw (c .both3 .ensures, c .before .before .both2 .ensures, c .before .before .before .field7 .ensures, c .before .before .before .before .both .ensures, c .before .before .before .before .before .field6 .ensures, c .before .before .before .before .before .before .operation-names .ensures, c .before .before .before .before .before .before .before .field5 .ensures, c .before .before .before .before .before .before .before .before .field4 .ensures, c .before .before .before .before .before .before .before .before .before .field3 .ensures, c .before .before .before .before .before .before .before .before .before .before .field2 .ensures, c .before .before .before .before .before .before .before .before .before .before .before .of-four .ensures, c .before .before .before .before .before .before .before .before .before .before .before .before .wide .ensures, c .before .before .before .before .before .before .before .before .before .before .before .before .before .field .ensures)))
