@@ -15,7 +15,7 @@ use Rattle.pws.specs.Machine.{Configuration, message}
 use Rattle.pws.specs.Configurations.{All, MessageIn, QueuesIn, StatesOf}
 use Rattle.pws.specs.Entries.{ValueOrFF}
 use Rattle.pws.proofs.Facts.{putQueue-each, message-each}
-use Rattle.pws.proofs.Steps.{queues-put}
+use Rattle.pws.proofs.Steps.{all-snoc, queues-put}
 use Rattle.program_part.specs.declared.program.Shape.{Shape}
 use Rattle.program_part.specs.declared.program.Refusal.{Refusal}
 use Rattle.program_part.specs.declared.program.Checked.{Checked}
@@ -40,10 +40,6 @@ whole-inverse q = (cc, cc)
 
 pub bad-whole : {e : Configuration} {n : ℕ} {r : Refusal} → bad r ≡ whole e n → ⊥
 bad-whole q = let z : _≡_ {A = ℕ} 0 1 = cc in omega arith
-
-all-snoc : (F : ℕ → Type 0) (xs : List ℕ) (x : ℕ) → All F xs → F x → All F (xs ++ (x ∷ []))
-all-snoc F [] x a b = (b, tt)
-all-snoc F (y ∷ ys) x a b = (a .0, all-snoc F ys x (a .1) b)
 
 -- ---- what a record that is fine says
 

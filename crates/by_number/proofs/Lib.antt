@@ -7,4 +7,5 @@ pub mod Loading
 pub mod Entry
 pub mod Entries
 pub mod Contents
+pub mod Counts
 pub mod Again

@@ -5,18 +5,20 @@ use mathlib.Core.Logic.{⊎-elim}
 use mathlib.Core.Bool.{true, _&&_, not}
 use mathlib.Core.List.{List}
 use native.Mathlib.Omega.{arith}
-use lib.ListN.{length, getD}
+use native.Mathlib.Decide.{decLt}
+use lib.ListN.{length, getD, List·getD-eq-default}
 use lib.Dec.{leb}
 use borrow.Author.Tests.{eqb-true, leb-true, ltb-true, lt-ltb, le-ltb, not-false}
 use Rattle.pws.specs.Program as pws
 use Rattle.pws.specs.Configurations.{StatesOf}
+use Rattle.pws.specs.Ranges.{CountsOf}
 use Rattle.program_part.specs.declared.program.Shape.{Shape}
 use Rattle.program_part.specs.declared.program.Program.{Program}
 use Rattle.program_part.specs.declared.program.Checked.the-variants.{Fine}
 use Rattle.program_part.specs.declared.program.Counted.the-variants.{Records}
 use Rattle.program_part.specs.Bytes.{byte}
 use Rattle.program_part.specs.Records.{checked, inRange, isKind, shapeAt, valueCount, countInRange, countsInRange, countIfAbsent, countsIfAbsent, shapeNumber, transitionAt, transitionNumber, transitionNames, targetNumber, stateNames, stateAt}
-use Rattle.program_part.specs.ProgramPart.{unlessEnd, statesFrom, ofProcess, ofProcesses, atClaim, transitionsFrom, targetsFrom, programFrom, programOf, targetsOf}
+use Rattle.program_part.specs.ProgramPart.{unlessEnd, statesFrom, ofProcess, ofProcesses, atClaim, transitionsFrom, targetsFrom, programFrom, shapeOf, programOf, targetsOf}
 use Rattle.program_part.proofs.RecordLaws.{good, unless-fine, states-fine, transition-fine, target-fine}
 use Rattle.program_part.proofs.ProgramLaws.{and-true, transitions-most, targets-most}
 use Rattle.whole_file.proofs.ReadingLaws.{ProgramFine, program-fine}
@@ -70,6 +72,17 @@ shape-in f at e =
       variables = few;
       values = λ v l. count-range (shapeAt f at) v l (count-each (shapeAt f at) (b .1) v (omega arith));
       absent = λ v l m. count-none (shapeAt f at) v m (absent-each (shapeAt f at) (not-false _ (g .names)) v l);
+    }
+
+shape-counts : (f : List ℕ) (at : ℕ) → ShapeRange (shapeAt f at) → CountsOf (shapeOf (shapeAt f at)) (shapeAt f at .values)
+shape-counts f at r =
+    record {
+      four = refl;
+      present = λ v l. refl;
+      absent = λ v l. elim (decLt v 4) [
+        | yes i ↦ r .absent v i l
+        | no i ↦ let past : length (shapeAt f at .values) ≤ v = omega arith in List·getD-eq-default (shapeAt f at .values) 0 past
+      ];
     }
 
 -- ---- states
@@ -209,6 +222,10 @@ module _ (f : List ℕ) (at : ℕ) (q : programFrom f at .answer ≡ Fine) where
 
   pub part-shape : ShapeRange (programFrom f at .program .shape)
   part-shape = subst (λ (p : Program). ShapeRange (p .shape)) (sym (F .same)) (shape-in f at (F .shape))
+
+  -- the four counts of the 01 are those of the program
+  pub part-counts : CountsOf (programOf f (programFrom f at .program) .shape) (shapeAt f at .values)
+  part-counts = subst (λ (p : Program). CountsOf (programOf f p .shape) (shapeAt f at .values)) (sym (F .same)) (shape-counts f at (shape-in f at (F .shape)))
 
   pub part-sizes : _≡_ {A = ℕ} at 0 → ProgramSizes (programFrom f at .program)
   part-sizes z = subst ProgramSizes (sym (F .same)) (whole-sizes f at F z)

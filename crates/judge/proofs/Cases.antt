@@ -15,6 +15,10 @@ use Rattle.program_part.specs.Records.{
   checked,
   isKind,
   inRange,
+  countInRange,
+  countsInRange,
+  countIfAbsent,
+  countsIfAbsent,
   shapeNumber,
   statesNumber,
   valueExists,
@@ -68,8 +72,8 @@ use Rattle.replay.specs.Causes.{firstCause}
 use Rattle.judge.specs.Judge.{Verdict, ofFile, judged}
 use Rattle.judge.specs.Cases.{Row, file, below, notBelow, Holds, caseA, Each, no-row, row, cases}
 
--- case A has 100 bytes
-pub A-length : length caseA ≡ 100
+-- case A has 103 bytes
+pub A-length : length caseA ≡ 103
 A-length = refl
 
 -- ---- with any number of entries allowed
@@ -111,9 +115,9 @@ K-not-below : QueueBelow (1 ∷ []) (1 ∷ 0 ∷ []) → ⊥
 K-not-below q = let e = q .end in let z : _≡_ {A = ℕ} 0 1 = cc in omega arith
 
 rows-computed : (k : ℕ) → AllRight k cases
-unfolding firstCause firstNumber checked isKind inRange shapeNumber statesNumber valueExists allZero operationNames operationOf transitionNames transitionNumber stateName stateNames targetNumber claimNumber startName startNames startNumber runEvidence stepBody stepNames stepNumber stepAt pointerName pointerNames entryNumber valueName valueNames messageNames waitingNames messageNumber waitingNumber unlessEnd statesFrom rowFrom transitionsFrom atClaim targetsFrom rowsFrom restFrom programFrom stepsFrom stepsOf extended bodySize bodyNumber pointerInside pointsFirst pointersFit someFirst complete atBoundary finished entryFrom entryRead entriesFrom cut
+unfolding firstCause firstNumber checked isKind inRange countInRange countsInRange countIfAbsent countsIfAbsent shapeNumber statesNumber valueExists allZero operationNames operationOf transitionNames transitionNumber stateName stateNames targetNumber claimNumber startName startNames startNumber runEvidence stepBody stepNames stepNumber stepAt pointerName pointerNames entryNumber valueName valueNames messageNames waitingNames messageNumber waitingNumber unlessEnd statesFrom rowFrom transitionsFrom atClaim targetsFrom rowsFrom restFrom programFrom stepsFrom stepsOf extended bodySize bodyNumber pointerInside pointsFirst pointersFit someFirst complete atBoundary finished entryFrom entryRead entriesFrom cut
 rows-computed k =
-    (refl, (refl, (refl, (refl, (refl, (refl, (refl, (refl, (refl, (refl, (refl, (refl, (refl, (refl, (refl, (refl, (refl, (refl, (refl, (refl, (refl, (refl, (refl, (refl, (refl, (refl, (K-below, (K-not-below, (refl, (refl, (refl, (refl, (refl, (refl, (refl, (refl, (refl, tt)))))))))))))))))))))))))))))))))))))
+    (refl, (refl, (refl, (refl, (refl, (refl, (refl, (refl, (refl, (refl, (refl, (refl, (refl, (refl, (refl, (refl, (refl, (refl, (refl, (refl, (refl, (refl, (refl, (refl, (refl, (refl, (K-below, (K-not-below, (refl, (refl, (refl, (refl, (refl, (refl, (refl, (refl, (refl, (refl, (refl, (refl, (refl, (refl, (refl, (refl, (refl, (refl, tt))))))))))))))))))))))))))))))))))))))))))))))
 
 -- ---- the table
 

@@ -11,13 +11,16 @@ use Rattle.pws.specs.declared.Step.{Step}
 use Rattle.pws.specs.Program.{Program, ProgramInRange}
 use Rattle.pws.specs.Machine.{Configuration}
 use Rattle.pws.specs.Configurations.{StartingMemory}
+use Rattle.pws.specs.Ranges.{CountsOf, KeepsRanges}
 use Rattle.pws.proofs.Simulation.{simulation}
+use Rattle.pws.proofs.Ranges.{keeps-ranges}
 use Rattle.lists.specs.Verdict as lists
 use Rattle.lists.specs.Decision as decision
 use Rattle.lists.proofs.Verdict.{verdict-unique, verdict-judged, safe-visited}
 use Rattle.whole_file.specs.Reading as reading
 use Rattle.by_number.specs.Contents.{ListRead}
 use Rattle.by_number.proofs.Contents.{list-read, run-read}
+use Rattle.by_number.proofs.Counts.{HasCounts, file-counts}
 use Rattle.replay.specs.declared.step.Cause.{Cause}
 use Rattle.replay.specs.declared.step.Cause.the-variants.{State, Queue, Pointer, Value, Nothing}
 use Rattle.replay.specs.declared.run.RunAnswer.{RunAnswer}
@@ -48,6 +51,8 @@ use Rattle.judge.specs.Demands.{
   Safety,
   Simulated,
   Simulation,
+  countsIn,
+  ValuesInRange,
 }
 use Rattle.judge.proofs.Numbers.{short-file, refused-low, refused-large}
 use Rattle.judge.proofs.Runs.{RunJudged, run-judged, run-only, stopped-cannot, cannot-stopped}
@@ -370,3 +375,12 @@ simulated P R c d e oc od B ss t = simulation P R d oc od B t
 
 pub simulation-holds : Simulation
 simulation-holds f area P ts = (λ es q. simulated P (list-range f area P ts es q), λ m ss q. simulated P (run-range f area P ts m ss q))
+
+in-range : (f : List ℕ) (P : Program) → ProgramInRange P → CountsOf (P .shape) (countsIn f) → CountsOf (P .shape) (countsIn f) × KeepsRanges P (countsIn f)
+in-range f P R C = (C, keeps-ranges P R (countsIn f) C)
+
+pub values-in-range : ValuesInRange
+values-in-range f area P ts = (
+  λ es q. in-range f P (list-range f area P ts es q) (subst (HasCounts f) q (file-counts f area)),
+  λ m ss q. in-range f P (run-range f area P ts m ss q) (subst (HasCounts f) q (file-counts f area)),
+)

@@ -1,5 +1,6 @@
--- The worked cases A to K of document 01 ("Judged files"), with the causes and starting memories of document 02, N1 and N3, and small examples of the refusal table, as
--- one table with one statement. Files are rows of bytes, K is two facts about queues. Bytes are in decimal: 15 is 0F, 16 to 18 are 10 to 12, 31 is 1F, 32 to 34 are 20 to 22, 255 is FF.
+-- The worked cases A to K of document 01 ("Judged files"), with the causes, starting memories and shapes of document 02 (N1, N3, N5), and
+-- small examples of the refusal table, as one table with one statement. Files are rows of bytes, K is two facts about queues. Bytes are in
+-- decimal: 15 is 0F, 16 to 18 are 10 to 12, 31 is 1F, 32 to 34 are 20 to 22, 255 is FF.
 use Prim.Native.Nat.{ℕ, zero, suc, _≤_}
 use mathlib.Core.Path.{_≡_}
 use mathlib.Core.List.{List, [], _∷_, _++_}
@@ -23,17 +24,21 @@ Holds (notBelow xs ys) = QueueBelow xs ys → ⊥
 
 -- ---- records
 
--- one process with two states, one variable with two values
+-- one process with two states, one variable with so many values
+abbrev pub smallOf : ℕ → List ℕ
+smallOf values = 1 ∷ 1 ∷ 1 ∷ values ∷ 0 ∷ 0 ∷ 0 ∷ 2 ∷ 2 ∷ 0 ∷ []
+
+-- with two
 abbrev pub small : List ℕ
-small = 1 ∷ 1 ∷ 1 ∷ 2 ∷ 2 ∷ 2 ∷ 0 ∷ []
+small = smallOf 2
 
 -- two processes with three states, two variables with two values
 abbrev pub twoProcesses : List ℕ
-twoProcesses = 1 ∷ 2 ∷ 2 ∷ 2 ∷ 2 ∷ 3 ∷ 0 ∷ 2 ∷ 3 ∷ 0 ∷ []
+twoProcesses = 1 ∷ 2 ∷ 2 ∷ 2 ∷ 2 ∷ 0 ∷ 0 ∷ 2 ∷ 3 ∷ 0 ∷ 2 ∷ 3 ∷ 0 ∷ []
 
 -- one process with three states, one variable with two values
 abbrev pub single : List ℕ
-single = 1 ∷ 1 ∷ 1 ∷ 2 ∷ 2 ∷ 3 ∷ 0 ∷ []
+single = 1 ∷ 1 ∷ 1 ∷ 2 ∷ 0 ∷ 0 ∷ 0 ∷ 2 ∷ 3 ∷ 0 ∷ []
 
 -- process, from, operation, variable, value, to; the new value is 0
 abbrev pub goes : ℕ → ℕ → ℕ → ℕ → ℕ → ℕ → List ℕ
@@ -57,12 +62,12 @@ fromZeros = claim 1 ++ starting 0
 abbrev pub entry : ℕ → List ℕ
 entry q = 16 ∷ q ∷ 0 ∷ 0 ∷ 0 ∷ 1 ∷ 0 ∷ 0 ∷ 0 ∷ []
 
-abbrev pub message : List ℕ
-message = 17 ∷ 0 ∷ 0 ∷ 255 ∷ 0 ∷ 0 ∷ 0 ∷ []
-
 -- with this value in variable 0
-abbrev pub holding : ℕ → List ℕ
-holding x = 17 ∷ 0 ∷ 0 ∷ x ∷ 0 ∷ 0 ∷ 0 ∷ []
+abbrev pub messageOf : ℕ → List ℕ
+messageOf x = 17 ∷ 0 ∷ 0 ∷ x ∷ 0 ∷ 0 ∷ 0 ∷ []
+
+abbrev pub message : List ℕ
+message = messageOf 255
 
 abbrev pub waiting : ℕ → List ℕ
 waiting x = 18 ∷ 0 ∷ 0 ∷ x ∷ []
@@ -94,6 +99,12 @@ four q = first q ++ second q 255 ++ others q
 abbrev pub caseA : List ℕ
 caseA = small ++ target 1 0 ++ claim 0 ++ four 1
 
+-- the same entries with x at each FF
+abbrev pub fourOf : ℕ → List ℕ
+fourOf x =
+    entry 1 ++ messageOf x ++ entry 1 ++ messageOf x ++ waiting x ++ entry 1 ++ messageOf x ++ messageOf x
+    ++ entry 1 ++ messageOf x ++ messageOf x ++ waiting x
+
 -- E's transition
 abbrev pub nop : List ℕ
 nop = goes 0 0 0 0 0 1
@@ -105,7 +116,7 @@ programG = twoProcesses ++ goes 0 0 2 0 1 1 ++ goes 0 1 2 1 1 2 ++ goes 1 0 1 1 
 -- an sfence between the writes
 abbrev pub programJ : List ℕ
 programJ =
-    1 ∷ 2 ∷ 2 ∷ 2 ∷ 2 ∷ 4 ∷ 0 ∷ 2 ∷ 3 ∷ 0 ∷ []
+    1 ∷ 2 ∷ 2 ∷ 2 ∷ 2 ∷ 0 ∷ 0 ∷ 2 ∷ 4 ∷ 0 ∷ 2 ∷ 3 ∷ 0 ∷ []
     ++ goes 0 0 2 0 1 1 ++ goes 0 1 4 0 0 2 ++ goes 0 2 2 1 1 3 ++ goes 1 0 1 1 1 1 ++ goes 1 1 1 0 0 2 ++ target 3 2
 
 -- one process writes 1; then it may read 1, read 0, or pass an sfence or an mfence
@@ -119,7 +130,7 @@ programN = small ++ goes 0 0 1 0 1 1 ++ target 1 0
 -- with what it reads before, in state 0: the newest own value that waits, or else the newest message, is 1
 abbrev pub readsOne : List ℕ
 readsOne =
-    entry 0 ++ holding 1 ++ entry 0 ++ message ++ waiting 1 ++ entry 0 ++ message ++ holding 1 ++ entry 0 ++ message ++ message ++ waiting 1
+    entry 0 ++ messageOf 1 ++ entry 0 ++ message ++ waiting 1 ++ entry 0 ++ message ++ messageOf 1 ++ entry 0 ++ message ++ message ++ waiting 1
 
 abbrev pub targets : ℕ → List ℕ
 targets zero = []
@@ -168,22 +179,35 @@ cases =
     -- a list that holds no start of cleared memory: its entry 4 is a start whose variable is 1
     ∷ file (programN ++ claim 0 ++ four 1 ++ readsOne) (refused 10 4)
     -- the file ends before the starting memory; another record stands there; it stands there twice, or in a list; a value that does not exist
-    ∷ file (programN ++ claim 1) (refused 6 22)
-    ∷ file (programN ++ claim 1 ++ takeStep 0) (refused 2 22)
-    ∷ file (programN ++ fromZeros ++ starting 0) (refused 2 27)
-    ∷ file (programN ++ claim 0 ++ starting 0) (refused 2 22)
-    ∷ file (programN ++ claim 1 ++ starting 255) (refused 4 22)
+    ∷ file (programN ++ claim 1) (refused 6 25)
+    ∷ file (programN ++ claim 1 ++ takeStep 0) (refused 2 25)
+    ∷ file (programN ++ fromZeros ++ starting 0) (refused 2 30)
+    ∷ file (programN ++ claim 0 ++ starting 0) (refused 2 25)
+    ∷ file (programN ++ claim 1 ++ starting 255) (refused 4 25)
     -- K
     ∷ below (1 ∷ []) (0 ∷ 1 ∷ [])
     ∷ notBelow (1 ∷ []) (1 ∷ 0 ∷ [])
     -- the refusal table's small examples of 2, 1, 5, 3, 4, 7, 6, 9 and 13
     ∷ file (7 ∷ []) (refused 2 0)
     ∷ file (1 ∷ 1 ∷ []) (refused 1 0)
-    ∷ file (small ++ targets 17) (refused 5 87)
-    ∷ file (1 ∷ 0 ∷ 1 ∷ 2 ∷ []) (refused 3 0)
-    ∷ file (1 ∷ 1 ∷ 1 ∷ 2 ∷ 2 ∷ 2 ∷ 0 ∷ 4 ∷ 2 ∷ 0 ∷ 0 ∷ 0 ∷ []) (refused 4 7)
-    ∷ file (small ++ target 1 0 ++ claim 0 ++ (16 ∷ 1 ∷ 0 ∷ 0 ∷ 0 ∷ 0 ∷ 0 ∷ 0 ∷ 0 ∷ []) ++ message) (refused 7 14)
+    ∷ file (small ++ targets 17) (refused 5 90)
+    ∷ file (1 ∷ 0 ∷ 1 ∷ 2 ∷ 0 ∷ 0 ∷ 0 ∷ []) (refused 3 0)
+    ∷ file (1 ∷ 1 ∷ 1 ∷ 2 ∷ 0 ∷ 0 ∷ 0 ∷ 2 ∷ 2 ∷ 0 ∷ 4 ∷ 2 ∷ 0 ∷ 0 ∷ 0 ∷ []) (refused 4 10)
+    ∷ file (small ++ target 1 0 ++ claim 0 ++ (16 ∷ 1 ∷ 0 ∷ 0 ∷ 0 ∷ 0 ∷ 0 ∷ 0 ∷ 0 ∷ []) ++ message) (refused 7 17)
     ∷ file [] (refused 6 0)
     ∷ file (small ++ target 1 0 ++ claim 0) (refused 9 0)
     ∷ file (small ++ target 1 0 ++ fromZeros) (refused 13 0)
+    -- counts of values (document 02, N5): 5 of a variable that is there, and 0; 1 of one that is not; 3 comes before 4
+    ∷ file (1 ∷ 1 ∷ 1 ∷ 5 ∷ 0 ∷ 0 ∷ 0 ∷ []) (refused 3 0)
+    ∷ file (1 ∷ 1 ∷ 2 ∷ 4 ∷ 0 ∷ 0 ∷ 0 ∷ []) (refused 3 0)
+    ∷ file (1 ∷ 1 ∷ 1 ∷ 2 ∷ 1 ∷ 0 ∷ 0 ∷ []) (refused 4 0)
+    ∷ file (1 ∷ 1 ∷ 1 ∷ 5 ∷ 1 ∷ 0 ∷ 0 ∷ []) (refused 3 0)
+    -- a tick has four values and a flag two: 2 may be written to the tick, and not to the flag
+    ∷ file ((1 ∷ 1 ∷ 2 ∷ 4 ∷ 2 ∷ 0 ∷ 0 ∷ 2 ∷ 2 ∷ 0 ∷ []) ++ goes 0 0 2 0 2 1 ++ goes 0 0 2 1 2 1) (refused 4 18)
+    -- D of a variable with three values: 0 and 1 are not all, 2 is missing
+    ∷ file (smallOf 3 ++ target 1 0 ++ claim 0 ++ first 1 ++ second 1 0 ++ second 1 1 ++ others 1) (refused 9 0)
+    ∷ file (smallOf 3 ++ target 1 0 ++ claim 0 ++ first 1 ++ second 1 0 ++ second 1 1 ++ second 1 2 ++ others 1) (safe 6)
+    -- of one value, FF and 0 are the same
+    ∷ file (smallOf 1 ++ target 1 0 ++ claim 0 ++ fourOf 0) (safe 4)
+    ∷ file (smallOf 2 ++ target 1 0 ++ claim 0 ++ fourOf 0) (refused 9 0)
     ∷ []

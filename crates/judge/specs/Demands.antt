@@ -5,7 +5,7 @@ use Prim.Native.Nat.{ℕ, _<_, _≤_}
 use mathlib.Core.Path.{_≡_}
 use mathlib.Core.Logic.{_↔_, _⊎_}
 use mathlib.Core.Bool.{false}
-use mathlib.Core.List.{List, []}
+use mathlib.Core.List.{List, [], _∷_}
 use lib.ListN.{length, getD, take}
 use Rattle.pws.specs.declared.Step.{Step}
 use Rattle.pws.specs.declared.Step.the-variants.{Take, Serialise, Update}
@@ -17,7 +17,9 @@ use Rattle.pws.specs.Configurations.{ConfigurationOf, startingMemory, Start, In
 use Rattle.pws.specs.Order.{Below}
 use Rattle.pws.specs.Entries.{AboveList}
 use Rattle.pws.specs.Sequences.{Takes, Visited, Answers}
+use Rattle.pws.specs.Ranges.{CountsOf, KeepsRanges}
 use Rattle.lists.specs.Verdict.{target, SafeList, Unheld, Started, Entered}
+use Rattle.program_part.specs.Bytes.{byte}
 use Rattle.whole_file.specs.Reading as reading
 use Rattle.judge.specs.Judge.{Verdict, safe, reachable, refused, Judged, judged}
 
@@ -234,3 +236,18 @@ Simulation =
     (f : List ℕ) (area : ℕ) (P : Program) (ts : List (ℕ → ℕ))
     → ((es : List Configuration) → reading.readFile f area ≡ reading.list P ts es → Simulated P)
     × ((m : List ℕ) (ss : List Step) → reading.readFile f area ≡ reading.run P ts m ss → Simulated P)
+
+-- ---- document 02, N5: values in the ranges of their variables
+
+-- the four counts of the shape record, with which a file begins
+abbrev pub countsIn : List ℕ → List ℕ
+countsIn f = byte f 3 ∷ byte f 4 ∷ byte f 5 ∷ byte f 6 ∷ []
+
+-- Every snapshot and every queue keeps its values in the ranges of these counts: in every step, and so in every configuration that a sequence
+-- of steps, of any length and from any start, visits. So for the program of every file that is read as a list, accepted or
+-- not, and as a run.
+abbrev pub ValuesInRange : Type 0
+ValuesInRange =
+    (f : List ℕ) (area : ℕ) (P : Program) (ts : List (ℕ → ℕ))
+    → ((es : List Configuration) → reading.readFile f area ≡ reading.list P ts es → CountsOf (P .shape) (countsIn f) × KeepsRanges P (countsIn f))
+    × ((m : List ℕ) (ss : List Step) → reading.readFile f area ≡ reading.run P ts m ss → CountsOf (P .shape) (countsIn f) × KeepsRanges P (countsIn f))

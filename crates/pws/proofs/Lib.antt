@@ -5,6 +5,7 @@ pub mod Queues
 pub mod Preorder
 pub mod Starts
 pub mod Steps
+pub mod Ranges
 pub mod Moves
 pub mod Simulation
 pub mod Tagged

@@ -77,11 +77,11 @@ pub all-oldest : (F : ℕ → Type 0) (xs : List ℕ) → T (not (isEmpty xs)) �
 all-oldest F [] t a = absurd t
 all-oldest F (x ∷ xs) t a = a .0
 
-all-rest : (F : ℕ → Type 0) (xs : List ℕ) → All F xs → All F (withoutOldest xs)
+pub all-rest : (F : ℕ → Type 0) (xs : List ℕ) → All F xs → All F (withoutOldest xs)
 all-rest F [] a = a
 all-rest F (x ∷ xs) a = a .1
 
-all-snoc : (F : ℕ → Type 0) (xs : List ℕ) (x : ℕ) → All F xs → F x → All F (xs ++ (x ∷ []))
+pub all-snoc : (F : ℕ → Type 0) (xs : List ℕ) (x : ℕ) → All F xs → F x → All F (xs ++ (x ∷ []))
 all-snoc F [] x a b = (b, tt)
 all-snoc F (y ∷ ys) x a b = (a .0, all-snoc F ys x (a .1) b)
 

@@ -4,6 +4,7 @@ pub mod Configurations
 pub mod Order
 pub mod Entries
 pub mod Sequences
+pub mod Ranges
 pub mod Tagged
 pub mod Insertion
 pub mod Cases

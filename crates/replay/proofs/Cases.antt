@@ -6,6 +6,10 @@ use Rattle.program_part.specs.Records.{
   checked,
   isKind,
   inRange,
+  countInRange,
+  countsInRange,
+  countIfAbsent,
+  countsIfAbsent,
   shapeNumber,
   statesNumber,
   valueExists,
@@ -32,7 +36,7 @@ use Rattle.whole_file.specs.Reading.{runEvidence, evidenceFrom, partsOf, readFi
 use Rattle.replay.specs.Cases.{ofRun, Holds, Each, no-row, row, cases}
 
 pub cases-hold : Each Holds cases
-unfolding Holds ofRun readFile partsOf evidenceFrom runEvidence startNumber startNames startName programFrom restFrom rowsFrom statesFrom transitionsFrom targetsFrom atClaim rowFrom unlessEnd stepsFrom stepsOf stepAt stepNumber stepNames stepBody claimNumber targetNumber stateNames stateName transitionNumber transitionNames operationNames operationOf allZero valueExists statesNumber shapeNumber inRange isKind checked firstNumber cut
+unfolding Holds ofRun readFile partsOf evidenceFrom runEvidence startNumber startNames startName programFrom restFrom rowsFrom statesFrom transitionsFrom targetsFrom atClaim rowFrom unlessEnd stepsFrom stepsOf stepAt stepNumber stepNames stepBody claimNumber targetNumber stateNames stateName transitionNumber transitionNames operationNames operationOf allZero valueExists statesNumber shapeNumber countInRange countsInRange countIfAbsent countsIfAbsent inRange isKind checked firstNumber cut
 cases-hold =
     row refl
     (row refl
