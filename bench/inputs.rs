@@ -53,7 +53,8 @@ impl Listing {
 
 fn shape(processes: usize, variables: usize, states: Vec<u8>) -> Program {
     let initial = vec![0; processes];
-    Program { processes, variables, values: 2, states, initial, transitions: Vec::new(), targets: Vec::new() }
+    let values = std::array::from_fn(|v| if v < variables { 2 } else { 0 });
+    Program { processes, variables, values, states, initial, transitions: Vec::new(), targets: Vec::new() }
 }
 
 /// Every least configuration of these local states.
@@ -131,7 +132,7 @@ pub fn found() -> Listing {
 }
 
 /// The same sets with other entries: in every third one, an FF chosen by chance is split into its values, so that only several entries
-/// together cover what one did.
+/// together cover what one did. All variables have as many values.
 pub fn split(listing: &Listing) -> Listing {
     let mut r = Random(3);
     let mut entries = Vec::new();
@@ -143,7 +144,7 @@ pub fn split(listing: &Listing) -> Listing {
             continue;
         }
         let place = open[r.below(open.len())];
-        for value in 0..listing.program.values {
+        for value in 0..listing.program.values[0] {
             let mut part = entry.clone();
             part[place] = value;
             entries.push(part);

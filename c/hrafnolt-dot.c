@@ -50,7 +50,7 @@ static uint8_t *read_all(const char *name, size_t *length)
 /* Bytes of the body of a record of the program part, by its kind; 0 for other kinds. */
 static size_t body(uint8_t kind)
 {
-    static const uint8_t bodies[] = {0, 3, 2, 7, 4};
+    static const uint8_t bodies[] = {0, 6, 2, 7, 4};
     return kind < sizeof bodies ? bodies[kind] : 0;
 }
 

@@ -15,20 +15,20 @@ fn hex(text: &str) -> Vec<u8> {
 }
 
 pub fn full_files() -> Vec<Full> {
-    let head = "01 03 02 03  02 03 00  02 02 01  02 20 1F
+    let head = "01 03 02 02 03 00 00  02 03 00  02 02 01  02 20 1F
         03 00 00 00 00 00 00 01  03 00 01 01 01 02 00 02  03 01 01 02 01 02 00 00  03 01 00 03 00 00 00 01
         03 02 1F 04 00 00 00 00  03 02 00 05 01 02 01 1F
         04 02 00 1F 00  04 00 01 1F 00 ";
     let list = hex(&(head.to_string()
         + "0F 00
-        10 02 00 1F 00 01 02 02 00  11 00 00 FF 01 00 00  11 02 01 02 FF 00 00  12 01 01 02  12 02 00 FF
+        10 02 00 1F 00 01 02 02 00  11 00 00 FF 01 00 00  11 02 01 01 FF 00 00  12 01 01 02  12 02 00 FF
         10 00 01 1F 00 02 01 01 00  12 00 00 00  11 01 00 FF FF 00 00  12 00 00 FF  11 00 01 00 00 00 00"));
     let run = hex(&(head.to_string()
-        + "0F 01  1F 02 01 00 00
+        + "0F 01  1F 01 02 00 00
         20 00  20 02  21 01 01  22 00  20 01  20 04  22 02  22 01  20 03"));
     // Safe 8: one process that reads 1 in a state where it does not start, over case A, with the entries that the read needs.
     let safe = hex(
-        "01 01 01 02  02 03 02  03 00 00 01 00 01 00 01  04 01 00 00 00  0F 00
+        "01 01 01 02 00 00 00  02 03 02  03 00 00 01 00 01 00 01  04 01 00 00 00  0F 00
         10 01 00 00 00 01 00 00 00  11 00 00 FF 00 00 00
         10 01 00 00 00 01 00 00 00  11 00 00 FF 00 00 00  12 00 00 FF
         10 01 00 00 00 01 00 00 00  11 00 00 FF 00 00 00  11 00 00 FF 00 00 00
@@ -89,19 +89,44 @@ pub fn sweeps(full: &Full, each: &mut dyn FnMut(&str, Vec<u8>)) {
     }
 }
 
+/// The 01 with numbers in range and outside, for present variables and absent ones, then the rest of a file.
+pub fn shapes(each: &mut dyn FnMut(&str, Vec<u8>)) {
+    for variables in 0..=5u8 {
+        for number in 0..5 * 5 * 5 * 5 {
+            let count = |at: u32| [0, 1, 4, 5, 255][number / 5usize.pow(at) % 5];
+            let counts = [count(0), count(1), count(2), count(3)];
+            // A process number outside its range comes with every seventh of them.
+            for processes in if number % 7 == 0 { &[1, 0, 4, 5, 255][..] } else { &[1][..] } {
+                let shape = [&[1, *processes, variables][..], &counts].concat();
+                let rest = [&[2, 1, 0].repeat(*processes as usize & 7)[..], &[4, 0, 0, 0, 0, 0x0f, 1, 0x1f, 0, 0, 0, 0]].concat();
+                each("a shape", [&shape[..], &rest].concat());
+            }
+        }
+    }
+    for length in 0..7 {
+        for byte in [0, 1, 5] {
+            each("a shape cut", [&[1][..], &[byte].repeat(length)].concat());
+        }
+    }
+}
+
 /// The 1F of every shape: each of its bytes in turn with values in range and outside, of existing variables and absent ones; cut; left out;
 /// twice; and after a claim of 0.
 pub fn memories(each: &mut dyn FnMut(&str, Vec<u8>)) {
     for processes in 1..=4u8 {
         for variables in 1..=4u8 {
-            for values in 1..=4u8 {
-                let head = [&[1, processes, variables, values][..], &[2, 1, 0].repeat(processes as usize), &[4, 0, 0, 0, 0]].concat();
+            for first in 1..=4u8 {
+                // Another count for each variable.
+                let mut counts = [0; 4];
+                for v in 0..variables {
+                    counts[v as usize] = 1 + (first - 1 + v) % 4;
+                }
+                let head = [&[1, processes, variables][..], &counts, &[2, 1, 0].repeat(processes as usize), &[4, 0, 0, 0, 0]].concat();
                 let run = [&head[..], &[0x0f, 1]].concat();
-                let what = format!("shape {} {} {}, its memory", processes, variables, values);
+                let what = format!("shape {} {} {:?}, its memory", processes, variables, counts);
                 for at in 0..4 {
                     for byte in [0, 1, 2, 3, 4, 5, 0x1f, 0x7f, 0x80, 0xfe, 0xff] {
-                        let mut memory = [0; 4];
-                        memory[..variables as usize].fill(values - 1);
+                        let mut memory = counts.map(|count| count.max(1) - 1);
                         memory[at] = byte;
                         for end in [&[][..], &[0x22, 0]] {
                             each(&what, [&run[..], &[0x1f], &memory, end].concat());
@@ -122,7 +147,7 @@ pub fn memories(each: &mut dyn FnMut(&str, Vec<u8>)) {
 
 /// Files around the count limits, each with the work areas that matter to it.
 pub fn limits(each: &mut dyn FnMut(&str, Vec<u8>, usize)) {
-    let p11 = hex("01 01 01 02  02 02 00");
+    let p11 = hex("01 01 01 02 00 00 00  02 02 00");
     let target = hex("04 01 00 00 00");
     let claim0 = hex("0F 00");
     let claim1 = hex("0F 01  1F 00 00 00 00");
@@ -155,7 +180,7 @@ pub fn limits(each: &mut dyn FnMut(&str, Vec<u8>, usize)) {
         each(&format!("{} messages", count), [&head[..], &all, &entry].concat(), small);
         each(&format!("{} messages, entry first", count), [&head[..], &entry, &all].concat(), small);
         for pointer in [0, 1, 15, 16, 17, 255] {
-            let two = hex("01 02 01 02  02 02 00  02 02 00  04 01 01 00 00  0F 00  10 01 01 00 00 01");
+            let two = hex("01 02 01 02 00 00 00  02 02 00  02 02 00  04 01 01 00 00  0F 00  10 01 01 00 00 01");
             let file = [&two[..], &[pointer, 0, 0], &m.repeat(count)].concat();
             each(&format!("pointer {} of {} messages", pointer, count), file, small);
         }
@@ -168,7 +193,7 @@ pub fn limits(each: &mut dyn FnMut(&str, Vec<u8>, usize)) {
             each(&format!("{} waiting values and one more", count), file, small);
         }
         // All 16 queues of the largest shape.
-        let mut full = hex("01 04 04 04  02 01 00  02 01 00  02 01 00  02 01 00  04 00 00 00 00  0F 00  10 00 00 00 00 01 01 01 01");
+        let mut full = hex("01 04 04 04 04 04 04  02 01 00  02 01 00  02 01 00  02 01 00  04 00 00 00 00  0F 00  10 00 00 00 00 01 01 01 01");
         for process in 0..4 {
             for variable in 0..4 {
                 full.extend([0x12, process, variable, 3].repeat(count));
@@ -184,7 +209,7 @@ pub fn limits(each: &mut dyn FnMut(&str, Vec<u8>, usize)) {
         each(&format!("{} steps and a refused one", count), [&start[..], &hex("20 00").repeat(count), &hex("22 00")].concat(), small);
     }
     // A thousand waiting values, then serialised as far as steps allow; a thousand messages.
-    let writes = hex("01 01 01 04  02 01 00  03 00 00 02 00 03 00 00  03 00 00 05 00 00 00 00  04 00 00 00 00  0F 01  1F 00 00 00 00");
+    let writes = hex("01 01 01 04 00 00 00  02 01 00  03 00 00 02 00 03 00 00  03 00 00 05 00 00 00 00  04 00 00 00 00  0F 01  1F 00 00 00 00");
     each("1,024 waiting values", [&writes[..], &hex("20 00").repeat(1_024)].concat(), small);
     each("512 waiting and serialised", [&writes[..], &hex("20 00").repeat(512), &hex("21 00 00").repeat(512)].concat(), small);
     each("341 three times", [&writes[..], &hex("20 00").repeat(341), &hex("21 00 00").repeat(341), &hex("22 00").repeat(342)].concat(), small);

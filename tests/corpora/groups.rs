@@ -6,7 +6,7 @@ use crate::seeded::Random;
 use reference::brute::fillings;
 use reference::{Configuration, Message, Operation, Program, Transition, FF};
 
-fn idle(processes: usize, variables: usize, values: u8, states: &[u8]) -> Program {
+fn idle(processes: usize, variables: usize, values: [u8; 4], states: &[u8]) -> Program {
     let mut target = [0; 4];
     target[..processes].fill(1);
     Program {
@@ -34,7 +34,7 @@ fn all_waiting(program: &Program, states: [u8; 4]) -> Configuration {
 /// Two processes: the whole of the target, and in every other group what has waiting values. Process 0 goes up its states from 2 on by
 /// nops, so that predecessors lie in another group.
 pub fn many_groups(first: u8, second: u8) -> (Program, Vec<Configuration>) {
-    let mut program = idle(2, 1, 2, &[first, second]);
+    let mut program = idle(2, 1, [2, 0, 0, 0], &[first, second]);
     for from in 2..first - 1 {
         program.transitions.push(Transition { process: 0, from, operation: Operation::Nop, to: from + 1 });
     }
@@ -52,7 +52,7 @@ pub fn many_groups(first: u8, second: u8) -> (Program, Vec<Configuration>) {
 
 /// Three processes: the whole of the target, and thousands of groups of one entry each, which are not closed.
 fn thousands_of_groups() -> (Program, Vec<Configuration>) {
-    let mut program = idle(3, 1, 2, &[2; 3]);
+    let mut program = idle(3, 1, [2, 0, 0, 0], &[2; 3]);
     let mut entries = closed_list(&program, &[], 524_288).expect("a closed list");
     program.states = vec![32; 3];
     for number in 0..5_000u16 {
@@ -64,7 +64,7 @@ fn thousands_of_groups() -> (Program, Vec<Configuration>) {
 
 /// An entry of any shape, with as many messages and values as it may have.
 fn any_entry(r: &mut Random, program: &Program) -> Configuration {
-    let value = |r: &mut Random| if r.one_in(2) { FF } else { r.below(program.values as usize) as u8 };
+    let value = |r: &mut Random, v: usize| if r.one_in(2) { FF } else { r.below(program.values[v] as usize) as u8 };
     let most = *r.pick(&[1, 3, 16]);
     let messages = 1 + r.below(most);
     let mut entry = Configuration {
@@ -78,14 +78,14 @@ fn any_entry(r: &mut Random, program: &Program) -> Configuration {
         entry.pointers[p] = 1 + r.below(messages);
     }
     entry.pointers[r.below(program.processes)] = 1;
-    for queue in &mut entry.queues {
+    for (number, queue) in entry.queues.iter_mut().enumerate() {
         let length = *r.pick(&[0, 0, 1, 2, 8]);
-        queue.extend((0..length).map(|_| value(r)));
+        queue.extend((0..length).map(|_| value(r, number % program.variables)));
     }
     for _ in 0..messages {
         let mut snapshot = [0; 4];
-        for place in &mut snapshot[..program.variables] {
-            *place = value(r);
+        for (v, place) in snapshot[..program.variables].iter_mut().enumerate() {
+            *place = value(r, v);
         }
         entry.channel.push(Message { process: r.below(program.processes) as u8, variable: r.below(program.variables) as u8, snapshot });
     }
@@ -95,7 +95,9 @@ fn any_entry(r: &mut Random, program: &Program) -> Configuration {
 pub fn lists(r: &mut Random, each: &mut dyn FnMut(&str, &Program, &[Configuration])) {
     // One group: the whole of a target; without one entry; with the target as the initial states.
     for (processes, variables) in [(1, 1), (1, 2), (1, 3), (2, 1)] {
-        for values in 1..=4 {
+        for count in 1..=4u8 {
+            // That count for variable 0, the next one for variable 1, and so on.
+            let values = std::array::from_fn(|v| if v < variables { 1 + (count - 1 + v as u8) % 4 } else { 0 });
             let mut program = idle(processes, variables, values, &vec![2; processes]);
             let mut entries = closed_list(&program, &[], 10_000).expect("a closed list");
             each("one group", &program, &entries);
@@ -108,7 +110,8 @@ pub fn lists(r: &mut Random, each: &mut dyn FnMut(&str, &Program, &[Configuratio
     }
     // One entry, alone and many times.
     for number in 0..200 {
-        let (processes, variables, values) = (1 + r.below(4), 1 + r.below(4), 1 + r.below(4) as u8);
+        let (processes, variables) = (1 + r.below(4), 1 + r.below(4));
+        let values = random::values(r, variables, 4);
         let mut program = random::program(r, processes, variables, values, 32, 10);
         let entry = any_entry(r, &program);
         if number % 2 == 0 {
@@ -120,7 +123,7 @@ pub fn lists(r: &mut Random, each: &mut dyn FnMut(&str, &Program, &[Configuratio
     // Every entry several times.
     for number in 0..60 {
         let (processes, variables) = *r.pick(&[(1, 1), (1, 1), (1, 2), (1, 3), (2, 1)]);
-        let values = 1 + r.below(3) as u8;
+        let values = random::values(r, variables, 3);
         let (program, entries) = random::list(r, processes, variables, values, 400, number % 2 == 0);
         let mut more = entries.clone();
         for _ in 0..1 + r.below(3) {
@@ -132,7 +135,8 @@ pub fn lists(r: &mut Random, each: &mut dyn FnMut(&str, &Program, &[Configuratio
     }
     // Groups of one entry each, and target groups among them.
     for (processes, variables) in [(2, 1), (3, 1), (3, 2), (4, 1), (4, 4)] {
-        let mut program = random::program(r, processes, variables, 2, 32, 40);
+        let values = random::values(r, variables, 4);
+        let mut program = random::program(r, processes, variables, values, 32, 40);
         program.states = vec![32; processes];
         let entries: Vec<Configuration> = (0..4_000).map(|_| any_entry(r, &program)).collect();
         program.targets = entries[..16].iter().map(|entry| entry.states).collect();
@@ -146,7 +150,7 @@ pub fn lists(r: &mut Random, each: &mut dyn FnMut(&str, &Program, &[Configuratio
         each("many groups without an entry", &program, &entries);
     }
     // No FF at all: many entries of one structure, and every cube with an FF is covered by several.
-    for (processes, variables, values) in [(1, 1, 4), (1, 2, 2), (2, 1, 2)] {
+    for (processes, variables, values) in [(1, 1, [4, 0, 0, 0]), (1, 2, [2, 2, 0, 0]), (1, 2, [1, 3, 0, 0]), (1, 2, [3, 1, 0, 0]), (2, 1, [2, 0, 0, 0])] {
         let program = idle(processes, variables, values, &vec![2; processes]);
         let entries = closed_list(&program, &[], 10_000).expect("a closed list");
         let mut filled: Vec<Configuration> =

@@ -247,13 +247,15 @@ fn brute_force(seed: u64, count: usize, judges: &mut Judges) {
     let mut r = Random(seed);
     let mut number = 0;
     while number < count {
-        // One process with one variable, mostly; the other shapes with one value, so that there are few configurations.
+        // One process with one variable, mostly; the other shapes with one value in some variable, so that there are few configurations.
         let (processes, variables, values) = match r.below(20) {
-            0..=11 => (1, 1, 2),
-            12..=13 => (1, 1, 3),
-            14..=17 => (1, 2, 1),
-            18 => (1, 1, 1),
-            _ => (2, 1, 1),
+            0..=10 => (1, 1, [2, 0, 0, 0]),
+            11..=12 => (1, 1, [3, 0, 0, 0]),
+            13..=15 => (1, 2, [1, 1, 0, 0]),
+            16 => (1, 2, [1, 2, 0, 0]),
+            17 => (1, 2, [2, 1, 0, 0]),
+            18 => (1, 1, [1, 0, 0, 0]),
+            _ => (2, 1, [1, 0, 0, 0]),
         };
         let (program, entries) = random::list(&mut r, processes, variables, values, 400, number % 3 == 0);
         for variant in 0..6 {
@@ -261,7 +263,7 @@ fn brute_force(seed: u64, count: usize, judges: &mut Judges) {
                 if variant == 0 { (program.clone(), entries.clone()) } else { random::spoilt_list(&mut r, &program, &entries) };
             let file = writing::list_file(&program, &entries);
             let area = AREA_MOST;
-            let most = if processes == 2 { 150_000.0 } else { 40_000.0 };
+            let most = if processes == 2 || values[0] != values[1] && variables == 2 { 150_000.0 } else { 40_000.0 };
             if both_algorithms(judges, "random list", &file, area, most) {
                 judges.compare("random list", &file, area, judge(&file, area), false);
                 number += 1;
@@ -281,7 +283,7 @@ fn reach(seed: u64, judges: &mut Judges) {
     for (processes, variables, programs, most) in [(1, 1, 300, 400), (1, 2, 200, 600), (2, 1, 60, 2_500), (1, 3, 15, 2_500)] {
         let (mut reached, mut uncleared, mut safe) = (0, 0, 0);
         while reached + safe < programs {
-            let values = 1 + r.below(3) as u8;
+            let values = random::values(&mut r, variables, 3);
             let program = random::program_without_loops(&mut r, processes, variables, values);
             let run = search::shortest_run(&program, &program.memories(), usize::MAX);
             let from_cleared = search::shortest_run(&program, &[[0; 4]], usize::MAX).is_ok();
@@ -381,6 +383,9 @@ fn corpora(seed: u64, judges: &mut Judges) {
             judges.compare("run from every memory", &file, AREA_LEAST, judge(&file, AREA_LEAST), sample());
         });
     }
+    fixed::shapes(&mut |what, file| {
+        judges.compare(what, &file, AREA_LEAST, judge(&file, AREA_LEAST), sample());
+    });
     fixed::memories(&mut |what, file| {
         judges.compare(what, &file, AREA_LEAST, judge(&file, AREA_LEAST), sample());
     });

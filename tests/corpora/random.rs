@@ -6,20 +6,32 @@ use reference::cubes::start_above;
 use reference::entries::Cube;
 use reference::{writing, Configuration, Message, Operation, Program, Run, Step, Transition, FF};
 
-pub fn operation(r: &mut Random, variables: usize, values: u8) -> Operation {
+/// A number of values for each of so many variables, each up to `most`: different ones, or in a third of the shapes all the same.
+pub fn values(r: &mut Random, variables: usize, most: usize) -> [u8; 4] {
+    let mut values = [0; 4];
+    values[..variables].fill(1 + r.below(most) as u8);
+    if !r.one_in(3) {
+        for count in &mut values[..variables] {
+            *count = 1 + r.below(most) as u8;
+        }
+    }
+    values
+}
+
+pub fn operation(r: &mut Random, variables: usize, values: [u8; 4]) -> Operation {
     let variable = r.below(variables);
-    let value = r.below(values as usize) as u8;
+    let value = r.below(values[variable] as usize) as u8;
     match r.below(10) {
         0 => Operation::Nop,
         1..=3 => Operation::Read { variable, value },
         4..=6 => Operation::Write { variable, value },
         7 => Operation::Mfence,
         8 => Operation::Sfence,
-        _ => Operation::Arw { variable, old: value, new: r.below(values as usize) as u8 },
+        _ => Operation::Arw { variable, old: value, new: r.below(values[variable] as usize) as u8 },
     }
 }
 
-pub fn program(r: &mut Random, processes: usize, variables: usize, values: u8, most_states: usize, transitions: usize) -> Program {
+pub fn program(r: &mut Random, processes: usize, variables: usize, values: [u8; 4], most_states: usize, transitions: usize) -> Program {
     let states: Vec<u8> = (0..processes).map(|_| 1 + r.below(most_states) as u8).collect();
     let initial = states.iter().map(|n| r.below(*n as usize) as u8).collect();
     let transitions = (0..transitions)
@@ -51,15 +63,16 @@ fn random_states(r: &mut Random, program: &Program) -> [u8; 4] {
 
 pub fn memory(r: &mut Random, program: &Program) -> [u8; 4] {
     let mut memory = [0; 4];
-    for value in &mut memory[..program.variables] {
-        *value = r.below(program.values as usize) as u8;
+    for (value, count) in memory.iter_mut().zip(program.values).take(program.variables) {
+        *value = r.below(count as usize) as u8;
     }
     memory
 }
 
 /// A run by random walk. The targets are the last local states, or by chance others.
 pub fn walk(r: &mut Random) -> (Program, Run) {
-    let (processes, variables, values) = (1 + r.below(4), 1 + r.below(4), 1 + r.below(4) as u8);
+    let (processes, variables) = (1 + r.below(4), 1 + r.below(4));
+    let values = values(r, variables, 4);
     let most_states = *r.pick(&[2, 3, 4, 32]);
     let transitions = *r.pick(&[1, 4, 12, 12, 30, 60, 256]);
     let mut program = program(r, processes, variables, values, most_states, transitions);
@@ -232,7 +245,7 @@ pub fn damaged_bytes(r: &mut Random, file: &[u8]) -> Vec<u8> {
 }
 
 /// A program without loops: every transition leads to a higher state. The target is reached in some of them.
-pub fn program_without_loops(r: &mut Random, processes: usize, variables: usize, values: u8) -> Program {
+pub fn program_without_loops(r: &mut Random, processes: usize, variables: usize, values: [u8; 4]) -> Program {
     let states: Vec<u8> = (0..processes).map(|_| 2 + r.below(if processes == 1 { 4 } else { 2 }) as u8).collect();
     let mut transitions = Vec::new();
     for process in 0..processes {
@@ -270,13 +283,13 @@ fn further_entry(r: &mut Random, program: &Program) -> Option<Configuration> {
     pointers[r.below(program.processes)] = 1;
     let spared = if program.processes == 1 && r.one_in(2) { r.below(program.variables) } else { 4 };
     let queues = (0..program.processes * program.variables)
-        .map(|queue| (0..if queue == spared { 0 } else { 1 + r.below(2) }).map(|_| random_value(r, program)).collect())
+        .map(|queue| (0..if queue == spared { 0 } else { 1 + r.below(2) }).map(|_| random_value(r, program, queue % program.variables)).collect())
         .collect();
     Some(Configuration { states, queues, channel, pointers })
 }
 
 /// A closed list for a random program; usually no start is above it and it holds more than the targets.
-pub fn list(r: &mut Random, processes: usize, variables: usize, values: u8, most: usize, given: bool) -> (Program, Vec<Configuration>) {
+pub fn list(r: &mut Random, processes: usize, variables: usize, values: [u8; 4], most: usize, given: bool) -> (Program, Vec<Configuration>) {
     let (reached_too, targets_only) = (r.one_in(8), r.one_in(8));
     for tries in 0.. {
         let states = 2 + r.below(2);
@@ -298,47 +311,50 @@ pub fn list(r: &mut Random, processes: usize, variables: usize, values: u8, most
     unreachable!()
 }
 
-fn value_places(entry: &mut Configuration, variables: usize) -> Vec<&mut u8> {
-    let mut places: Vec<&mut u8> = Vec::new();
+/// Every value of an entry, with its variable.
+fn value_places(entry: &mut Configuration, variables: usize) -> Vec<(&mut u8, usize)> {
+    let mut places: Vec<(&mut u8, usize)> = Vec::new();
     for message in &mut entry.channel {
-        places.extend(message.snapshot[..variables].iter_mut());
+        places.extend(message.snapshot[..variables].iter_mut().zip(0..));
     }
-    for queue in &mut entry.queues {
-        places.extend(queue.iter_mut());
+    for (number, queue) in entry.queues.iter_mut().enumerate() {
+        places.extend(queue.iter_mut().map(|value| (value, number % variables)));
     }
     places
 }
 
-fn random_value(r: &mut Random, program: &Program) -> u8 {
+fn random_value(r: &mut Random, program: &Program, variable: usize) -> u8 {
     if r.one_in(3) {
         FF
     } else {
-        r.below(program.values as usize) as u8
+        r.below(program.values[variable] as usize) as u8
     }
 }
 
 fn random_snapshot(r: &mut Random, program: &Program) -> [u8; 4] {
     let mut snapshot = [0; 4];
-    for value in &mut snapshot[..program.variables] {
-        *value = random_value(r, program);
+    for (variable, value) in snapshot[..program.variables].iter_mut().enumerate() {
+        *value = random_value(r, program, variable);
     }
     snapshot
 }
 
-/// An FF of an entry split into its values, completely or but for the one left out.
-fn split(r: &mut Random, program: &Program, entries: &mut Vec<Configuration>, at: usize, left_out: u8) {
+/// An FF of an entry split into its values, completely or but for one of them.
+fn split(r: &mut Random, program: &Program, entries: &mut Vec<Configuration>, at: usize, but_one: bool) {
     let entry = entries[at].clone();
     let mut copy = entry.clone();
     let places = value_places(&mut copy, program.variables);
-    let open: Vec<usize> = (0..places.len()).filter(|n| *places[*n] == FF).collect();
+    let open: Vec<usize> = (0..places.len()).filter(|n| *places[*n].0 == FF).collect();
     if open.is_empty() {
         return;
     }
     let place = *r.pick(&open);
+    let count = program.values[places[place].1];
+    let left_out = if but_one { r.below(count as usize) as u8 } else { FF };
     entries.remove(at);
-    for value in (0..program.values).filter(|v| *v != left_out) {
+    for value in (0..count).filter(|v| *v != left_out) {
         let mut part = entry.clone();
-        *value_places(&mut part, program.variables)[place] = value;
+        *value_places(&mut part, program.variables)[place].0 = value;
         entries.insert(r.below(entries.len() + 1), part);
     }
 }
@@ -352,12 +368,11 @@ fn split_often(r: &mut Random, program: &Program, entries: &[Configuration]) -> 
         let same = |e: &Configuration| e.states == favourite.states && e.pointers == favourite.pointers && e.channel.len() == favourite.channel.len();
         let parts: Vec<usize> = (0..entries.len()).filter(|n| same(&entries[*n])).collect();
         let at = if parts.is_empty() || r.one_in(4) { r.below(entries.len()) } else { *r.pick(&parts) };
-        split(r, program, &mut entries, at, FF);
+        split(r, program, &mut entries, at, false);
     }
     if r.one_in(2) && entries.len() > 1 {
         let at = r.below(entries.len());
-        let left_out = r.below(program.values as usize) as u8;
-        split(r, program, &mut entries, at, left_out);
+        split(r, program, &mut entries, at, true);
     }
     r.shuffle(&mut entries);
     entries
@@ -380,14 +395,13 @@ pub fn spoilt_list(r: &mut Random, program: &Program, entries: &[Configuration])
         match r.below(12) {
             0 | 1 => drop(entries.remove(at)),
             2..=4 => {
-                let left_out = if r.one_in(2) { r.below(program.values as usize) as u8 } else { FF };
-                split(r, &program, &mut entries, at, left_out);
+                let but_one = r.one_in(2);
+                split(r, &program, &mut entries, at, but_one);
             }
             5 | 6 => {
-                let value = random_value(r, &program);
                 let mut places = value_places(&mut entries[at], program.variables);
                 let place = r.below(places.len());
-                *places[place] = value;
+                *places[place].0 = random_value(r, &program, places[place].1);
             }
             // A redundant entry: equal, with fewer values, with one more waiting value, or with one more message.
             7 | 8 => {
@@ -395,17 +409,16 @@ pub fn spoilt_list(r: &mut Random, program: &Program, entries: &[Configuration])
                 match r.below(4) {
                     0 => {}
                     1 => {
-                        let value = random_value(r, &program);
                         let mut places = value_places(&mut more, program.variables);
                         let place = r.below(places.len());
-                        if *places[place] == FF {
-                            *places[place] = value;
+                        if *places[place].0 == FF {
+                            *places[place].0 = random_value(r, &program, places[place].1);
                         }
                     }
                     2 => {
                         let queue = r.below(more.queues.len());
                         while !more.queues[queue].is_empty() && more.queues[queue].len() < 8 {
-                            let value = random_value(r, &program);
+                            let value = random_value(r, &program, queue % program.variables);
                             more.queues[queue].insert(0, value);
                             if r.one_in(3) {
                                 break;
@@ -455,7 +468,7 @@ pub fn spoilt_list(r: &mut Random, program: &Program, entries: &[Configuration])
                 }
                 _ => {
                     let queue = r.below(entries[at].queues.len());
-                    let value = random_value(r, &program);
+                    let value = random_value(r, &program, queue % program.variables);
                     entries[at].queues[queue] = if entries[at].queues[queue].is_empty() { vec![value] } else { Vec::new() };
                 }
             },
@@ -497,7 +510,7 @@ const LISTS: [(usize, usize, usize, usize, usize, bool); 9] = [
 pub fn lists(r: &mut Random, each: &mut dyn FnMut(&Program, &[Configuration])) {
     for (processes, variables, programs, variants, most, given) in LISTS {
         for _ in 0..programs {
-            let values = 1 + r.below(if variables == 1 { 4 } else { 3 }) as u8;
+            let values = values(r, variables, if variables == 1 { 4 } else { 3 });
             let (program, entries) = list(r, processes, variables, values, most, given);
             each(&program, &entries);
             for number in 0..variants {
@@ -514,7 +527,7 @@ pub fn lists(r: &mut Random, each: &mut dyn FnMut(&Program, &[Configuration])) {
     let program = Program {
         processes: 2,
         variables: 1,
-        values: 2,
+        values: [2, 0, 0, 0],
         states: vec![3, 1],
         initial: vec![2, 0],
         transitions: vec![Transition { process: 0, from: 0, operation: Operation::Arw { variable: 0, old: 1, new: 0 }, to: 1 }],

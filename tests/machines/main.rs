@@ -135,9 +135,9 @@ enum Habit {
     Both,
 }
 
-fn operation(r: &mut Random, variables: usize, values: u8, fences: bool, habit: Habit) -> Operation {
+fn operation(r: &mut Random, variables: usize, values: [u8; 4], fences: bool, habit: Habit) -> Operation {
     let variable = r.below(variables);
-    let value = r.below(values as usize) as u8;
+    let value = r.below(values[variable] as usize) as u8;
     let read = Operation::Read { variable, value };
     let write = Operation::Write { variable, value };
     match (r.below(if fences { 12 } else { 8 }), habit) {
@@ -145,7 +145,7 @@ fn operation(r: &mut Random, variables: usize, values: u8, fences: bool, habit: 
         (0..=7, _) => write,
         (8..=9, _) => Operation::Sfence,
         (10, _) => *r.pick(&[Operation::Mfence, Operation::Nop]),
-        _ => Operation::Arw { variable, old: value, new: r.below(values as usize) as u8 },
+        _ => Operation::Arw { variable, old: value, new: r.below(values[variable] as usize) as u8 },
     }
 }
 
@@ -163,7 +163,7 @@ const IDIOMS: [&[&str]; 6] = [
 /// An idiom with fences chosen by chance, and by chance one operation more in a process.
 fn idiom(r: &mut Random) -> Program {
     let lines = *r.pick(&IDIOMS);
-    let variables = 3;
+    let (variables, values) = (3, [2, 2, 2, 0]);
     let mut transitions = Vec::new();
     let mut states = Vec::new();
     for (process, line) in lines.iter().enumerate() {
@@ -177,12 +177,12 @@ fn idiom(r: &mut Random) -> Program {
                     0 => {}
                     1 | 2 => operations.push(Operation::Sfence),
                     3 => operations.push(Operation::Mfence),
-                    _ => operations.push(operation(r, variables, 2, true, Habit::Both)),
+                    _ => operations.push(operation(r, variables, values, true, Habit::Both)),
                 },
             }
         }
         if r.one_in(4) {
-            operations.insert(r.below(operations.len() + 1), operation(r, variables, 2, true, Habit::Both));
+            operations.insert(r.below(operations.len() + 1), operation(r, variables, values, true, Habit::Both));
         }
         states.push(operations.len() as u8 + 1);
         for (from, operation) in operations.into_iter().enumerate() {
@@ -190,14 +190,17 @@ fn idiom(r: &mut Random) -> Program {
         }
     }
     let processes = lines.len();
-    Program { processes, variables, values: 2, states, initial: vec![0; processes], transitions, targets: Vec::new() }
+    Program { processes, variables, values, states, initial: vec![0; processes], transitions, targets: Vec::new() }
 }
 
 /// A small program: one line of operations per process, by chance with other ways forward, and back if it may have loops.
 fn program(r: &mut Random, loops: bool) -> Program {
     let processes = if r.one_in(3) { 3 } else { 2 };
     let variables = 1 + r.below(3);
-    let values = if r.one_in(5) { 3 } else { 2 };
+    let mut values = [0; 4];
+    for count in &mut values[..variables] {
+        *count = *r.pick(&[1, 2, 2, 2, 3]);
+    }
     let fences = !r.one_in(4);
     let mut states = Vec::new();
     let mut transitions = Vec::new();

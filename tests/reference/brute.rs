@@ -52,11 +52,11 @@ pub fn below(program: &Program, c: &Configuration, d: &Configuration) -> bool {
 /// Every filling in of an entry's FFs; None if there are more than `limit`.
 pub fn fillings(program: &Program, entry: &Configuration, limit: usize) -> Option<Vec<Configuration>> {
     let mut all = vec![entry.clone()];
-    let mut fill = |change: &dyn Fn(&mut Configuration) -> &mut u8| {
+    let mut fill = |variable: usize, change: &dyn Fn(&mut Configuration) -> &mut u8| {
         if *change(&mut all[0]) == FF {
             let mut more = Vec::new();
             for c in &all {
-                for value in 0..program.values {
+                for value in 0..program.values[variable] {
                     let mut filled = c.clone();
                     *change(&mut filled) = value;
                     more.push(filled);
@@ -68,14 +68,14 @@ pub fn fillings(program: &Program, entry: &Configuration, limit: usize) -> Optio
     };
     for message in 0..entry.channel.len() {
         for v in 0..program.variables {
-            if !fill(&|c| &mut c.channel[message].snapshot[v]) {
+            if !fill(v, &|c| &mut c.channel[message].snapshot[v]) {
                 return None;
             }
         }
     }
     for queue in 0..entry.queues.len() {
         for at in 0..entry.queues[queue].len() {
-            if !fill(&|c| &mut c.queues[queue][at]) {
+            if !fill(queue % program.variables, &|c| &mut c.queues[queue][at]) {
                 return None;
             }
         }
@@ -122,11 +122,12 @@ pub fn bounds(program: &Program, entries: &[Configuration]) -> Bounds {
 /// Roughly how many configurations there are under a bound, for each choice of local states.
 pub fn size(program: &Program, bounds: &Bounds) -> f64 {
     let sum = |base: f64, from: usize, to: usize| (from..=to).map(|n| base.powi(n as i32)).sum::<f64>();
-    let pairs = (program.processes * program.variables) as i32;
-    let label_values = pairs as f64 * (program.values as f64).powi(program.variables as i32);
+    let counts = program.values[..program.variables].iter().map(|count| *count as f64);
+    let pairs = program.processes * program.variables;
+    let label_values = pairs as f64 * counts.clone().product::<f64>();
     let channels: f64 =
         (1..=bounds.messages).map(|n| label_values.powi(n as i32) * (n as f64).powi(program.processes as i32)).sum();
-    channels * sum(program.values as f64, 0, bounds.waiting).powi(pairs)
+    channels * counts.map(|count| sum(count, 0, bounds.waiting)).product::<f64>().powi(program.processes as i32)
 }
 
 /// Judges a list by looking at every configuration up to the bounds. None if some entry has too many fillings.
@@ -146,9 +147,9 @@ pub fn judge_list(program: &Program, entries: &[Configuration], bounds: &Bounds)
         }
     }
     let channels = sequences(&messages, 1, bounds.messages);
-    let values: Vec<u8> = (0..program.values).collect();
     let mut all_queues: Vec<Vec<Vec<u8>>> = vec![Vec::new()];
-    for _ in 0..program.processes * program.variables {
+    for queue in 0..program.processes * program.variables {
+        let values: Vec<u8> = (0..program.values[queue % program.variables]).collect();
         let one = sequences(&values, 0, bounds.waiting);
         all_queues = all_queues
             .iter()

@@ -131,6 +131,14 @@ fn waiting_place(queue: usize, at: usize) -> Place {
     4 * MESSAGES + WAITING * queue + at
 }
 
+/// The variable whose value stands there.
+fn variable_at(program: &Program, place: Place) -> usize {
+    match place.checked_sub(4 * MESSAGES) {
+        None => place % 4,
+        Some(waiting) => waiting / WAITING % program.variables,
+    }
+}
+
 fn at_mut(cube: &mut Cube, place: Place) -> &mut u8 {
     match place.checked_sub(4 * MESSAGES) {
         None => &mut cube.channel_mut()[place / 4].snapshot[place % 4],
@@ -304,7 +312,7 @@ impl<'a> Index<'a> {
             return true;
         }
         let mut found = false;
-        for value in 0..self.program.values {
+        for value in 0..self.program.values[variable_at(self.program, place)] {
             *at_mut(cube, place) = value;
             let covered = meeting.iter().any(|entry| matches(*entry, Relation::Covers, cube, structure, |_| ()));
             if !covered && self.gap(cube, structure, &meeting) {

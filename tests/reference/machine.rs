@@ -37,7 +37,8 @@ pub struct Run {
 pub struct Program {
     pub processes: usize,
     pub variables: usize,
-    pub values: u8,
+    /// How many values each variable has; 0 for absent variables.
+    pub values: [u8; 4],
     /// Number of local states and the initial one, per process.
     pub states: Vec<u8>,
     pub initial: Vec<u8>,
@@ -90,7 +91,7 @@ impl Program {
                 memory[v] = value;
                 memory
             };
-            all = all.iter().flat_map(|memory| (0..self.values).map(move |value| with(memory, value))).collect();
+            all = all.iter().flat_map(|memory| (0..self.values[v]).map(move |value| with(memory, value))).collect();
         }
         all
     }

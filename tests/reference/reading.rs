@@ -12,7 +12,7 @@ pub enum Evidence {
 /// Body lengths of the kinds that exist.
 pub fn body_length(kind: u8) -> Option<usize> {
     Some(match kind {
-        0x01 => 3,
+        0x01 => 6,
         0x02 => 2,
         0x03 => 7,
         0x04 => 4,
@@ -94,7 +94,10 @@ impl Reader {
 
     fn out_of_range(&self, kind: u8, body: &[u8]) -> bool {
         match kind {
-            0x01 => body.iter().any(|n| *n < 1 || *n > 4),
+            0x01 => {
+                let outside = |n: &u8| *n < 1 || *n > 4;
+                body[..2].iter().any(outside) || body[2..2 + body[1] as usize].iter().any(outside)
+            }
             0x02 => body[0] < 1 || body[0] > 32,
             _ => false,
         }
@@ -112,8 +115,8 @@ impl Reader {
         Some(states)
     }
 
-    fn value_or_any(&self, byte: u8) -> bool {
-        byte < self.program.values || byte == FF
+    fn value_or_any(&self, variable: usize, byte: u8) -> bool {
+        byte < self.program.values[variable] || byte == FF
     }
 
     /// Takes the record in; None is number 4.
@@ -123,14 +126,19 @@ impl Reader {
         let values = self.program.values;
         let process = |byte: u8| if (byte as usize) < processes { Some(byte as usize) } else { None };
         let variable = |byte: u8| if (byte as usize) < variables { Some(byte as usize) } else { None };
-        let value = |byte: u8| if byte < values { Some(byte) } else { None };
+        let value = |variable: usize, byte: u8| if byte < values[variable] { Some(byte) } else { None };
         let zero = |byte: u8| if byte == 0 { Some(()) } else { None };
         match kind {
             0x01 => {
                 self.shape = true;
                 self.program.processes = body[0] as usize;
                 self.program.variables = body[1] as usize;
-                self.program.values = body[2];
+                for (v, count) in body[2..].iter().enumerate() {
+                    if v >= self.program.variables {
+                        zero(*count)?;
+                    }
+                    self.program.values[v] = *count;
+                }
             }
             0x02 => {
                 if body[1] >= body[0] {
@@ -153,7 +161,7 @@ impl Reader {
                     }
                     1 | 2 => {
                         let variable = variable(body[3])?;
-                        let value = value(body[4])?;
+                        let value = value(variable, body[4])?;
                         zero(body[5])?;
                         if body[2] == 1 {
                             Operation::Read { variable, value }
@@ -161,7 +169,10 @@ impl Reader {
                             Operation::Write { variable, value }
                         }
                     }
-                    5 => Operation::Arw { variable: variable(body[3])?, old: value(body[4])?, new: value(body[5])? },
+                    5 => {
+                        let variable = variable(body[3])?;
+                        Operation::Arw { variable, old: value(variable, body[4])?, new: value(variable, body[5])? }
+                    }
                     _ => return None,
                 };
                 self.program.transitions.push(Transition { process: p, from: body[1], operation, to: body[6] });
@@ -192,7 +203,7 @@ impl Reader {
                 process(body[0])?;
                 variable(body[1])?;
                 for (v, byte) in body[2..6].iter().enumerate() {
-                    if v < variables && !self.value_or_any(*byte) || v >= variables && *byte != 0 {
+                    if v < variables && !self.value_or_any(v, *byte) || v >= variables && *byte != 0 {
                         return None;
                     }
                 }
@@ -200,8 +211,9 @@ impl Reader {
                 self.latest.as_mut()?.append(message);
             }
             0x12 => {
-                let queue = self.program.queue(process(body[0])?, variable(body[1])?);
-                if !self.value_or_any(body[2]) {
+                let variable = variable(body[1])?;
+                let queue = self.program.queue(process(body[0])?, variable);
+                if !self.value_or_any(variable, body[2]) {
                     return None;
                 }
                 self.latest.as_mut()?.push_newest(queue, body[2]);
@@ -209,7 +221,7 @@ impl Reader {
             0x1f => {
                 let mut memory = [0; 4];
                 for (v, byte) in body.iter().enumerate() {
-                    memory[v] = if v < variables { value(*byte)? } else { zero(*byte).map(|_| 0)? };
+                    memory[v] = if v < variables { value(v, *byte)? } else { zero(*byte).map(|_| 0)? };
                 }
                 self.memory = Some(memory);
             }

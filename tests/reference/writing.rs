@@ -4,7 +4,8 @@ use crate::machine::{Configuration, Operation, Program, Run, Step};
 
 /// Records 01 to 04.
 pub fn program(program: &Program) -> Vec<u8> {
-    let mut out = vec![0x01, program.processes as u8, program.variables as u8, program.values];
+    let mut out = vec![0x01, program.processes as u8, program.variables as u8];
+    out.extend(program.values);
     for p in 0..program.processes {
         out.extend([0x02, program.states[p], program.initial[p]]);
     }
