@@ -11,7 +11,7 @@ use Rattle.by_number.proofs.Contents.{Outcome, outcome-refused, outcome
 abbrev pub HasCounts : List ℕ → FileRead → Type 0
 HasCounts f (refused r) = Unit {0}
 HasCounts f (list P ts es) = CountsOf (P .shape) (shapeAt f 0 .values)
-HasCounts f (run P ts ss) = CountsOf (P .shape) (shapeAt f 0 .values)
+HasCounts f (run P ts m ss) = CountsOf (P .shape) (shapeAt f 0 .values)
 
 pub file-counts : (f : List ℕ) (area : ℕ) → HasCounts f (readFile f area)
 file-counts f area = go (outcome f area)

@@ -183,7 +183,8 @@ module _ (P : Program) (R : ProgramInRange P) (ts : List (ℕ → ℕ)) (m : Lis
       record {
         count = refl;
         start = origin;
-        permitted = permitted; memory = refl;
+        permitted = permitted;
+        memory = refl;
         end = d;
         takes = t;
         exists = omega (arith, h .2);
@@ -206,7 +207,8 @@ module _ (P : Program) (R : ProgramInRange P) (ts : List (ℕ → ℕ)) (m : Lis
       (record {
         exists = w .exists;
         start = origin;
-        permitted = permitted; memory = refl;
+        permitted = permitted;
+        memory = refl;
         before = w .before;
         takes = w .takes;
         reason = cause-reason P (w .before) (getD ss (r .0) (Update 0)) cause (w .answer);
@@ -248,7 +250,8 @@ module _ (P : Program) (R : ProgramInRange P) (ts : List (ℕ → ℕ)) (m : Lis
       stopped-answer k cause (record {
         exists = x .exists;
         start = x .start;
-        permitted = x .permitted; memory = x .memory;
+        permitted = x .permitted;
+        memory = x .memory;
         before = x .before;
         takes = x .takes;
         reason = reason-cause P (x .before) (getD ss k (Update 0)) cause (x .reason);
@@ -267,7 +270,8 @@ module _ (P : Program) (R : ProgramInRange P) (ts : List (ℕ → ℕ)) (m : Lis
       record {
         exists = x .exists;
         start = x .start;
-        permitted = x .permitted; memory = x .memory;
+        permitted = x .permitted;
+        memory = x .memory;
         before = x .before;
         takes = x .takes;
         reason = let s = getD ss k (Update 0) in sym (answer-may P (x .before) s) ∙ ap isPermitted (reason-cause P (x .before) s cause (x .reason));
