@@ -1,4 +1,4 @@
-// Targets and starts of a list (theory, sections 3 and 4).
+// Targets and starts of a list (theory, sections 3 and 4): the shapes of a target here, starts in their own file.
 ghost use mathlib.Core.Path.{_≡_};
 ghost use mathlib.Core.List.{map};
 ghost use Prim.Native.Nat.{_+_, _-_, _*_, _≤_, _<_};
@@ -6,18 +6,18 @@ ghost use lib.ListN.{getD, take};
 ghost use mathlib.Core.Bool.{cond, not};
 ghost use lib.Dec.{eqb, ltb};
 ghost use Rattle.pws.specs.Program.{Program};
-ghost use Rattle.pws.specs.Machine.{isEmpty, allBelow, labelled};
+ghost use Rattle.pws.specs.Machine.{allBelow, labelled};
 ghost use Rattle.program_part.specs.ProgramPart.{shapeOf};
-ghost use Rattle.whole_file.specs.Cube.{waitingOf, queueOf, channelOf, configurationOf};
+ghost use Rattle.whole_file.specs.Cube.{channelOf, configurationOf};
 ghost use Rattle.lists.specs.Lists.{anyOf};
 ghost use Rattle.lists.specs.Cubes.{anyMessage};
 ghost use Rattle.lists.specs.Shapes.{allowed, queueShapes};
-ghost use Rattle.lists.specs.Decision.{targetHeld, looksStarted};
-ghost use Rattle.targets.specs.Sizes.{Small, startsOf};
+ghost use Rattle.lists.specs.Decision.{targetHeld};
 ghost use Rattle.targets.specs.ShapeCube.{ShapeCube, outlineOf, emptyShape, withWaiting};
 ghost use Rattle.by_number.specs.Again.{entriesOf};
 ghost use Rattle.targets.specs.Walk.{Searches, Judges, withQueues, queueCubes, outlineCubes, choiceCubes};
 ghost use Rattle.targets.specs.Depth.{SmallShape, AtQueue, AtMessage, AtPlace};
+use crate::starts::same_bytes;
 use cover::search::search;
 use matching::least;
 use program_part::bytes::both;
@@ -27,73 +27,9 @@ use pws::Message;
 use whole_file::entry::Cube;
 use whole_file::entry::Queue;
 
-// ---- starts (section 4)
+mod starts;
 
-// Nothing waits.
-fn is_empty(queue: Queue) -> bool
-    ensures { λ r. ⌜ r ≡ isEmpty (waitingOf queue) ⌝ }
-{
-    let n = queue.count;
-    n == 0
-}
-
-// The first n bytes are the same.
-fn same_bytes(n: usize, a: [u8; 4], b: [u8; 4]) -> bool
-    requires { ⌜ n ≤ 4 ⌝ }
-    ensures { λ r. ⌜ r ≡ allBelow n (λ p. eqb (getD a p 0) (getD b p 0)) ⌝ }
-{
-    for p in 0..n {
-        if a[p] != b[p] {
-            return false;
-        }
-    }
-    true
-}
-
-// Nothing waits in the first n queues of process p.
-fn row_empty(n: usize, queues: [Queue; 16], p: usize) -> bool
-    requires { ⌜ (n ≤ 4) × (p < 4) ⌝ }
-    ensures { λ r. ⌜ r ≡ allBelow n (λ v. isEmpty (queueOf queues p v)) ⌝ }
-{
-    for v in 0..n {
-        let k = 4 * p + v;
-        let queue = queues[k];
-        if !is_empty(queue) {
-            return false;
-        }
-    }
-    true
-}
-
-// Nothing waits for the first n processes.
-fn none_waiting(n: usize, m: usize, queues: [Queue; 16]) -> bool
-    requires { ⌜ (n ≤ 4) × (m ≤ 4) ⌝ }
-    ensures { λ r. ⌜ r ≡ allBelow n (λ p. allBelow m (λ v. isEmpty (queueOf queues p v))) ⌝ }
-{
-    for p in 0..n {
-        if !row_empty(m, queues, p) {
-            return false;
-        }
-    }
-    true
-}
-
-// Initial states, no waiting value and one message: a start has any values.
-pub fn looks_started(shape: Shape, initial: [u8; 4], cube: Cube) -> bool
-    ensures { λ r. ⌜ (Small shape → r ≡ looksStarted (startsOf shape initial) (configurationOf cube)) ⌝ }
-{
-    let n = least(shape.processes, 4);
-    let m = least(shape.variables, 4);
-    let states = cube.states;
-    if !same_bytes(n, states, initial) {
-        return false;
-    }
-    let queues = cube.queues;
-    if !none_waiting(n, m, queues) {
-        return false;
-    }
-    cube.count == 1
-}
+pub use starts::looks_started;
 
 // ---- shapes (section 3)
 

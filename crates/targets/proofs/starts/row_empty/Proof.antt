@@ -8,8 +8,8 @@ use Rattle.whole_file.specs.Cube.{queueOf}
 use Rattle.whole_file.proofs.CubeParts.{queue-of}
 use Rattle.matching.proofs.Below.{all-false, Each, each-begin, each-next, each-all}
 use borrow.Author.Needs.{needs}
-use Rattle.targets.proofs.row_empty.Statement.{statement}
-use Rattle.targets.proofs.row_empty.Tie as tie
+use Rattle.targets.proofs.starts.row_empty.Statement.{statement}
+use Rattle.targets.proofs.starts.row_empty.Tie as tie
 
 abbrev Inv-loop : tie.InvT-loop
 Inv-loop n p queues v₀ v = Each (λ k. isEmpty (queueOf queues p k)) true n v

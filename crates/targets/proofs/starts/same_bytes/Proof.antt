@@ -6,8 +6,8 @@ use borrow.Author.Tests.{eq-eqb, ne-eqb}
 use Rattle.matching.proofs.Below.{all-false, Each, each-begin, each-next, each-all}
 use mathlib.Core.Path.{sym}
 use borrow.Author.Needs.{needs}
-use Rattle.targets.proofs.same_bytes.Statement.{statement}
-use Rattle.targets.proofs.same_bytes.Tie as tie
+use Rattle.targets.proofs.starts.same_bytes.Statement.{statement}
+use Rattle.targets.proofs.starts.same_bytes.Tie as tie
 
 abbrev Inv-loop : tie.InvT-loop
 Inv-loop n a b p₀ p = Each (λ k. eqb (getD a k 0) (getD b k 0)) true n p

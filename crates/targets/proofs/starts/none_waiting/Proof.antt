@@ -6,8 +6,8 @@ use Rattle.pws.specs.Machine.{isEmpty, allBelow}
 use Rattle.whole_file.specs.Cube.{queueOf}
 use Rattle.matching.proofs.Below.{all-false, Each, each-begin, each-next, each-all}
 use borrow.Author.Needs.{needs}
-use Rattle.targets.proofs.none_waiting.Statement.{statement}
-use Rattle.targets.proofs.none_waiting.Tie as tie
+use Rattle.targets.proofs.starts.none_waiting.Statement.{statement}
+use Rattle.targets.proofs.starts.none_waiting.Tie as tie
 
 abbrev Inv-loop : tie.InvT-loop
 Inv-loop n m queues p₀ p = Each (λ k. allBelow m (λ v. isEmpty (queueOf queues k v))) true n p
