@@ -92,15 +92,15 @@ judged-with : (f : List ℕ) (area : ℕ) → 65536 ≤ area → judged f area �
 unfolding judged readFile partsOf evidenceFrom
 judged-with f area l = rw (le-ltb area 65536 l)
 
--- eight are allowed at least, and no row has more
-many : (area : ℕ) → 65536 ≤ area → (k : ℕ) × (entriesAllowed area ≡ suc (suc (suc (suc (suc (suc (suc (suc k))))))))
+-- nine are allowed at least, and every row has fewer
+many : (area : ℕ) → 65536 ≤ area → (k : ℕ) × (entriesAllowed area ≡ suc (suc (suc (suc (suc (suc (suc (suc (suc k)))))))))
 unfolding entriesAllowed
-many area l = (entriesAllowed area - 8, omega arith)
+many area l = (entriesAllowed area - 9, omega arith)
 
 -- ---- what is computed
 
 abbrev Right : ℕ → Row → Type 0
-Right k (file f v) = judgedWith f (suc (suc (suc (suc (suc (suc (suc (suc k)))))))) ≡ v
+Right k (file f v) = judgedWith f (suc (suc (suc (suc (suc (suc (suc (suc (suc k))))))))) ≡ v
 Right k (below xs ys) = QueueBelow xs ys
 Right k (notBelow xs ys) = QueueBelow xs ys → ⊥
 
