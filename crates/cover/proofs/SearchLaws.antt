@@ -31,7 +31,7 @@ use Rattle.summary.proofs.OnwardLaws.{all-walked}
 use Rattle.cover.specs.declared.place.Place.{Place}
 use Rattle.cover.specs.declared.place.Place.the-variants.{Whole, Waiting, Sent}
 use Rattle.cover.specs.Places.{partOf, isWhole, isFree, proper, fillings, NoneFree}
-use Rattle.cover.specs.Search.{Sized, Covered, by-entry, by-parts, Plain, Searchable, Against, Tried, Unmet, Stuck}
+use Rattle.cover.specs.Search.{Sized, Covered, by-entry, by-parts, Plain, Searchable, Against, Tried, Uncovered, Unmet, Stuck, Looked}
 use Rattle.cover.proofs.PlaceLaws.{true-not-false}
 use Rattle.cover.proofs.EntryLaws.{load-few}
 use Rattle.cover.proofs.PartLaws.{part-count}
@@ -145,7 +145,60 @@ module _ (f list sum : List ℕ) (n : ℕ) (s : Shape) (c : Cube) (tags : List �
   pub choosing-end : {a : Place} {met : Bool} {w : Walk} → Choosing a met w → w .entry ≡ 0 → met ≡ false → Unmet f list sum n s c tags number
   choosing-end C z e A = walked-end f list sum n s (c .states) number (C .unmet e A) z
 
--- ---- the parts in turn, and the entries for one of them
+-- ---- the entries for a cube
+
+module _ (f list sum : List ℕ) (n : ℕ) (s : Shape) (c : Cube) (tags : List ℕ) (number : ℕ) where
+  -- the entries walked over do not cover it
+  pub record Scanning (w : Walk) : Type 0 where
+    pub within : Within f list sum n s (c .states) number w
+    pub none : Against s c tags
+        → Walked f list sum n s (c .states) number (λ k. matches (shapeOf s) fills (configurationOf (cubeAt f list k)) (configurationOf c) ≡ false) w
+
+  pub scanning-begin : {w : Walk} → Onward f list sum n s (c .states) number n (headLink sum (homeOf number n)) false w → Scanning w
+  scanning-begin O = record { within = within f list sum n s (c .states) number O; none = λ A. walked-begin f list sum n s (c .states) number O }
+
+  module _ {w : Walk} (W : Scanning w) where
+    pub scanning-next : {v : Walk} → (Against s c tags → matches (shapeOf s) fills (configurationOf (cubeAt f list (w .entry - 1))) (configurationOf c) ≡ false)
+        → Onward f list sum n s (c .states) number (min (w .below) n) (w .link) (w .led) v → Scanning v
+    scanning-next d O =
+        record {
+          within = within f list sum n s (c .states) number O;
+          none = λ A. walked-next f list sum n s (c .states) number (W .none A) (d A) (onward-within f list sum n s (c .states) number (W .within) O);
+        }
+
+    -- this one does
+    pub scanning-covered : w .entry ≢ 0 → (Against s c tags → matches (shapeOf s) fills (configurationOf (cubeAt f list (w .entry - 1))) (configurationOf c) ≡ true)
+        → Against s c tags → Covered f list n s c
+    scanning-covered d g A = by-entry (w .entry - 1) (let u = W .within .exists in omega (arith, d)) (g A)
+
+    pub scanning-end : w .entry ≡ 0 → Uncovered f list sum n s c tags number
+    scanning-end z A = walked-end f list sum n s (c .states) number (W .none A) z
+
+  module _ (t : tags ≡ tagsOf s c) where
+    against : Sized s c → Against s c tags
+    against Z = record { sized = Z; is = t }
+
+    pub looked-covered : (Against s c tags → Covered f list n s c) → Looked f list sum n s c true Whole
+    looked-covered g = record { found = λ e Z. g (against Z); proper = refl; stuck = λ e. absurd (true-not-false e) }
+
+    -- none covers it, and it can't be split
+    cube-out : number ≡ numberOf s c → Uncovered f list sum n s c tags number → Stuck f list sum n s c tags number → Searchable f list sum n s c
+        → held (shapeOf s) (entriesOf f list n) (configurationOf c) ≡ false
+    cube-out m g q Z =
+        let A = against (sized Z) in
+        let at : (R : ℕ → Bool) → ((k : ℕ) → Start f list sum n s (c .states) number k → R k ≡ false) → (k : ℕ) → Start f list sum n s (c .states) (numberOf s c) k → R k ≡ false =
+        λ R g k l. g k (subst (λ (y : ℕ). Start f list sum n s (c .states) y k) (sym m) l) in
+        cube-stuck (plain Z)
+        (all-unmatched Z true (at (λ k. matches (shapeOf s) fills (configurationOf (cubeAt f list k)) (configurationOf c)) (g A)))
+        (⊎-elim
+        (λ u. inl (all-unmatched Z false (at (λ k. matches (shapeOf s) alike (configurationOf (cubeAt f list k)) (configurationOf c)) (u A))))
+        (λ u. inr u) q)
+
+    pub looked-open : {a : Place} → (tags ≡ tagsOf s c → number ≡ numberOf s c) → Uncovered f list sum n s c tags number → proper s c a ≡ true
+        → (isWhole a ≡ true → Stuck f list sum n s c tags number) → Looked f list sum n s c false a
+    looked-open m g p q = record { found = λ e. absurd (true-not-false (sym e)); proper = p; stuck = λ e w Z. cube-out (m t) g (q w) Z }
+
+-- ---- the parts in turn
 
 module _ (f list sum : List ℕ) (n : ℕ) (s : Shape) (c : Cube) (a : Place) where
   -- the first x parts are covered
@@ -153,104 +206,37 @@ module _ (f list sum : List ℕ) (n : ℕ) (s : Shape) (c : Cube) (a : Place) wh
     pub most : x ≤ fillings s a
     pub covered : Sized s c → (k : ℕ) → k < x → Covered f list n s (partOf c a k)
 
-  -- the entries walked over do not cover the part
-  pub record Scanning (part : Cube) (tags : List ℕ) (number x : ℕ) (w : Walk) : Type 0 where
-    pub parts : Parts x
-    pub one : x < fillings s a
-    pub is : part ≡ partOf c a x
-    pub tagged : tags ≡ tagsOf s part
-    pub numbered : number ≡ numberOf s part
-    pub within : Within f list sum n s (part .states) number w
-    pub none : Against s part tags
-        → Walked f list sum n s (part .states) number (λ k. matches (shapeOf s) fills (configurationOf (cubeAt f list k)) (configurationOf part) ≡ false) w
-
   pub parts-begin : Parts 0
   parts-begin = record { most = omega arith; covered = λ Z k l. absurd (omega arith) }
 
-  pub parts-next : {x : ℕ} → Parts x → x < fillings s a → (Sized s c → Covered f list n s (partOf c a x)) → Parts (x + 1)
-  parts-next {x} w l g =
-      record {
-        most = omega arith;
-        covered = λ Z k m. elim (ℕ-discrete k x) [ yes d ↦ subst (λ (y : ℕ). Covered f list n s (partOf c a y)) (sym d) (g Z) | no d ↦ w .covered Z k (omega arith) ];
-      }
-
-  pub scanning-begin : {part : Cube} {tags : List ℕ} {number x : ℕ} {w : Walk} → Parts x → x < fillings s a → part ≡ partOf c a x → tags ≡ tagsOf s part
-      → (tags ≡ tagsOf s part → number ≡ numberOf s part) → Onward f list sum n s (part .states) number n (headLink sum (homeOf number n)) false w → Scanning part tags number x w
-  scanning-begin {part} {tags} {number} p l e t m O =
-      record {
-        parts = p;
-        one = l;
-        is = e;
-        tagged = t;
-        numbered = m t;
-        within = within f list sum n s (part .states) number O;
-        none = λ A. walked-begin f list sum n s (part .states) number O;
-      }
-
-  module _ {part : Cube} {tags : List ℕ} {number x : ℕ} {w : Walk} (W : Scanning part tags number x w) where
-    pub scanning-next : {v : Walk} → (Against s part tags → matches (shapeOf s) fills (configurationOf (cubeAt f list (w .entry - 1))) (configurationOf part) ≡ false)
-        → Onward f list sum n s (part .states) number (min (w .below) n) (w .link) (w .led) v → Scanning part tags number x v
-    scanning-next d O =
-        record {
-          parts = W .parts;
-          one = W .one;
-          is = W .is;
-          tagged = W .tagged;
-          numbered = W .numbered;
-          within = within f list sum n s (part .states) number O;
-          none = λ A. walked-next f list sum n s (part .states) number (W .none A) (d A) (onward-within f list sum n s (part .states) number (W .within) O);
-        }
-
+  module _ {x : ℕ} {part : Cube} (is : part ≡ partOf c a x) (one : x < fillings s a) where
     part-sized : Sized s c → Sized s part
     part-sized Z =
         record {
           processes = Z .processes;
           variables = Z .variables;
-          messages = subst (λ (y : ℕ). y ≤ 20) (sym (ap (λ (y : Cube). y .count) (W .is) ∙ part-count c a x)) (Z .messages);
+          messages = subst (λ (y : ℕ). y ≤ 20) (sym (ap (λ (y : Cube). y .count) is ∙ part-count c a x)) (Z .messages);
         }
 
-    part-against : Sized s c → Against s part tags
-    part-against Z = record { sized = part-sized Z; is = W .tagged }
-
-    -- an entry covers the part
-    pub scanning-covered : w .entry ≢ 0 → (Against s part tags → matches (shapeOf s) fills (configurationOf (cubeAt f list (w .entry - 1))) (configurationOf part) ≡ true) → Parts (x + 1)
-    scanning-covered d g =
-        parts-next (W .parts) (W .one)
-        (λ Z. subst (Covered f list n s) (W .is) (by-entry (w .entry - 1) (let u = W .within .exists in omega (arith, d)) (g (part-against Z))))
-
-    -- its own parts cover it
-    pub scanning-held : {h : Bool} → (Sized s part → h ≡ true → Covered f list n s part) → h ≡ true → Parts (x + 1)
-    scanning-held g e = parts-next (W .parts) (W .one) (λ Z. subst (Covered f list n s) (W .is) (g (part-sized Z) e))
+    pub parts-next : Parts x → (Sized s part → Covered f list n s part) → Parts (x + 1)
+    parts-next w g =
+        record {
+          most = omega arith;
+          covered = λ Z k m. elim (ℕ-discrete k x) [
+            | yes d ↦ subst (λ (y : ℕ). Covered f list n s (partOf c a y)) (sym d) (subst (Covered f list n s) is (g (part-sized Z)))
+            | no d ↦ w .covered Z k (omega arith)
+          ];
+        }
 
     module _ (sixteen : length (c .queues) ≡ 16) (twenty : length (c .messages) ≡ 20) (ok : proper s c a ≡ true) (Z : Searchable f list sum n s c) where
-      part-plain : Plain f list n s part
-      part-plain = subst (Plain f list n s) (sym (W .is)) (searchable-part (plain Z) sixteen twenty a ok x (W .one))
-
       part-searchable : Searchable f list sum n s part
       part-searchable =
-          let Y = part-plain in
+          let Y : Plain f list n s part = subst (Plain f list n s) (sym is) (searchable-part (plain Z) sixteen twenty a ok x one) in
           record { count = Y .count; shape = Y .shape; entries = Y .entries; summed = Z .summed; fits = Y .fits; messages = Y .messages; waiting = Y .waiting }
 
       -- what is not held in the part is not held in the whole
-      part-out : held (shapeOf s) (entriesOf f list n) (configurationOf part) ≡ false → held (shapeOf s) (entriesOf f list n) (configurationOf c) ≡ false
-      part-out e = parts-one (plain Z) sixteen twenty a ok x (W .one) (ap (λ (k : Cube). held (shapeOf s) (entriesOf f list n) (configurationOf k)) (sym (W .is)) ∙ e)
-
-      -- none covers it, and it can't be split
-      pub scanning-stuck : w .entry ≡ 0 → Stuck f list sum n s part tags number → held (shapeOf s) (entriesOf f list n) (configurationOf c) ≡ false
-      scanning-stuck z q =
-          let A = part-against (sized Z) in
-          let at : (R : ℕ → Bool) → ((k : ℕ) → Start f list sum n s (part .states) number k → R k ≡ false) → (k : ℕ) → Start f list sum n s (part .states) (numberOf s part) k → R k ≡ false =
-          λ R g k l. g k (subst (λ (y : ℕ). Start f list sum n s (part .states) y k) (sym (W .numbered)) l) in
-          part-out (cube-stuck part-plain
-          (all-unmatched part-searchable true
-          (at (λ k. matches (shapeOf s) fills (configurationOf (cubeAt f list k)) (configurationOf part)) (walked-end f list sum n s (part .states) number (W .none A) z)))
-          (⊎-elim
-          (λ u. inl (all-unmatched part-searchable false (at (λ k. matches (shapeOf s) alike (configurationOf (cubeAt f list k)) (configurationOf part)) (u A))))
-          (λ u. inr u) q))
-
-      pub scanning-outside : {h : Bool} → (Searchable f list sum n s part → h ≡ false → held (shapeOf s) (entriesOf f list n) (configurationOf part) ≡ false) → h ≡ false
-          → held (shapeOf s) (entriesOf f list n) (configurationOf c) ≡ false
-      scanning-outside g e = part-out (g part-searchable e)
+      pub part-out : (Searchable f list sum n s part → held (shapeOf s) (entriesOf f list n) (configurationOf part) ≡ false) → held (shapeOf s) (entriesOf f list n) (configurationOf c) ≡ false
+      part-out g = parts-one (plain Z) sixteen twenty a ok x one (ap (λ (k : Cube). held (shapeOf s) (entriesOf f list n) (configurationOf k)) (sym is) ∙ g part-searchable)
 
   pub parts-done : proper s c a ≡ true → {x : ℕ} → Parts x → fillings s a ≤ x → Sized s c → Covered f list n s c
   parts-done ok {x} w l Z = go a refl

@@ -10,18 +10,19 @@ use Rattle.pws.specs.Configurations.{Fits}
 use Rattle.pws.specs.Entries.{ValueOrFF}
 use Rattle.lists.specs.Values.{fills, alike}
 use Rattle.lists.specs.Matching.{matches}
+use Rattle.lists.specs.Decision.{held}
 use Rattle.program_part.specs.declared.program.Shape.{Shape}
 use Rattle.whole_file.specs.declared.entry.Cube.{Cube}
 use Rattle.program_part.specs.ProgramPart.{shapeOf}
 use Rattle.whole_file.specs.Cube.{configurationOf}
-use Rattle.by_number.specs.Again.{cubeAt}
+use Rattle.by_number.specs.Again.{cubeAt, entriesOf}
 use Rattle.matching.specs.Tags.{tagsOf}
 use Rattle.matching.specs.Number.{numberOf}
 use Rattle.summary.specs.Slots.{headLink, homeOf}
 use Rattle.summary.specs.Summary.{Summed}
 use Rattle.summary.specs.Walks.{Left}
 use Rattle.cover.specs.declared.place.Place.{Place}
-use Rattle.cover.specs.Places.{partOf, isFree, fillings, proper, NoneFree}
+use Rattle.cover.specs.Places.{partOf, isWhole, isFree, fillings, proper, NoneFree}
 
 -- ---- what is found, whatever the work area holds
 
@@ -70,12 +71,26 @@ pub record Tried (f list : List ℕ) (s : Shape) (c : Cube) (tags : List ℕ) (p
   pub unmet : now ≡ false → Against s c tags → matches (shapeOf s) alike (configurationOf (cubeAt f list i)) (configurationOf c) ≡ false
   pub kept : proper s c place ≡ true → proper s c next ≡ true
 
--- no entry that is walked over may meet the cube
-abbrev pub Unmet : List ℕ → List ℕ → List ℕ → ℕ → Shape → Cube → List ℕ → ℕ → Type 0
-Unmet f list sum n s c tags number =
+-- no entry that is walked over is so related to the cube
+abbrev pub Unrelated : (ℕ → ℕ → Bool) → List ℕ → List ℕ → List ℕ → ℕ → Shape → Cube → List ℕ → ℕ → Type 0
+Unrelated r f list sum n s c tags number =
     Against s c tags → (k : ℕ) → Left f list sum n s (c .states) number n (headLink sum (homeOf number n)) false k
-    → matches (shapeOf s) alike (configurationOf (cubeAt f list k)) (configurationOf c) ≡ false
+    → matches (shapeOf s) r (configurationOf (cubeAt f list k)) (configurationOf c) ≡ false
+
+-- none covers it
+abbrev pub Uncovered : List ℕ → List ℕ → List ℕ → ℕ → Shape → Cube → List ℕ → ℕ → Type 0
+Uncovered = Unrelated fills
+
+-- none may meet it
+abbrev pub Unmet : List ℕ → List ℕ → List ℕ → ℕ → Shape → Cube → List ℕ → ℕ → Type 0
+Unmet = Unrelated alike
 
 -- and so it can't be held, or it has no free value
 abbrev pub Stuck : List ℕ → List ℕ → List ℕ → ℕ → Shape → Cube → List ℕ → ℕ → Type 0
 Stuck f list sum n s c tags number = Unmet f list sum n s c tags number ⊎ NoneFree s c
+
+-- an entry covers the cube; or it is split at this place, and is not held if that is the whole
+pub record Looked (f list sum : List ℕ) (n : ℕ) (s : Shape) (c : Cube) (covered : Bool) (place : Place) : Type 0 where
+  pub found : covered ≡ true → Sized s c → Covered f list n s c
+  pub proper : proper s c place ≡ true
+  pub stuck : covered ≡ false → isWhole place ≡ true → Searchable f list sum n s c → held (shapeOf s) (entriesOf f list n) (configurationOf c) ≡ false

@@ -8,7 +8,7 @@ ghost use Rattle.program_part.specs.ProgramPart.{shapeOf};
 ghost use Rattle.whole_file.specs.Cube.{configurationOf};
 ghost use Rattle.by_number.specs.Again.{entriesOf};
 ghost use Rattle.cover.specs.Places.{proper};
-ghost use Rattle.cover.specs.Search.{Sized, Covered, Searchable};
+ghost use Rattle.cover.specs.Search.{Sized, Covered, Searchable, Against, Uncovered, Looked};
 use crate::entry::matches_at;
 use crate::place::Place;
 use crate::place::fillings;
@@ -31,7 +31,69 @@ fn rooms(cube: Cube) -> usize
     36
 }
 
-// Every part of the cube at a place is looked for: an entry that covers it, or else its own parts at a further place.
+// Some entry that is walked over covers the cube, whose tags and number these are.
+fn one_covers(
+    file: &[u8],
+    list: &[u8],
+    sum: &[u8],
+    n: usize,
+    shape: Shape,
+    cube: Cube,
+    right: [u64; 20],
+    number: u64,
+) -> bool
+    ensures { λ r. ⌜ (r ≡ true → Against shape cube right → Covered (now (file .entry)) (now (list .entry)) n shape cube) ⌝ }
+    ensures { λ r. ⌜ (r ≡ false → Uncovered (now (file .entry)) (now (list .entry)) (now (sum .entry)) n shape cube right number) ⌝ }
+{
+    let states = cube.states;
+    let mut walk = walk_from(file, list, sum, n, shape, states, number);
+    while walk.entry != 0 {
+        let i = walk.entry - 1;
+        if matches_at(true, file, list, i, shape, cube, right) {
+            return true;
+        }
+        let next = onward(
+            file,
+            list,
+            sum,
+            n,
+            shape,
+            states,
+            number,
+            walk.below,
+            walk.link,
+            walk.led,
+        );
+        walk = next;
+    }
+    false
+}
+
+// An entry covers the cube; or else where to split it, and the whole if it can't be held.
+struct Look {
+    covered: bool,
+    place: Place,
+}
+
+fn look_for(file: &[u8], list: &[u8], sum: &[u8], n: usize, shape: Shape, cube: Cube) -> Look
+    ensures { λ r. ⌜ Looked (now (file .entry)) (now (list .entry)) (now (sum .entry)) n shape cube (r .covered) (r .place) ⌝ }
+{
+    let right = tags_of(shape, cube);
+    let number = number_of(shape, cube, right);
+    if one_covers(file, list, sum, n, shape, cube, right, number) {
+        return Look {
+            covered: true,
+            place: Place::Whole,
+        };
+    }
+    let place = place_for(file, list, sum, n, shape, cube, right, number);
+    Look {
+        covered: false,
+        place: place,
+    }
+}
+
+// Every part of the cube at a free place is looked for: an entry that covers it, or else its own parts at a further place.
 fn parts_held(
     file: &[u8],
     list: &[u8],
@@ -41,38 +103,19 @@ fn parts_held(
     cube: Cube,
     place: Place,
 ) -> bool
-    requires { ⌜ (n ≤ 524288) × (proper shape cube place ≡ true) ⌝ }
+    requires { ⌜ proper shape cube place ≡ true ⌝ }
     ensures { λ r. ⌜ (Sized shape cube → r ≡ true → Covered (now (file .entry)) (now (list .entry)) n shape cube) ⌝ }
     ensures { λ r. ⌜ (Searchable (now (file .entry)) (now (list .entry)) (now (sum .entry)) n shape cube → r ≡ false → held (shapeOf shape) (entriesOf (now (file .entry)) (now (list .entry)) n) (configurationOf cube) ≡ false) ⌝ }
 {
     let sizes = rooms(cube);
     let m = fillings(shape, place);
-    'fillings: for x in 0..m {
+    for x in 0..m {
         let part = part_of(cube, place, x as u8);
-        let right = tags_of(shape, part);
-        let number = number_of(shape, part, right);
-        let states = part.states;
-        let mut walk = walk_from(file, list, sum, n, shape, states, number);
-        while walk.entry != 0 {
-            let i = walk.entry - 1;
-            if matches_at(true, file, list, i, shape, part, right) {
-                continue 'fillings;
-            }
-            let next = onward(
-                file,
-                list,
-                sum,
-                n,
-                shape,
-                states,
-                number,
-                walk.below,
-                walk.link,
-                walk.led,
-            );
-            walk = next;
+        let found = look_for(file, list, sum, n, shape, part);
+        if found.covered {
+            continue;
         }
-        let further = place_for(file, list, sum, n, shape, part, right, number);
+        let further = found.place;
         if is_whole(further) {
             return false;
         }
@@ -90,8 +133,13 @@ pub fn search(file: &[u8], list: &[u8], sum: &[u8], n: usize, shape: Shape, cube
     ensures { λ r. ⌜ (Searchable (now (file .entry)) (now (list .entry)) (now (sum .entry)) n shape cube → r ≡ held (shapeOf shape) (entriesOf (now (file .entry)) (now (list .entry)) n) (configurationOf cube)) ⌝ }
 {
     let sizes = rooms(cube);
-    if 524288 < n {
+    let found = look_for(file, list, sum, n, shape, cube);
+    if found.covered {
+        return true;
+    }
+    let place = found.place;
+    if is_whole(place) {
         return false;
     }
-    parts_held(file, list, sum, n, shape, cube, Place::Whole)
+    parts_held(file, list, sum, n, shape, cube, place)
 }
