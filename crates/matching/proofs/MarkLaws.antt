@@ -156,26 +156,50 @@ module _ (variables n : ℕ) (m : Memory) (ms : List Message) where
         ]
 
     -- what the code does with the role at q
-    module _ {i k′ : ℕ} {x y : Bool} (e : i ≡ getD roles q 0) (f : x ≡ ltb 0 i && leb i n) (g : y ≡ leb k variables && x) (t : k < 5 → k′ ≡ (k + 1) % 5) where
-      turn-next : k′ ≡ (q + 1) % 5
-      turn-next = let u = w .turn in let z = t (omega arith) in omega arith
+    module _ {i : ℕ} {x : Bool} (e : i ≡ getD roles q 0) (f : x ≡ ltb 0 i && leb i n) where
+      pub hit-here : {bit : ℕ} {tags′ : List ℕ} → k ≤ variables → x ≡ true → bit ≡ 65536 * 2 ^ q → tags′ ≡ set tags (i - 1) (getD tags (i - 1) 0 + bit) → Marked tags′ (q + 1) ((q + 1) % 5)
+      hit-here d a b c =
+          let v = and-true (ltb 0 i) (leb i n) (sym f ∙ a) in
+          subst (λ (ts : List ℕ). Marked ts (q + 1) ((q + 1) % 5)) (sym (c ∙ ap₂ (λ (j z : ℕ). set tags (j - 1) (getD tags (j - 1) 0 + z)) e b))
+          (marked-hit d (omega (arith, ltb-true 0 i (v .0))) (omega (arith, leb-true i n (v .1))) refl)
 
-      pub hit-next : {bit : ℕ} {tags′ : List ℕ} → y ≡ true → bit ≡ 65536 * 2 ^ q → tags′ ≡ set tags (i - 1) (getD tags (i - 1) 0 + bit) → Marked tags′ (q + 1) k′
-      hit-next a b c =
-          let u = and-true (leb k variables) x (sym g ∙ a) in
-          let v = and-true (ltb 0 i) (leb i n) (sym f ∙ u .1) in
-          subst (λ (ts : List ℕ). Marked ts (q + 1) k′) (sym (c ∙ ap₂ (λ (j z : ℕ). set tags (j - 1) (getD tags (j - 1) 0 + z)) e b))
-          (marked-hit (leb-true k variables (u .0)) (omega (arith, ltb-true 0 i (v .0))) (omega (arith, leb-true i n (v .1))) turn-next)
+      pub miss-here : {tags′ : List ℕ} → x ≡ false → tags′ ≡ tags → Marked tags′ (q + 1) ((q + 1) % 5)
+      miss-here a c =
+          subst (λ (ts : List ℕ). Marked ts (q + 1) ((q + 1) % 5)) (sym c)
+          (marked-miss (λ u. true≢false (sym (f ∙ ap₂ _&&_ (lt-ltb 0 i (omega (arith, u .1))) (le-leb i n (omega (arith, u .2)))) ∙ a)) refl)
 
-      pub miss-next : {tags′ : List ℕ} → y ≡ false → tags′ ≡ tags → Marked tags′ (q + 1) k′
-      miss-next a c =
-          subst (λ (ts : List ℕ). Marked ts (q + 1) k′) (sym c)
-          (marked-miss (λ u. true≢false (sym (g ∙ ap₂ _&&_ (le-leb k variables (u .0)) (f ∙ ap₂ _&&_ (lt-ltb 0 i (omega (arith, u .1))) (le-leb i n (omega (arith, u .2))))) ∙ a)) turn-next)
+  module _ {tags roles : List ℕ} (R : Roles roles m) (narrow : variables ≤ 4) (few : n ≤ 20) where
+    -- variables that do not exist have no roles
+    skipped : (d : ℕ) {q k : ℕ} → Marked tags q k → variables < k → k + d ≡ 5 → q + d ≤ 20 → Marked tags (q + d) 0
+    skipped zero w a e l = let t = w .turn in absurd (omega arith)
+    skipped (suc zero) {q} {k} w a e l =
+        let t = w .turn in
+        marked-miss w R narrow few (omega arith) (λ u. let z = u .0 in omega arith) (omega arith)
+    skipped (suc (suc d)) {q} {k} w a e l =
+        let t = w .turn in
+        let y : q + 1 + suc d ≡ q + suc (suc d) = omega arith in
+        subst (λ (z : ℕ). Marked tags z 0) y
+        (skipped (suc d) (marked-miss w R narrow few (omega arith) {k′ = k + 1} (λ u. let z = u .0 in omega arith) (omega arith)) (omega arith) (omega arith) (omega arith))
 
-pub hit-room : (k variables i n : ℕ) {x y : Bool} → x ≡ ltb 0 i && leb i n → y ≡ leb k variables && x → y ≡ true → (1 ≤ i) × (i ≤ n)
-hit-room k variables i n {x} f g a =
-    let u = and-true (leb k variables) x (sym g ∙ a) in
-    let v = and-true (ltb 0 i) (leb i n) (sym f ∙ u .1) in
+    module _ {q k : ℕ} (t : k ≡ q % 5) (l : q < 20) (w : Marked tags (q + 1) ((q + 1) % 5)) where
+      pub go-on : k < variables → Marked tags (q + 1) (k + 1)
+      go-on a = let y : (q + 1) % 5 ≡ k + 1 = omega arith in subst (λ (z : ℕ). Marked tags (q + 1) z) y w
+
+      pub go-past : k ≡ variables → Marked tags (q + (5 - k)) 0
+      go-past a = elim (ℕ-discrete k 4) [
+        | yes d ↦
+            let x : (q + 1) % 5 ≡ 0 = omega arith in
+            let y : q + 1 ≡ q + (5 - k) = omega arith in
+            subst (λ (z : ℕ). Marked tags z 0) y (subst (λ (z : ℕ). Marked tags (q + 1) z) x w)
+        | no d ↦
+            let x : (q + 1) % 5 ≡ k + 1 = omega arith in
+            let y : q + 1 + (4 - k) ≡ q + (5 - k) = omega arith in
+            subst (λ (z : ℕ). Marked tags z 0) y (skipped (4 - k) (subst (λ (z : ℕ). Marked tags (q + 1) z) x w) (omega arith) (omega arith) (omega arith))
+      ]
+
+pub hit-room : (i n : ℕ) {x : Bool} → x ≡ ltb 0 i && leb i n → x ≡ true → (1 ≤ i) × (i ≤ n)
+hit-room i n f a =
+    let v = and-true (ltb 0 i) (leb i n) (sym f ∙ a) in
     (omega (arith, ltb-true 0 i (v .0)), omega (arith, leb-true i n (v .1)))
 
 pub bit-small : (q : ℕ) → q < 20 → 2 ^ q ≤ 524288

@@ -36,13 +36,6 @@ fn role_bit(q: usize) -> u64
     65536 << q
 }
 
-// The next of five turns.
-fn turned(k: usize) -> usize
-    ensures { λ r. ⌜ (k < 5 → r ≡ (k + 1) % 5) ⌝ }
-{
-    if k < 4 { k + 1 } else { 0 }
-}
-
 // The tags of a cube's messages, oldest first, and 0 past them. Of process p, the message that it points at is kept at 5 p, and its
 // LastWrite of v at 5 p + 1 + v.
 pub fn tags_of(shape: Shape, cube: Cube) -> [u64; 20]
@@ -90,13 +83,21 @@ pub fn tags_of(shape: Shape, cube: Cube) -> [u64; 20]
             roles[q] = number;
         }
     }
+    let mut q = 0;
     let mut k = 0;
-    for q in 0..end {
+    while q < end {
         let i = wide(roles[q]);
-        if both(k <= variables, both(0 < i, i <= n)) {
+        if both(0 < i, i <= n) {
             tags[i - 1] += role_bit(q);
         }
-        k = turned(k);
+        // past the variables that exist, the next process
+        if k < variables {
+            q += 1;
+            k += 1;
+        } else {
+            q += 5 - k;
+            k = 0;
+        }
     }
     tags
 }
