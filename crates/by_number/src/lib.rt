@@ -6,6 +6,7 @@ ghost use lib.ListN.{length, getD};
 ghost use Rattle.by_number.specs.Again.{offsetAt, cubeAt, placeIn, transitionOf, targetOf};
 use program_part::bytes::field;
 use program_part::bytes::number_at;
+use program_part::places::word_place;
 use program_part::program::Program;
 use program_part::record::transition_at;
 use pws::Transition;
@@ -19,7 +20,7 @@ pub fn offset_at(list: &[u8], i: usize) -> usize
     if list.len() / 4 < i {
         return 0;
     }
-    number_at(list, 4 * i)
+    number_at(list, word_place(i))
 }
 
 // Entry i.

@@ -4,7 +4,7 @@ use mathlib.Core.Path.{_≡_, refl, sym, ap, _∙_}
 use mathlib.Core.Bool.{Bool, true, false}
 use mathlib.Core.List.{List, [], _∷_, _++_}
 use native.Mathlib.Omega.{arith}
-use lib.ListN.{length, set, take, drop, replicate, length-replicate, length-drop}
+use lib.ListN.{length, set, take, drop, replicate, length-replicate, length-drop, length-append}
 use lib.Seq.{length-take-le, take-all, drop-at, drop-drop}
 use lib.Dec.{eqb, leb}
 use borrow.Author.Tests.{lt-ltb, le-ltb}
@@ -34,6 +34,20 @@ used-fits area l = omega arith
 -- the part from h on, to the end
 pub upper-part : (h : ℕ) (w : List ℕ) → take (length w - h) (drop h w) ≡ drop h w
 upper-part h w = take-all (length w - h) (drop h w) (omega (arith, length-drop h w))
+
+-- that part was lent, and came back with its length
+pub upper-same : (h : ℕ) (w work last : List ℕ) → h ≤ length w → length last ≡ length (take (length work - h) (drop h work)) → length work ≡ length w
+    → length (take h work ++ (last ++ drop (length work - h) (drop h work))) ≡ length w
+upper-same h w work last l e d =
+    omega (
+      arith,
+      length-append (take h work) (last ++ drop (length work - h) (drop h work)),
+      length-append last (drop (length work - h) (drop h work)),
+      length-take-le h work (omega arith),
+      ap length (upper-part h work),
+      length-drop h work,
+      length-drop (length work - h) (drop h work),
+    )
 
 -- the first n bytes were lent and came back cleared
 pub front-cleared : (n : ℕ) (w a : List ℕ) → n ≤ length w → a ≡ replicate (length (take n w)) 0 → a ++ drop n w ≡ replicate n 0 ++ drop n w

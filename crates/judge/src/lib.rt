@@ -3,6 +3,7 @@ ghost use mathlib.Core.Path.{_≡_};
 ghost use mathlib.Core.List.{_++_};
 ghost use Prim.Native.Nat.{_*_, _-_, _≤_};
 ghost use lib.ListN.{length, take, drop, replicate};
+ghost use Rattle.whole_file.specs.EvidencePart.{entriesAllowed};
 ghost use Rattle.summary.specs.Groups.{summarised};
 ghost use Rattle.judge.specs.Judge.{judged, usedOf, areaAfter};
 ghost use Rattle.judge.specs.Answers.{verdictIn, inC, Answered};
@@ -12,6 +13,8 @@ use crate::answer::Verdict;
 use crate::answer::run_answer;
 use crate::answer::verdict_of;
 use crate::list::list_answer;
+use program_part::places::slot_place;
+use program_part::places::word_place;
 use program_part::program::Checked;
 use program_part::program::Program;
 use program_part::program::Refusal;
@@ -29,7 +32,15 @@ mod list;
 fn used_of(area: usize) -> usize
     ensures { λ r. ⌜ r ≡ usedOf area ⌝ }
 {
-    16384 + 12 * entries_allowed(area)
+    let n = entries_allowed(area);
+    16384 + word_place(n) + slot_place(n)
+}
+
+// Where the summary begins in the part behind the first 16,384 bytes: past the offsets of all entries allowed.
+fn summary_place(area: usize) -> usize
+    ensures { λ r. ⌜ r ≡ 4 * entriesAllowed area ⌝ }
+{
+    word_place(entries_allowed(area))
 }
 
 // The first n bytes 0; the rest is untouched.
@@ -45,7 +56,7 @@ fn clear_slots(upper: &mut [u8], at: usize, n: usize)
     requires { ⌜ (at ≤ length (now upper)) × (n ≤ 524288) × (8 * n ≤ length (now upper) - at) ⌝ }
     ensures { λ _. ⌜ now (upper .exit) ≡ slotsCleared (now (upper .entry)) at n ⌝ }
 {
-    let end = at + 8 * n;
+    let end = at + slot_place(n);
     clear(&mut upper[at..end]);
 }
 
@@ -84,8 +95,8 @@ fn judge_file(file: &[u8], work: &mut [u8]) -> Answer
     if contents.claim == 0 {
         let program = contents.program;
         let entries = contents.evidence;
-        let most = entries_allowed(work.len());
-        return list_judged(file, &mut work[16384..], 4 * most, entries.count, program);
+        let at = summary_place(work.len());
+        return list_judged(file, &mut work[16384..], at, entries.count, program);
     }
     run_answer(replay(file, contents, &mut work[..16384]))
 }

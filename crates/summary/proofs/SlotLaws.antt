@@ -9,7 +9,7 @@ use lib.Dec.{ltb}
 use lib.Count.{leadingZeros, leading-top}
 use borrow.Author.Tests.{lt-ltb, le-ltb}
 use Rattle.program_part.specs.Bytes.{choose, le32, put32}
-use Rattle.summary.specs.Slots.{word, putWord, linkTo, headLink, nextLink, countAt, withLink, withDigit, hung, putCount, homeOf}
+use Rattle.summary.specs.Slots.{word, putWord, linkTo, headLink, withLink, withDigit, hung, putCount, homeOf}
 
 pub word-far : (sum : List ℕ) (i : ℕ) → length sum / 4 ≤ i → word sum i ≡ 0
 unfolding word
@@ -19,26 +19,13 @@ pub put-far : (sum : List ℕ) (i x : ℕ) → length sum / 4 ≤ i → putWord 
 unfolding putWord
 put-far sum i x l = rw (le-ltb i (length sum / 4) l)
 
-pub put-near : (sum : List ℕ) (i x : ℕ) → i < length sum / 4 → putWord sum i x ≡ put32 sum (4 * i) x
+pub put-near : (sum : List ℕ) (i x place : ℕ) → i < length sum / 4 → place ≡ 4 * i → put32 sum place x ≡ putWord sum i x
 unfolding putWord
-put-near sum i x l = rw (lt-ltb i (length sum / 4) l)
+put-near sum i x place l h = rw (lt-ltb i (length sum / 4) l, h)
 
-pub word-near : (sum : List ℕ) (i : ℕ) → i < length sum / 4 → word sum i ≡ le32 sum (4 * i)
+pub word-near : (sum : List ℕ) (i place : ℕ) → i < length sum / 4 → place ≡ 4 * i → le32 sum place ≡ word sum i
 unfolding word
-word-near sum i l = rw (lt-ltb i (length sum / 4) l)
-
-module _ (sum : List ℕ) (k : ℕ) (l : length sum / 8 < k) where
-  pub head-far : headLink sum k ≡ 0
-  unfolding headLink
-  head-far = rw (word-far sum (2 * k) (omega arith))
-
-  pub next-far : nextLink sum k ≡ 0
-  unfolding nextLink
-  next-far = rw (word-far sum (2 * k + 1) (omega arith))
-
-  pub count-far : countAt sum k ≡ 0
-  unfolding countAt
-  count-far = rw (word-far sum (2 * k) (omega arith), word-far sum (2 * k + 1) (omega arith))
+word-near sum i place l h = rw (lt-ltb i (length sum / 4) l, h)
 
 -- ---- homes
 
@@ -69,12 +56,19 @@ module _ (number n : ℕ) where
 
 -- ---- the stores of the code
 
-pub hang-is : (sum led new : List ℕ) (home k mark old first own : ℕ) → old ≡ headLink sum home → first ≡ word sum (2 * home) → led ≡ putWord sum (2 * home) (withLink first (linkTo k mark))
-    → own ≡ word led (2 * k + 1) → new ≡ putWord led (2 * k + 1) (withLink own old) → new ≡ hung sum home k mark
+pub hang-is : (sum led new : List ℕ) (home k mark old first link upper own lower : ℕ) → old ≡ headLink sum home → first ≡ word sum (2 * home) → link ≡ linkTo k mark
+    → upper ≡ withLink first link → led ≡ putWord sum (2 * home) upper → own ≡ word led (2 * k + 1) → lower ≡ withLink own old → new ≡ putWord led (2 * k + 1) lower
+    → new ≡ hung sum home k mark
 unfolding hung
-hang-is sum led new home k mark old first own a b d e g = rw (← b, ← a, ← d, ← e) g
+hang-is sum led new home k mark old first link upper own lower a b i x d e y g =
+    let u : led ≡ putWord sum (2 * home) (withLink first (linkTo k mark)) = d ∙ ap (putWord sum (2 * home)) (x ∙ ap (withLink first) i) in
+    let v : new ≡ putWord led (2 * k + 1) (withLink own old) = g ∙ ap (putWord led (2 * k + 1)) y in
+    rw (← b, ← a, ← u, ← e) v
 
-pub count-is : (sum led new : List ℕ) (k x low high : ℕ) → low ≡ word sum (2 * k) → led ≡ putWord sum (2 * k) (withDigit low (x % 1024)) → high ≡ word led (2 * k + 1)
-    → new ≡ putWord led (2 * k + 1) (withDigit high (x / 1024 % 1024)) → new ≡ putCount sum k x
+pub count-is : (sum led new : List ℕ) (k x low high upper lower : ℕ) → low ≡ word sum (2 * k) → upper ≡ withDigit low (x % 1024) → led ≡ putWord sum (2 * k) upper
+    → high ≡ word led (2 * k + 1) → lower ≡ withDigit high (x / 1024 % 1024) → new ≡ putWord led (2 * k + 1) lower → new ≡ putCount sum k x
 unfolding putCount
-count-is sum led new k x low high a b d e = rw (← a, ← b, ← d) e
+count-is sum led new k x low high upper lower a i b d y e =
+    let u : led ≡ putWord sum (2 * k) (withDigit low (x % 1024)) = b ∙ ap (putWord sum (2 * k)) i in
+    let v : new ≡ putWord led (2 * k + 1) (withDigit high (x / 1024 % 1024)) = e ∙ ap (putWord led (2 * k + 1)) y in
+    rw (← a, ← u, ← d) v

@@ -1,9 +1,13 @@
-// Slots of a summary, two words of four bytes each: the first link of a chain, the link after an entry, and the number in a group.
+// Slots of a summary, two words of four bytes each: the first link of a chain, the link after an entry, and the number in a group. Places, links
+// and digits are made by adding and shifting: no product stands in this crate (request N4).
 ghost use mathlib.Core.Path.{_≡_};
 ghost use Prim.Native.Nat.{ℕ, suc, _+_, _*_, _/_, _%_, _^_, _≤_, _<_};
 ghost use lib.ListN.{length};
-ghost use Rattle.summary.specs.Slots.{word, putWord, linked, marked, headLink, nextLink, countAt, withLink, withDigit, hung, putCount, homeOf, markIn};
+ghost use Rattle.program_part.specs.Bytes.{le32};
+ghost use Rattle.summary.specs.Slots.{word, putWord, linked, marked, linkTo, headLink, nextLink, countAt, withLink, withDigit, hung, putCount, homeOf, markIn};
 use program_part::bytes::store_number;
+use program_part::places::slot_word;
+use program_part::places::word_place;
 
 // ---- words
 
@@ -13,6 +17,19 @@ fn digit(x: u8) -> usize
     x as usize
 }
 
+// Four bytes as a number, least significant first.
+fn four_bytes(sum: &[u8], at: usize) -> usize
+    requires { ⌜ at + 4 ≤ length (now sum) ⌝ }
+    ensures { λ r. ⌜ r ≡ le32 (now (sum .entry)) at ⌝ }
+    ensures { λ r. ⌜ r < 4294967296 ⌝ }
+{
+    let a = digit(sum[at]);
+    let b = digit(sum[at + 1]);
+    let c = digit(sum[at + 2]);
+    let d = digit(sum[at + 3]);
+    a + (b << 8) + (c << 16) + (d << 24)
+}
+
 fn word_at(sum: &[u8], i: usize) -> usize
     ensures { λ r. ⌜ r ≡ word (now (sum .entry)) i ⌝ }
     ensures { λ r. ⌜ r < 4294967296 ⌝ }
@@ -20,12 +37,7 @@ fn word_at(sum: &[u8], i: usize) -> usize
     if sum.len() / 4 <= i {
         return 0;
     }
-    let at = 4 * i;
-    let a = digit(sum[at]);
-    let b = digit(sum[at + 1]);
-    let c = digit(sum[at + 2]);
-    let d = digit(sum[at + 3]);
-    a + 256 * b + 65536 * c + 16777216 * d
+    four_bytes(sum, word_place(i))
 }
 
 fn put_word(sum: &mut [u8], i: usize, x: usize)
@@ -34,7 +46,47 @@ fn put_word(sum: &mut [u8], i: usize, x: usize)
     if sum.len() / 4 <= i {
         return;
     }
-    store_number(sum, 4 * i, x);
+    store_number(sum, word_place(i), x);
+}
+
+// ---- the two words of slot k
+
+fn low_word(sum: &[u8], k: usize) -> usize
+    ensures { λ r. ⌜ r ≡ word (now (sum .entry)) (2 * k) ⌝ }
+    ensures { λ r. ⌜ r < 4294967296 ⌝ }
+{
+    if sum.len() / 8 < k {
+        return 0;
+    }
+    word_at(sum, slot_word(k))
+}
+
+fn high_word(sum: &[u8], k: usize) -> usize
+    ensures { λ r. ⌜ r ≡ word (now (sum .entry)) (2 * k + 1) ⌝ }
+    ensures { λ r. ⌜ r < 4294967296 ⌝ }
+{
+    if sum.len() / 8 < k {
+        return 0;
+    }
+    word_at(sum, slot_word(k) + 1)
+}
+
+fn put_low(sum: &mut [u8], k: usize, x: usize)
+    ensures { λ _. ⌜ now (sum .exit) ≡ putWord (now (sum .entry)) (2 * k) x ⌝ }
+{
+    if sum.len() / 8 < k {
+        return;
+    }
+    put_word(sum, slot_word(k), x);
+}
+
+fn put_high(sum: &mut [u8], k: usize, x: usize)
+    ensures { λ _. ⌜ now (sum .exit) ≡ putWord (now (sum .entry)) (2 * k + 1) x ⌝ }
+{
+    if sum.len() / 8 < k {
+        return;
+    }
+    put_word(sum, slot_word(k) + 1, x);
 }
 
 // ---- links
@@ -52,26 +104,43 @@ pub(crate) fn marked(link: usize) -> usize
     link / 1048576
 }
 
+// A link to entry k with a mark.
+fn link_to(k: usize, mark: usize) -> usize
+    requires { ⌜ (k < 1048575) × (mark < 4) ⌝ }
+    ensures { λ r. ⌜ (r ≡ linkTo k mark) × (r < 4194304) ⌝ }
+{
+    k + 1 + (mark << 20)
+}
+
+// A word with another link, and with another digit of a count.
+fn with_link(w: usize, link: usize) -> usize
+    requires { ⌜ link < 4194304 ⌝ }
+    ensures { λ r. ⌜ r ≡ withLink w link ⌝ }
+{
+    (w / 4194304 % 1024 << 22) + link
+}
+
+fn with_digit(w: usize, digit: usize) -> usize
+    requires { ⌜ digit < 1024 ⌝ }
+    ensures { λ r. ⌜ r ≡ withDigit w digit ⌝ }
+{
+    w % 4194304 + (digit << 22)
+}
+
 // ---- slots
 
 pub(crate) fn head_link(sum: &[u8], k: usize) -> usize
     ensures { λ r. ⌜ r ≡ headLink (now (sum .entry)) k ⌝ }
     ensures { λ r. ⌜ r < 4194304 ⌝ }
 {
-    if sum.len() / 8 < k {
-        return 0;
-    }
-    word_at(sum, 2 * k) % 4194304
+    low_word(sum, k) % 4194304
 }
 
 // The link after entry k.
 pub(crate) fn next_link(sum: &[u8], k: usize) -> usize
     ensures { λ r. ⌜ r ≡ nextLink (now (sum .entry)) k ⌝ }
 {
-    if sum.len() / 8 < k {
-        return 0;
-    }
-    word_at(sum, 2 * k + 1) % 4194304
+    high_word(sum, k) % 4194304
 }
 
 // The number in the group that entry k leads; 0 if it leads none.
@@ -79,37 +148,29 @@ pub(crate) fn count_at(sum: &[u8], k: usize) -> usize
     ensures { λ r. ⌜ r ≡ countAt (now (sum .entry)) k ⌝ }
     ensures { λ r. ⌜ r < 1048576 ⌝ }
 {
-    if sum.len() / 8 < k {
-        return 0;
-    }
-    word_at(sum, 2 * k) / 4194304 % 1024 + 1024 * (word_at(sum, 2 * k + 1) / 4194304 % 1024)
+    low_word(sum, k) / 4194304 % 1024 + (high_word(sum, k) / 4194304 % 1024 << 10)
 }
 
 // Entry k becomes the first of a chain.
 pub(crate) fn hang(sum: &mut [u8], home: usize, k: usize, mark: usize)
-    requires { ⌜ (home < 1048575) × (k < 1048575) × (mark < 4) ⌝ }
+    requires { ⌜ (k < 1048575) × (mark < 4) ⌝ }
     ensures { λ _. ⌜ now (sum .exit) ≡ hung (now (sum .entry)) home k mark ⌝ }
 {
     let old = head_link(sum, home);
-    let first = word_at(sum, 2 * home);
-    put_word(
-        sum,
-        2 * home,
-        4194304 * (first / 4194304 % 1024) + (k + 1 + 1048576 * mark),
-    );
-    let own = word_at(sum, 2 * k + 1);
-    put_word(sum, 2 * k + 1, 4194304 * (own / 4194304 % 1024) + old);
+    let first = low_word(sum, home);
+    put_low(sum, home, with_link(first, link_to(k, mark)));
+    let own = high_word(sum, k);
+    put_high(sum, k, with_link(own, old));
 }
 
 // The group of entry k has x entries.
 pub(crate) fn count(sum: &mut [u8], k: usize, x: usize)
-    requires { ⌜ k < 1048575 ⌝ }
     ensures { λ _. ⌜ now (sum .exit) ≡ putCount (now (sum .entry)) k x ⌝ }
 {
-    let low = word_at(sum, 2 * k);
-    put_word(sum, 2 * k, low % 4194304 + 4194304 * (x % 1024));
-    let high = word_at(sum, 2 * k + 1);
-    put_word(sum, 2 * k + 1, high % 4194304 + 4194304 * (x / 1024 % 1024));
+    let low = low_word(sum, k);
+    put_low(sum, k, with_digit(low, x % 1024));
+    let high = high_word(sum, k);
+    put_high(sum, k, with_digit(high, x / 1024 % 1024));
 }
 
 // ---- chains

@@ -1,6 +1,6 @@
 -- Laws of the reading of entries and of the list of their offsets.
 use Prim.Native.Nat.{ℕ, zero, suc, _+_, _*_, _-_, _<_, _≤_}
-use mathlib.Core.Path.{_≡_, refl, sym, ap, subst, _∙_}
+use mathlib.Core.Path.{_≡_, refl, sym, ap, ap₂, subst, _∙_}
 use mathlib.Core.Bool.{Bool, true, false, cond}
 use mathlib.Core.List.{List, [], _∷_, _++_}
 use native.Mathlib.Omega.{arith}
@@ -152,14 +152,14 @@ listed-begin s states f at allowed list =
     record { offsets = []; entries = []; reads = ap (λ (n : ℕ). entriesFrom n s states f at [] []) z; count = refl; most = omega arith; wrote = refl }
 
 pub listed-next : {s : Shape} {states f : List ℕ} {at allowed : ℕ} {list₀ list list′ : List ℕ} {k n next : ℕ} (L : Listed s states f at allowed list₀ list k n) (e : Configuration)
-    → k < length f → checked (entryNumber s states f k (leb allowed n)) k ≡ Fine → entryRead s f k ≡ whole e next → list′ ≡ put32 list (4 * n) k
+    → k < length f → checked (entryNumber s states f k (leb allowed n)) k ≡ Fine → entryRead s f k ≡ whole e next → {place : ℕ} → place ≡ 4 * n → list′ ≡ put32 list place k
     → Listed s states f at allowed list₀ list′ next (n + 1)
-listed-next {s} {states} {f} {at} {allowed} {list₀} {list} {list′} {k} {n} {next} L e l q d w =
+listed-next {s} {states} {f} {at} {allowed} {list₀} {list} {list′} {k} {n} {next} L e l q d h w =
     record {
       offsets = L .offsets ++ (k ∷ []);
       entries = L .entries ++ (e ∷ []);
       reads = sym (entry-accepted s states f k (L .offsets) (L .entries) allowed n l q e next d) ∙ L .reads;
       count = ap (λ (m : ℕ). m + 1) (L .count) ∙ sym (length-append (L .offsets) (k ∷ []));
       most = omega (arith, head-room s states f k (L .offsets) (L .entries) allowed n l q);
-      wrote = w ∙ ap (λ (x : List ℕ). put32 x (4 * n) k) (L .wrote) ∙ wrote-next (L .offsets) k n list₀ (L .count);
+      wrote = w ∙ ap₂ (λ (x : List ℕ) (p : ℕ). put32 x p k) (L .wrote) h ∙ wrote-next (L .offsets) k n list₀ (L .count);
     }

@@ -13,6 +13,7 @@ use program_part::bytes::either;
 use program_part::bytes::field;
 use program_part::bytes::store_number;
 use program_part::bytes::wide;
+use program_part::places::word_place;
 use program_part::program::Checked;
 use program_part::program::Counted;
 use program_part::program::Refusal;
@@ -308,7 +309,7 @@ pub(crate) fn entries_from(
         let EntryEnd::Next(next) = end else {
             return Counted::Stopped(end_refusal(end));
         };
-        store_number(list, 4 * n, k);
+        store_number(list, word_place(n), k);
         n += 1;
         k = next;
     }

@@ -1,6 +1,7 @@
 use Prim.Native.Nat.{_*_}
-use mathlib.Core.Path.{sym}
+use mathlib.Core.Path.{sym, ap, _∙_}
 use native.Mathlib.Omega.{arith}
+use Rattle.program_part.specs.Bytes.{le32}
 use Rattle.program_part.proofs.ByteLaws.{le32-past}
 use borrow.Author.Needs.{needs}
 use Rattle.by_number.proofs.offset_at.Statement.{statement}
@@ -10,9 +11,9 @@ pub offset-at-spec : {M : Type 1} → statement M
 offset-at-spec = tie.close (tie.spec
     -- returns
     (λ c. sym (le32-past (c .before .before .args .list .now) (4 * c .before .before .args .i) (omega arith)))
-    -- mul-number-at
-    (λ c. search needs)
+    -- word-place-requires
+    (λ c κs. search needs)
     -- number-at-requires
     (λ c κs. search needs)
     -- returns-2
-    (λ c. search needs))
+    (λ c. c .number-at .ensures ∙ ap (le32 (c .before .before .before .before .args .list .now)) (omega (arith, c .before .word-place .ensures))))

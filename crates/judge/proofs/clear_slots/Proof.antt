@@ -1,4 +1,5 @@
-use Prim.Native.Nat.{_+_, _*_, _-_}
+use Prim.Native.Nat.{ℕ, _+_, _*_, _-_, _%_, _≤_}
+use mathlib.Core.Path.{_≡_}
 use native.Mathlib.Omega.{arith}
 use Rattle.judge.proofs.SummaryLaws.{slots-cleared}
 use native.Mathlib.Omega.{arith}
@@ -9,9 +10,13 @@ use Rattle.judge.proofs.clear_slots.Reads as reads
 use Rattle.judge.proofs.clear_slots.Lts as lts
 use Rattle.replay.proofs.area.clear.Reads as clear-reads
 
+-- from `at` to the end of n slots
+span : (at n r : ℕ) → n ≤ 524288 → r ≡ (8 * n) % 18446744073709551616 → at + r - at ≡ 8 * n
+span at n r l e = let d : r ≡ 8 * n = omega arith in omega (arith, d)
+
 -- src/lib.rt:48:20
-mul-end : tie.Need-mul-end
-mul-end c = search needs
+slot-place-requires : tie.Need-slot-place-requires
+slot-place-requires c κs = search needs
 
 -- src/lib.rt:48:15
 add-end : tie.Need-add-end
@@ -39,13 +44,13 @@ same-length c = search needs
 
 -- src/lib.rt:44:1
 returns : tie.Need-returns
-returns c = slots-cleared (c .before .before .before .before .before .args .upper .now) _ (c .before .before .before .before .before .args .at) (c .before .before .before .before .before .args .n) (c .before .before .before .before .before .args .at + 8 * c .before .before .before .before .before .args .n - c .before .before .before .before .before .args .at) (omega arith) (omega (arith, c .before .before .before .before .before .pre .0, c .before .before .before .before .before .pre .2)) (c .before .before .clear .ensures)
+returns c = slots-cleared (c .before .before .before .before .before .before .args .upper .now) _ (c .before .before .before .before .before .before .args .at) (c .before .before .before .before .before .before .args .n) (c .before .before .before .before .before .before .args .at + c .before .before .before .before .slot-place .result - c .before .before .before .before .before .before .args .at) (span (c .before .before .before .before .before .before .args .at) (c .before .before .before .before .before .before .args .n) (c .before .before .before .before .slot-place .result) (c .before .before .before .before .before .before .pre .1) (c .before .before .before .before .slot-place .ensures)) (omega (arith, c .before .before .before .before .before .before .pre .0, c .before .before .before .before .before .before .pre .2)) (c .before .before .clear .ensures)
 
 pub clear-slots-spec : {M : Type 1} → statement M
 clear-slots-spec =
     tie.close
     (tie.spec
-    mul-end
+    slot-place-requires
     add-end
     sub-clear
     part-clear-start

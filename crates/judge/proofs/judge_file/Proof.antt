@@ -5,7 +5,7 @@ use native.Mathlib.Omega.{arith}
 use lib.ListN.{length, drop}
 use lib.Seq.{length-take-le}
 use Rattle.judge.specs.Judge.{usedOf}
-use Rattle.judge.proofs.AreaLaws.{few, reading-kept, replay-kept, upper-part}
+use Rattle.judge.proofs.AreaLaws.{reading-kept, replay-kept, upper-part, upper-same}
 use Rattle.judge.proofs.JudgeLaws.{unread-said, ready, list-said, list-area, run-said}
 use native.Mathlib.Omega.{arith}
 use borrow.Author.Needs.{needs}
@@ -15,7 +15,7 @@ use Rattle.judge.proofs.judge_file.Reads as reads
 use Rattle.judge.proofs.judge_file.Lts as lts
 use Rattle.judge.proofs.answer.run_answer.Reads as run-answer-reads
 use Rattle.judge.proofs.list_judged.Reads as list-judged-reads
-use Rattle.whole_file.proofs.evidence.entries_allowed.Reads as entries-allowed-reads
+use Rattle.judge.proofs.summary_place.Reads as summary-place-reads
 use Rattle.whole_file.proofs.evidence.read.Reads as read-reads
 use Rattle.program_part.proofs.program.refusal_of.Reads as refusal-of-reads
 use Rattle.replay.proofs.run.replay.Reads as replay-reads
@@ -44,8 +44,8 @@ returns : tie.Need-returns
 returns c = (unread-said (c .before .before .before .before .before .before .before .before .before .args .file .now) (c .before .before .before .before .before .before .before .before .before .args .work .now) (c .before .before .before .before .before .read .result) (c .before .before .before .before .before .read .ensures .0) (c .before .enum-told2 .given .0 .0) _ (c .before .enum-told2 .given .1) (c .refusal-of .ensures), (ap (drop (usedOf (length (c .before .before .before .before .before .before .before .before .before .args .work .now)))) (c .before .before .before .before .before .read .ensures .1) ∙ reading-kept (c .before .before .before .before .before .before .before .before .before .args .file .now) (c .before .before .before .before .before .before .before .before .before .args .work .now) (c .before .before .before .before .before .before .before .before .before .pre)))
 
 -- src/lib.rt:87:13
-entries-allowed-requires : tie.Need-entries-allowed-requires
-entries-allowed-requires c κs = search needs
+summary-place-requires : tie.Need-summary-place-requires
+summary-place-requires c κs = search needs
 
 -- src/lib.rt:88:34
 sub-list-judged : tie.Need-sub-list-judged
@@ -59,21 +59,17 @@ part-list-judged-start c = search needs
 part-list-judged-end : tie.Need-part-list-judged-end
 part-list-judged-end c = search needs
 
--- src/lib.rt:88:54
-mul-list-judged : tie.Need-mul-list-judged
-mul-list-judged c = omega (arith, few _ _ (c .before .entries-allowed .ensures))
-
 -- src/lib.rt:88:9
 list-judged-requires : tie.Need-list-judged-requires
-list-judged-requires c κs = ready (c .before .before .before .before .before .before .before .before .before .before .before .before .before .before .before .args .file .now) (c .before .before .before .before .before .before .before .before .before .before .before .before .before .before .before .args .work .now) (c .before .before .before .before .before .before .before .before .before .before .before .read .result) (c .before .before .before .before .before .before .before .before .before .before .before .read .ensures .0) (c .before .before .before .before .before .before .before .enum-told .given .1) _ (c .before .before .before .before .before .before .before .before .before .before .before .read .ensures .1) (c .before .before .before .before .if1 .taken) _ (upper-part 16384 (c .before .before .before .before .before .before .before .before .before .before .before .read .last .1 .0)) _ (ap (λ (x : ℕ). 4 * x) (c .before .entries-allowed .ensures ∙ ap entriesAllowed (omega arith))) (c .before .before .before .before .before .before .before .before .before .before .before .before .before .before .before .pre) (omega arith)
+list-judged-requires c κs = ready (c .before .before .before .before .before .before .before .before .before .before .before .before .before .before .before .args .file .now) (c .before .before .before .before .before .before .before .before .before .before .before .before .before .before .before .args .work .now) (c .before .before .before .before .before .before .before .before .before .before .before .read .result) (c .before .before .before .before .before .before .before .before .before .before .before .read .ensures .0) (c .before .before .before .before .before .before .before .enum-told .given .1) _ (c .before .before .before .before .before .before .before .before .before .before .before .read .ensures .1) (c .before .before .before .before .if1 .taken) _ (upper-part 16384 (c .before .before .before .before .before .before .before .before .before .before .before .read .last .1 .0)) _ (c .before .summary-place .ensures ∙ ap (λ (x : ℕ). 4 * entriesAllowed x) (omega arith)) (c .before .before .before .before .before .before .before .before .before .before .before .before .before .before .before .pre) (omega arith)
 
 -- src/lib.rt:88:9
 same-length-2 : tie.Need-same-length-2
-same-length-2 c = search needs
+same-length-2 c = upper-same 16384 (c .before .before .before .before .before .before .before .before .before .before .before .before .before .before .before .before .before .before .args .work .now) (c .before .before .before .before .before .before .before .before .before .before .before .before .before .before .read .last .1 .0) (c .before .before .list-judged .last .1 .0) (omega (arith, c .before .before .before .before .before .before .before .before .before .before .before .before .before .before .before .before .before .before .pre)) (c .before .before .list-judged .kept .1 .0) (c .before .before .before .before .before .before .before .before .before .before .before .before .before .before .read .kept .1 .0)
 
 -- src/lib.rt:88:9
 returns-2 : tie.Need-returns-2
-returns-2 c = (list-said (c .before .before .before .before .before .before .before .before .before .before .before .before .before .before .before .before .before .before .args .file .now) (c .before .before .before .before .before .before .before .before .before .before .before .before .before .before .before .before .before .before .args .work .now) (c .before .before .before .before .before .before .before .before .before .before .before .before .before .before .read .result) (c .before .before .before .before .before .before .before .before .before .before .before .before .before .before .read .ensures .0) (c .before .before .before .before .before .before .before .before .before .before .enum-told .given .1) _ (c .before .before .before .before .before .before .before .before .before .before .before .before .before .before .read .ensures .1) (c .before .before .before .before .before .before .before .if1 .taken) _ (upper-part 16384 (c .before .before .before .before .before .before .before .before .before .before .before .before .before .before .read .last .1 .0)) _ (ap (λ (x : ℕ). 4 * x) (c .before .before .before .before .entries-allowed .ensures ∙ ap entriesAllowed (omega arith))) (c .before .before .before .before .before .before .before .before .before .before .before .before .before .before .before .before .before .before .pre) (omega arith) _ (c .before .before .list-judged .ensures .0), list-area (c .before .before .before .before .before .before .before .before .before .before .before .before .before .before .before .before .before .before .args .file .now) (c .before .before .before .before .before .before .before .before .before .before .before .before .before .before .before .before .before .before .args .work .now) (c .before .before .before .before .before .before .before .before .before .before .before .before .before .before .read .result) (c .before .before .before .before .before .before .before .before .before .before .before .before .before .before .read .ensures .0) (c .before .before .before .before .before .before .before .before .before .before .enum-told .given .1) _ (c .before .before .before .before .before .before .before .before .before .before .before .before .before .before .read .ensures .1) (c .before .before .before .before .before .before .before .if1 .taken) _ (upper-part 16384 (c .before .before .before .before .before .before .before .before .before .before .before .before .before .before .read .last .1 .0)) _ (ap (λ (x : ℕ). 4 * x) (c .before .before .before .before .entries-allowed .ensures ∙ ap entriesAllowed (omega arith))) (c .before .before .before .before .before .before .before .before .before .before .before .before .before .before .before .before .before .before .pre) (omega arith) (c .before .before .list-judged .ensures .1) (ap (drop (usedOf (length (c .before .before .before .before .before .before .before .before .before .before .before .before .before .before .before .before .before .before .args .work .now)))) (c .before .before .before .before .before .before .before .before .before .before .before .before .before .before .read .ensures .1) ∙ reading-kept (c .before .before .before .before .before .before .before .before .before .before .before .before .before .before .before .before .before .before .args .file .now) (c .before .before .before .before .before .before .before .before .before .before .before .before .before .before .before .before .before .before .args .work .now) (c .before .before .before .before .before .before .before .before .before .before .before .before .before .before .before .before .before .before .pre)))
+returns-2 c = (list-said (c .before .before .before .before .before .before .before .before .before .before .before .before .before .before .before .before .before .before .args .file .now) (c .before .before .before .before .before .before .before .before .before .before .before .before .before .before .before .before .before .before .args .work .now) (c .before .before .before .before .before .before .before .before .before .before .before .before .before .before .read .result) (c .before .before .before .before .before .before .before .before .before .before .before .before .before .before .read .ensures .0) (c .before .before .before .before .before .before .before .before .before .before .enum-told .given .1) _ (c .before .before .before .before .before .before .before .before .before .before .before .before .before .before .read .ensures .1) (c .before .before .before .before .before .before .before .if1 .taken) _ (upper-part 16384 (c .before .before .before .before .before .before .before .before .before .before .before .before .before .before .read .last .1 .0)) _ (c .before .before .before .before .summary-place .ensures ∙ ap (λ (x : ℕ). 4 * entriesAllowed x) (omega arith)) (c .before .before .before .before .before .before .before .before .before .before .before .before .before .before .before .before .before .before .pre) (omega arith) _ (c .before .before .list-judged .ensures .0), list-area (c .before .before .before .before .before .before .before .before .before .before .before .before .before .before .before .before .before .before .args .file .now) (c .before .before .before .before .before .before .before .before .before .before .before .before .before .before .before .before .before .before .args .work .now) (c .before .before .before .before .before .before .before .before .before .before .before .before .before .before .read .result) (c .before .before .before .before .before .before .before .before .before .before .before .before .before .before .read .ensures .0) (c .before .before .before .before .before .before .before .before .before .before .enum-told .given .1) _ (c .before .before .before .before .before .before .before .before .before .before .before .before .before .before .read .ensures .1) (c .before .before .before .before .before .before .before .if1 .taken) _ (upper-part 16384 (c .before .before .before .before .before .before .before .before .before .before .before .before .before .before .read .last .1 .0)) _ (c .before .before .before .before .summary-place .ensures ∙ ap (λ (x : ℕ). 4 * entriesAllowed x) (omega arith)) (c .before .before .before .before .before .before .before .before .before .before .before .before .before .before .before .before .before .before .pre) (omega arith) (c .before .before .list-judged .ensures .1) (ap (drop (usedOf (length (c .before .before .before .before .before .before .before .before .before .before .before .before .before .before .before .before .before .before .args .work .now)))) (c .before .before .before .before .before .before .before .before .before .before .before .before .before .before .read .ensures .1) ∙ reading-kept (c .before .before .before .before .before .before .before .before .before .before .before .before .before .before .before .before .before .before .args .file .now) (c .before .before .before .before .before .before .before .before .before .before .before .before .before .before .before .before .before .before .args .work .now) (c .before .before .before .before .before .before .before .before .before .before .before .before .before .before .before .before .before .before .pre)))
 
 -- src/lib.rt:90:39
 slice-relend-prefix-replay : tie.Need-slice-relend-prefix-replay
@@ -109,11 +105,10 @@ judge-file-spec =
     refusal-of-requires
     same-length
     returns
-    entries-allowed-requires
+    summary-place-requires
     sub-list-judged
     part-list-judged-start
     part-list-judged-end
-    mul-list-judged
     list-judged-requires
     same-length-2
     returns-2

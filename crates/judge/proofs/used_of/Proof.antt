@@ -1,5 +1,5 @@
-use Prim.Native.Nat.{ℕ, _+_, _*_}
-use mathlib.Core.Path.{_≡_, ap}
+use Prim.Native.Nat.{ℕ, _+_, _*_, _%_}
+use mathlib.Core.Path.{_≡_}
 use native.Mathlib.Omega.{arith}
 use borrow.Author.Needs.{needs}
 use Rattle.whole_file.specs.EvidencePart.{entriesAllowed}
@@ -8,17 +8,21 @@ use Rattle.judge.proofs.AreaLaws.{few}
 use Rattle.judge.proofs.used_of.Statement.{statement}
 use Rattle.judge.proofs.used_of.Tie as tie
 
-used : (r area : ℕ) → r ≡ entriesAllowed area → 16384 + 12 * r ≡ usedOf area
+used : (area n a b : ℕ) → n ≡ entriesAllowed area → a ≡ (4 * n) % 18446744073709551616 → b ≡ (8 * n) % 18446744073709551616 → 16384 + a + b ≡ usedOf area
 unfolding usedOf
-used r area e = ap (λ (n : ℕ). 16384 + 12 * n) e
+used area n a b e d g = let l = few n area e in omega arith
 
 pub used-of-spec : {M : Type 1} → statement M
 used-of-spec = tie.close (tie.spec
-    -- entries-allowed-requires 16:17
+    -- entries-allowed-requires
     (λ c κs. search needs)
-    -- mul-result 16:13
-    (λ c. omega (arith, few _ _ (c .entries-allowed .ensures)))
-    -- add-result 16:5
-    (λ c. omega (arith, few _ _ (c .entries-allowed .ensures)))
-    -- returns 13:1
-    (λ c. used _ _ (c .entries-allowed .ensures)))
+    -- word-place-requires
+    (λ c κs. search needs)
+    -- add-result
+    (λ c. omega (arith, few _ _ (c .before .entries-allowed .ensures), c .word-place .ensures))
+    -- slot-place-requires
+    (λ c κs. search needs)
+    -- add-result-2
+    (λ c. omega (arith, few _ _ (c .before .before .entries-allowed .ensures), c .before .word-place .ensures, c .slot-place .ensures))
+    -- returns
+    (λ c. used _ _ _ _ (c .before .before .entries-allowed .ensures) (c .before .word-place .ensures) (c .slot-place .ensures)))

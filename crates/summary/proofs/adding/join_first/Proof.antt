@@ -1,4 +1,3 @@
-use Rattle.summary.proofs.ChainLaws.{home-below}
 use native.Mathlib.Omega.{arith}
 use borrow.Author.Needs.{needs}
 use Rattle.summary.proofs.adding.join_first.Statement.{statement}
@@ -20,7 +19,7 @@ mark-of-requires c κs = search needs
 
 -- src/adding.rt:94:5
 hang-requires : tie.Need-hang-requires
-hang-requires c κs = (omega (arith, home-below (c .before .before .before .before .args .number) (c .before .before .before .before .args .n) (omega arith), c .before .home-of .ensures), omega arith, c .mark-of .ensures .1)
+hang-requires c κs = (omega arith, c .mark-of .ensures .1)
 
 -- src/adding.rt:95:5
 count-requires : tie.Need-count-requires

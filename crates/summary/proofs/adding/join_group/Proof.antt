@@ -1,4 +1,3 @@
-use Rattle.summary.proofs.ChainLaws.{home-below}
 use native.Mathlib.Omega.{arith}
 use borrow.Author.Needs.{needs}
 use Rattle.summary.proofs.adding.join_group.Statement.{statement}
@@ -33,7 +32,7 @@ mark-of-requires c κs = search needs
 
 -- src/adding.rt:105:5
 hang-requires : tie.Need-hang-requires
-hang-requires c κs = (omega (arith, home-below (c .before .before .before .before .before .before .before .before .before .before .args .number) (c .before .before .before .before .before .before .before .before .before .before .args .n) (omega arith), c .before .home-of .ensures), omega arith, c .mark-of .ensures .1)
+hang-requires c κs = (omega arith, c .mark-of .ensures .1)
 
 -- src/adding.rt:99:1
 same-length : tie.Need-same-length

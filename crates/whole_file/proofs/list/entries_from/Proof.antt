@@ -76,16 +76,16 @@ entries-from-spec = tie.close (tie.spec
     let e : entriesFrom (a .allowed) (a .shape) (a .states) (a .file .now) (a .at) [] [] ≡ stopAt (L .offsets) (L .entries) r =
     sym (L .reads) ∙ entry-refused (a .shape) (a .states) (a .file .now) (c .before .before .before .before .before .before .before .before .loop .k) (L .offsets) (L .entries) (a .allowed) (c .before .before .before .before .before .before .before .before .loop .n) (c .before .before .before .before .before .before .before .loop-test .taken) (head (c .before .before .before .before)) r d in
     (ap Stopped (c .end-refusal .ensures ∙ ap endRefusal (c .before .enum-told3 .given .1)) ∙ sym (ap countOf e), L .wrote ∙ sym (ap (λ (x : EntriesRead). wroteFrom 0 (x .offsets) (a .list .now)) e)))
-    -- mul-store-number
-    (λ c. let a = c .before .before .before .before .before .before .before .before .before .before .before .before .args in let L = c .before .before .before .before .before .before .before .before .before .loop .inv in omega (arith, L .most, c .before .before .before .before .before .before .before .before .before .before .before .before .pre .2))
+    -- word-place-requires
+    (λ c κs. search needs)
     -- store-number-requires
     (λ c κs. search needs)
     -- add-n
-    (λ c. omega (arith, c .before .before .before .before .before .before .before .before .before .before .before .before .loop .inv .most, c .before .before .before .before .before .before .before .before .before .before .before .before .before .before .before .pre .2))
+    (λ c. omega (arith, c .before .before .before .before .before .before .before .before .before .before .before .before .before .loop .inv .most, c .before .before .before .before .before .before .before .before .before .before .before .before .before .before .before .before .pre .2))
     -- loop-less
-    (λ c. omega (arith, c .before .before .before .before .before .before .before .before .before .before .before .loop-test .taken, entry-past (c .before .before .before .before .before .before .before .before .before .before .before .before .before .before .before .args .shape) (c .before .before .before .before .before .before .before .before .before .before .before .before .before .before .before .args .file .now) (c .before .before .before .before .before .before .before .before .before .before .before .before .loop .k) (body (c .before .before .before .before .before) .0) (c .before .before .before .before .before .end .given .0 .0) (body (c .before .before .before .before .before) .1)))
+    (λ c. omega (arith, c .before .before .before .before .before .before .before .before .before .before .before .before .loop-test .taken, entry-past (c .before .before .before .before .before .before .before .before .before .before .before .before .before .before .before .before .args .shape) (c .before .before .before .before .before .before .before .before .before .before .before .before .before .before .before .before .args .file .now) (c .before .before .before .before .before .before .before .before .before .before .before .before .before .loop .k) (body (c .before .before .before .before .before .before) .0) (c .before .before .before .before .before .before .end .given .0 .0) (body (c .before .before .before .before .before .before) .1)))
     -- loop-again
-    (λ c. listed-next (c .before .before .before .before .before .before .before .before .before .before .before .before .loop .inv) (body (c .before .before .before .before .before) .0) (c .before .before .before .before .before .before .before .before .before .before .before .loop-test .taken) (head (c .before .before .before .before .before .before .before .before)) (body (c .before .before .before .before .before) .1) (c .before .before .store-number .ensures))
+    (λ c. listed-next (c .before .before .before .before .before .before .before .before .before .before .before .before .before .loop .inv) (body (c .before .before .before .before .before .before) .0) (c .before .before .before .before .before .before .before .before .before .before .before .before .loop-test .taken) (head (c .before .before .before .before .before .before .before .before .before)) (body (c .before .before .before .before .before .before) .1) (omega (arith, c .before .before .before .word-place .ensures, c .before .before .before .before .before .before .before .before .before .before .before .before .before .loop .inv .most, c .before .before .before .before .before .before .before .before .before .before .before .before .before .before .before .before .pre .2)) (c .before .before .store-number .ensures))
     -- same-length-3
     (λ c. same (c .before .before .before .before .args .list .now) (c .before .loop .inv .offsets) (c .before .loop .inv .wrote))
     -- returns-3

@@ -1,0 +1,20 @@
+use Prim.Native.Nat.{ℕ, _*_, _%_}
+use mathlib.Core.Path.{_≡_}
+use native.Mathlib.Omega.{arith}
+use borrow.Author.Needs.{needs}
+use Rattle.whole_file.specs.EvidencePart.{entriesAllowed}
+use Rattle.judge.proofs.AreaLaws.{few}
+use Rattle.judge.proofs.summary_place.Statement.{statement}
+use Rattle.judge.proofs.summary_place.Tie as tie
+
+behind : (area r n : ℕ) → n ≡ entriesAllowed area → r ≡ (4 * n) % 18446744073709551616 → r ≡ 4 * entriesAllowed area
+behind area r n e d = let l = few n area e in omega arith
+
+pub summary-place-spec : {M : Type 1} → statement M
+summary-place-spec = tie.close (tie.spec
+    -- entries-allowed-requires
+    (λ c κs. search needs)
+    -- word-place-requires
+    (λ c κs. search needs)
+    -- returns
+    (λ c. behind _ _ _ (c .before .entries-allowed .ensures) (c .word-place .ensures)))
