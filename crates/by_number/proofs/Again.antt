@@ -18,7 +18,7 @@ use Rattle.program_part.specs.Bytes.{byte}
 use Rattle.program_part.specs.Records.{isKind, transitionAt, stateAt, stepBody}
 use Rattle.program_part.specs.ProgramPart.{programFrom, programOf, targetsOf}
 use Rattle.whole_file.specs.EvidencePart.{stepsOf, entriesAllowed, wroteFrom}
-use Rattle.whole_file.specs.Reading.{partsOf, refused, list, run, readFile, noMemory, readingRefused, readingWith, readingOf, areaRead}
+use Rattle.whole_file.specs.Reading.{partsOf, refused, list, runRead, readFile, noMemory, readingRefused, readingWith, readingOf, areaRead}
 use Rattle.program_part.proofs.RecordLaws.{fine-refused, refused-same}
 use Rattle.by_number.specs.Again.{offsetAt, cubeAt, entriesOf, transitionOf, targetOf, placeOf}
 use Rattle.by_number.specs.Contents.{ProgramSizes, CubeRange}
@@ -85,13 +85,13 @@ module _ (f w : List ℕ) where
           go (outcome-list L) = rw (r ∙ reading-with f area L) (part-sizes f 0 (L .fine) refl)
           go (outcome-run L) = rw (r ∙ reading-steps f area L) (part-sizes f 0 (L .fine) refl)
 
-      -- claim 1
+      -- claims 1 and 2
       pub reading-run : (R .contents .claim ≡ 0 → ⊥)
-          → readFile f area ≡ run (programOf f (R .contents .program)) (targetsOf f (R .contents .program)) (R .contents .memory) (stepsOf f (R .contents .evidence .at) (R .contents .evidence .count))
+          → readFile f area ≡ runRead (R .contents .claim) (programOf f (R .contents .program)) (targetsOf f (R .contents .program)) (R .contents .memory) (stepsOf f (R .contents .evidence .at) (R .contents .evidence .count))
       reading-run c = go (outcome f area)
         where
           go : Outcome f area
-              → readFile f area ≡ run (programOf f (R .contents .program)) (targetsOf f (R .contents .program)) (R .contents .memory) (stepsOf f (R .contents .evidence .at) (R .contents .evidence .count))
+              → readFile f area ≡ runRead (R .contents .claim) (programOf f (R .contents .program)) (targetsOf f (R .contents .program)) (R .contents .memory) (stepsOf f (R .contents .evidence .at) (R .contents .evidence .count))
           go (outcome-refused y a b) = absurd (never y a)
           go (outcome-list L) = absurd (c (ap (λ (z : Reading). z .contents .claim) (r ∙ reading-with f area L)))
           go (outcome-run L) = rw (r ∙ reading-steps f area L) (file-run f area L)
@@ -114,7 +114,7 @@ module _ (f w : List ℕ) where
           where
             go : Outcome f area → ListParts f area
             go (outcome-refused y a b) = absurd (never y a)
-            go (outcome-run L) = absurd (omega (arith, c, ap (λ (z : Reading). z .contents .claim) (r ∙ reading-steps f area L)))
+            go (outcome-run L) = absurd (L .other (sym (ap (λ (z : Reading). z .contents .claim) (r ∙ reading-steps f area L)) ∙ c))
             go (outcome-list L) = L
 
         left : drop 16384 work ≡ wroteFrom 0 (listed f area .offsets) (drop 16384 w)

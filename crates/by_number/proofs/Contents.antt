@@ -6,7 +6,7 @@ use mathlib.Core.List.{List, []}
 use native.Mathlib.Omega.{arith}
 use native.Mathlib.Decide.{decLt, ℕ-discrete}
 use lib.ListN.{length, getD}
-use lib.Dec.{leb, ltb}
+use lib.Dec.{eqb, leb, ltb}
 use borrow.Author.Tests.{ltb-true, not-false}
 use Rattle.pws.specs.declared.Step.{Step}
 use Rattle.pws.specs.declared.Step.the-variants.{Take, Serialise, Update}
@@ -24,7 +24,7 @@ use Rattle.program_part.specs.Records.{checked, isKind, claimNumber, startNumbe
 use Rattle.program_part.specs.ProgramPart.{unlessEnd, programFrom, programOf, targetsOf}
 use Rattle.whole_file.specs.EvidencePart.{stepsFrom, stepsOf, EntriesRead, entriesFrom, entriesAllowed, wroteFrom}
 use Rattle.whole_file.specs.Cube.{configurationOf, loadEntry}
-use Rattle.whole_file.specs.Reading.{entries, steps, runEvidence, noMemory, noParts, twoParts, partsOf, refused, list, run, partsRead, readFile, readingRefused, readingWith, readingOf}
+use Rattle.whole_file.specs.Reading.{entries, steps, runEvidence, noMemory, noParts, twoParts, partsOf, FileRead, refused, list, run, psoRun, runRead, partsRead, readFile, readingRefused, readingWith, readingOf}
 use Rattle.program_part.proofs.RecordLaws.{cut-fits, unless-fine, row-most, step-fine, entry-fine}
 use Rattle.whole_file.proofs.ReadingLaws.{evidence-refused, evidence-entries, evidence-run, start-refused, run-steps, parts-short, parts-refused, parts-both}
 use Rattle.by_number.specs.Again.{placeOf, entriesOf}
@@ -54,9 +54,10 @@ module _ (f : List ℕ) (area : ℕ) where
   pub record RunParts : Type 0 where
     pub count : ℕ
     pub fine : programFrom f 0 .answer ≡ Fine
+    pub other : byte f (p .claim + 1) ≡ 0 → ⊥
     pub start : unlessEnd f (p .claim + 2) (checked (startNumber (p .shape) f (p .claim + 2)) (p .claim + 2)) ≡ Fine
     pub reads : stepsFrom (p .shape) (p .transitions .count) f (p .claim + 2 + 5) ≡ Records count
-    pub parts : partsOf f area ≡ twoParts p (steps (memoryAt f (p .claim + 2)) (Records count))
+    pub parts : partsOf f area ≡ twoParts p (steps (byte f (p .claim + 1)) (memoryAt f (p .claim + 2)) (Records count))
 
   pub data Outcome : Type 0 where
     outcome-refused : (r : Refusal) → readingOf (partsOf f area) ≡ readingRefused r → readFile f area ≡ refused r → Outcome
@@ -75,17 +76,18 @@ module _ (f : List ℕ) (area : ℕ) where
   abbrev Starts : Checked → Type 0
   Starts x = unlessEnd f (p .claim + 2) (checked (startNumber (p .shape) f (p .claim + 2)) (p .claim + 2)) ≡ x
 
-  by-steps : programFrom f 0 .answer ≡ Fine → Starts Fine → (x : Counted) → stepsFrom (p .shape) (p .transitions .count) f (p .claim + 2 + 5) ≡ x
-      → partsOf f area ≡ twoParts p (steps (memoryAt f (p .claim + 2)) x) → Outcome
+  by-steps : programFrom f 0 .answer ≡ Fine → (byte f (p .claim + 1) ≡ 0 → ⊥) → Starts Fine → (x : Counted) → stepsFrom (p .shape) (p .transitions .count) f (p .claim + 2 + 5) ≡ x
+      → partsOf f area ≡ twoParts p (steps (byte f (p .claim + 1)) (memoryAt f (p .claim + 2)) x) → Outcome
   unfolding readFile
-  by-steps q s (Records n) d e = outcome-run (record { count = n; fine = q; start = s; reads = d; parts = e })
-  by-steps q s (Stopped r) d e = outcome-refused r (ap readingOf e) (ap (partsRead f) e)
+  by-steps q z s (Records n) d e = outcome-run (record { count = n; fine = q; other = z; start = s; reads = d; parts = e })
+  by-steps q z s (Stopped r) d e = outcome-refused r (ap readingOf e) (ap (partsRead f) e)
 
-  by-run : programFrom f 0 .answer ≡ Fine → (x : Checked) → Starts x → partsOf f area ≡ twoParts p (runEvidence f (p .claim + 2) p) → Outcome
+  by-run : programFrom f 0 .answer ≡ Fine → (byte f (p .claim + 1) ≡ 0 → ⊥) → (x : Checked) → Starts x
+      → partsOf f area ≡ twoParts p (runEvidence f (byte f (p .claim + 1)) (p .claim + 2) p) → Outcome
   unfolding readFile
-  by-run q Fine s e = by-steps q s _ refl (e ∙ ap (twoParts p) (run-steps f (p .claim + 2) p s))
-  by-run q (Refused r) s e =
-      let d = e ∙ ap (twoParts p) (start-refused f (p .claim + 2) p r s) in
+  by-run q z Fine s e = by-steps q z s _ refl (e ∙ ap (twoParts p) (run-steps f (byte f (p .claim + 1)) (p .claim + 2) p s))
+  by-run q z (Refused r) s e =
+      let d = e ∙ ap (twoParts p) (start-refused f (byte f (p .claim + 1)) (p .claim + 2) p r s) in
       outcome-refused r (ap readingOf d) (ap (partsRead f) d)
 
   by-claim : 65536 ≤ area → programFrom f 0 .answer ≡ Fine → (x : Checked) → unlessEnd f (p .claim) (checked (claimNumber f (p .claim)) (p .claim)) ≡ x → Outcome
@@ -95,7 +97,7 @@ module _ (f : List ℕ) (area : ℕ) where
       outcome-refused r (ap readingOf e) (ap (partsRead f) e)
   by-claim l q Fine d = elim (ℕ-discrete (byte f (p .claim + 1)) 0) [
     | yes z ↦ by-list l q (parts-both f area l q ∙ ap (twoParts p) (evidence-entries f (p .claim) p area d z)) _ refl
-    | no z ↦ by-run q _ refl (parts-both f area l q ∙ ap (twoParts p) (evidence-run f (p .claim) p area d z))
+    | no z ↦ by-run q z _ refl (parts-both f area l q ∙ ap (twoParts p) (evidence-run f (p .claim) p area d z))
   ]
 
   by-program : 65536 ≤ area → (x : Checked) → programFrom f 0 .answer ≡ x → Outcome
@@ -205,11 +207,11 @@ module _ (f : List ℕ) (area : ℕ) where
   -- ---- a run
 
   module _ (R : RunParts) where
-    pub file-run : readFile f area ≡ run (programOf f p) (targetsOf f p) (memoryAt f (p .claim + 2)) (stepsOf f (p .claim + 2 + 5) (R .count))
+    pub file-run : readFile f area ≡ runRead (byte f (p .claim + 1)) (programOf f p) (targetsOf f p) (memoryAt f (p .claim + 2)) (stepsOf f (p .claim + 2 + 5) (R .count))
     unfolding readFile
     file-run = ap (partsRead f) (R .parts)
 
-    pub reading-steps : readingOf (partsOf f area) ≡ readingWith p 1 (memoryAt f (p .claim + 2)) (p .claim + 2 + 5) (R .count)
+    pub reading-steps : readingOf (partsOf f area) ≡ readingWith p (byte f (p .claim + 1)) (memoryAt f (p .claim + 2)) (p .claim + 2 + 5) (R .count)
     reading-steps = ap readingOf (R .parts)
 
     count₃ : length (programOf f p .transitions) ≡ p .transitions .count
@@ -260,37 +262,30 @@ module _ (f : List ℕ) (area : ℕ) where
 
 -- ---- the contents of every file that is read
 
-list-refused : {P : pws.Program} {ts : List (ℕ → ℕ)} {es : List Configuration} {r : Refusal} → refused r ≡ list P ts es → ⊥
-list-refused e = let z : _≡_ {A = ℕ} 0 1 = cc in omega arith
+abbrev Holds : ℕ → FileRead → Type 0
+Holds area (refused r) = Unit {0}
+Holds area (list P ts es) = ListRead P ts es area
+Holds area (run P ts m ss) = RunRead P ts m ss
+Holds area (psoRun P ts m ss) = RunRead P ts m ss
 
-run-refused : {P : pws.Program} {ts : List (ℕ → ℕ)} {m : List ℕ} {ss : List Step} {r : Refusal} → refused r ≡ run P ts m ss → ⊥
-run-refused e = let z : _≡_ {A = ℕ} 0 1 = cc in omega arith
+run-holds : (area : ℕ) {P : pws.Program} {ts : List (ℕ → ℕ)} {m : List ℕ} {ss : List Step} → RunRead P ts m ss → (b : Bool)
+    → Holds area (cond b (run P ts m ss) (psoRun P ts m ss))
+run-holds area R true = R
+run-holds area R false = R
 
-list-run : {P Q : pws.Program} {ts us : List (ℕ → ℕ)} {es : List Configuration} {m : List ℕ} {ss : List Step} → list P ts es ≡ run Q us m ss → ⊥
-list-run e = let z : _≡_ {A = ℕ} 0 1 = cc in omega arith
-
-list-inverse : {P Q : pws.Program} {ts us : List (ℕ → ℕ)} {es ds : List Configuration} → list P ts es ≡ list Q us ds → (P ≡ Q) × (ts ≡ us) × (es ≡ ds)
-list-inverse e = (cc, cc, cc)
-
-run-inverse : {P Q : pws.Program} {ts us : List (ℕ → ℕ)} {m n : List ℕ} {es ds : List Step} → run P ts m es ≡ run Q us n ds → (P ≡ Q) × (ts ≡ us) × (m ≡ n) × (es ≡ ds)
-run-inverse e = (cc, cc, cc, cc)
+file-holds : (f : List ℕ) (area : ℕ) → Holds area (readFile f area)
+file-holds f area = go (outcome f area)
+  where
+    go : Outcome f area → Holds area (readFile f area)
+    go (outcome-refused r a b) = subst (Holds area) (sym b) tt
+    go (outcome-list L) = subst (Holds area) (sym (file-list f area L)) (parts-list f area L)
+    go (outcome-run R) = subst (Holds area) (sym (file-run f area R)) (run-holds area (parts-run f area R) (eqb (byte f (programFrom f 0 .program .claim + 1)) 1))
 
 pub list-read : (f : List ℕ) (area : ℕ) {P : pws.Program} {ts : List (ℕ → ℕ)} {es : List Configuration} → readFile f area ≡ list P ts es → ListRead P ts es area
-list-read f area {P} {ts} {es} q = go (outcome f area)
-  where
-    go : Outcome f area → ListRead P ts es area
-    go (outcome-refused r a b) = absurd (list-refused (sym b ∙ q))
-    go (outcome-run R) = absurd (list-run (sym q ∙ file-run f area R))
-    go (outcome-list L) =
-        let i = list-inverse (sym (file-list f area L) ∙ q) in
-        rw (sym (i .0), sym (i .1), sym (i .2)) (parts-list f area L)
+list-read f area q = subst (Holds area) q (file-holds f area)
 
 pub run-read : (f : List ℕ) (area : ℕ) {P : pws.Program} {ts : List (ℕ → ℕ)} {m : List ℕ} {ss : List Step} → readFile f area ≡ run P ts m ss → RunRead P ts m ss
-run-read f area {P} {ts} {m} {ss} q = go (outcome f area)
-  where
-    go : Outcome f area → RunRead P ts m ss
-    go (outcome-refused r a b) = absurd (run-refused (sym b ∙ q))
-    go (outcome-list L) = absurd (list-run (sym (file-list f area L) ∙ q))
-    go (outcome-run R) =
-        let i = run-inverse (sym (file-run f area R) ∙ q) in
-        rw (sym (i .0), sym (i .1), sym (i .2), sym (i .3)) (parts-run f area R)
+run-read f area q = subst (Holds area) q (file-holds f area)
+
+pub pso-run-read : (f : List ℕ) (area : ℕ) {P : pws.Program} {ts : List (ℕ → ℕ)} {m : List ℕ} {ss : List Step} → readFile f area ≡ psoRun P ts m ss → RunRead P ts m ss
+pso-run-read f area q = subst (Holds area) q (file-holds f area)

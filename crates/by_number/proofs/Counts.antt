@@ -1,10 +1,16 @@
 -- The four counts that a file begins with are those of the program that was read (document 02, N5).
-use Prim.Native.Nat.{ℕ}
+use Prim.Native.Nat.{ℕ, _+_}
 use mathlib.Core.Path.{_≡_, sym, subst}
+use mathlib.Core.Bool.{Bool, true, false, cond}
 use mathlib.Core.List.{List}
+use lib.Dec.{eqb}
+use Rattle.pws.specs.declared.Step.{Step}
+use Rattle.pws.specs.Program as pws
 use Rattle.pws.specs.Ranges.{CountsOf}
+use Rattle.program_part.specs.Bytes.{byte}
 use Rattle.program_part.specs.Records.{shapeAt}
-use Rattle.whole_file.specs.Reading.{FileRead, refused, list, run, readFile}
+use Rattle.program_part.specs.ProgramPart.{programFrom}
+use Rattle.whole_file.specs.Reading.{FileRead, refused, list, run, psoRun, readFile}
 use Rattle.by_number.proofs.ProgramPart.{part-counts}
 use Rattle.by_number.proofs.Contents.{Outcome, outcome-refused, outcome-list, outcome-run, outcome, file-list, file-run}
 
@@ -12,6 +18,12 @@ abbrev pub HasCounts : List ℕ → FileRead → Type 0
 HasCounts f (refused r) = Unit {0}
 HasCounts f (list P ts es) = CountsOf (P .shape) (shapeAt f 0 .values)
 HasCounts f (run P ts m ss) = CountsOf (P .shape) (shapeAt f 0 .values)
+HasCounts f (psoRun P ts m ss) = CountsOf (P .shape) (shapeAt f 0 .values)
+
+run-counts : (f : List ℕ) {P : pws.Program} {ts : List (ℕ → ℕ)} {m : List ℕ} {ss : List Step} → CountsOf (P .shape) (shapeAt f 0 .values) → (b : Bool)
+    → HasCounts f (cond b (run P ts m ss) (psoRun P ts m ss))
+run-counts f C true = C
+run-counts f C false = C
 
 pub file-counts : (f : List ℕ) (area : ℕ) → HasCounts f (readFile f area)
 file-counts f area = go (outcome f area)
@@ -19,4 +31,4 @@ file-counts f area = go (outcome f area)
     go : Outcome f area → HasCounts f (readFile f area)
     go (outcome-refused r a b) = subst (HasCounts f) (sym b) tt
     go (outcome-list L) = subst (HasCounts f) (sym (file-list f area L)) (part-counts f 0 (L .fine))
-    go (outcome-run R) = subst (HasCounts f) (sym (file-run f area R)) (part-counts f 0 (R .fine))
+    go (outcome-run R) = subst (HasCounts f) (sym (file-run f area R)) (run-counts f (part-counts f 0 (R .fine)) (eqb (byte f (programFrom f 0 .program .claim + 1)) 1))

@@ -43,7 +43,7 @@ StepOf P (Take n) = n < length (P .transitions)
 StepOf P (Serialise p v) = (p < P .shape .processes) × (v < P .shape .variables)
 StepOf P (Update p) = p < P .shape .processes
 
--- claim 1
+-- claims 1 and 2
 pub record RunRead (P : Program) (ts : List (ℕ → ℕ)) (memory : List ℕ) (ss : List Step) : Type 0 where
   pub part : ProgramPartRead P ts
   pub permitted : StartingMemory (P .shape) memory

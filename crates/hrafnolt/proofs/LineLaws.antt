@@ -11,9 +11,9 @@ use borrow.Author.Tests.{eq-eqb, ne-eqb, lt-ltb, le-ltb}
 use Rattle.io.specs.Counts.{Counts}
 use Rattle.io.specs.Digits.{digits, Fewest}
 use Rattle.judge.specs.declared.answer.Verdict as declared
-use Rattle.judge.specs.Judge.{Verdict, safe, reachable, refused, judged}
+use Rattle.judge.specs.Judge.{Verdict, safe, reachable, pso, refused, judged}
 use Rattle.judge.specs.Answers.{inC}
-use Rattle.hrafnolt.specs.Line.{Numbered, TwoNumbers, LineOf, wordSafe, wordReachable, wordRefused, wordOf, said}
+use Rattle.hrafnolt.specs.Line.{Numbered, TwoNumbers, LineOf, wordSafe, wordReachable, wordPso, wordRefused, wordOf, said}
 
 -- ---- a text put in place
 
@@ -58,9 +58,13 @@ pub word-reachable : (kind : ℕ) → (kind ≡ 0 → ⊥) → kind ≡ 1 → wo
 unfolding wordOf
 word-reachable kind n e = rw (ne-eqb kind 0 n, eq-eqb kind 1 e)
 
-pub word-refused : (kind : ℕ) → (kind ≡ 0 → ⊥) → (kind ≡ 1 → ⊥) → wordOf kind ≡ wordRefused
+pub word-pso : (kind : ℕ) → kind ≡ 3 → wordOf kind ≡ wordPso
 unfolding wordOf
-word-refused kind n m = rw (ne-eqb kind 0 n, ne-eqb kind 1 m)
+word-pso kind e = ap wordOf e
+
+pub word-refused : (kind : ℕ) → (kind ≡ 0 → ⊥) → (kind ≡ 1 → ⊥) → (kind ≡ 3 → ⊥) → wordOf kind ≡ wordRefused
+unfolding wordOf
+word-refused kind n m l = rw (ne-eqb kind 0 n, ne-eqb kind 1 m, ne-eqb kind 3 l)
 
 -- ---- numbers
 
@@ -106,6 +110,7 @@ one-line word text line verdict (safe n) e z w g h =
       same = h;
     }
 one-line word text line verdict (reachable n k) e z w g h = absurd (omega (arith, z, ap (λ (x : declared.Verdict). x .kind) e))
+one-line word text line verdict (pso n k) e z w g h = absurd (omega (arith, z, ap (λ (x : declared.Verdict). x .kind) e))
 one-line word text line verdict (refused n k) e z w g h = absurd (omega (arith, z, ap (λ (x : declared.Verdict). x .kind) e))
 
 two-numbers : (word text more line : List ℕ) (verdict : declared.Verdict) (n k : ℕ) (w : List ℕ) → word ≡ w → verdict .first ≡ n → verdict .second ≡ k
@@ -125,9 +130,12 @@ two-lines word text more line verdict (safe n) e z w g h q = absurd (z (ap (λ (
 two-lines word text more line verdict (reachable n k) e z w g h q =
     two-numbers word text more line verdict n k wordReachable (w ∙ word-reachable (verdict .kind) z (ap (λ (x : declared.Verdict). x .kind) e))
     (ap (λ (x : declared.Verdict). x .first) e) (ap (λ (x : declared.Verdict). x .second) e) g h q
+two-lines word text more line verdict (pso n k) e z w g h q =
+    two-numbers word text more line verdict n k wordPso (w ∙ word-pso (verdict .kind) (ap (λ (x : declared.Verdict). x .kind) e))
+    (ap (λ (x : declared.Verdict). x .first) e) (ap (λ (x : declared.Verdict). x .second) e) g h q
 two-lines word text more line verdict (refused n k) e z w g h q =
-    two-numbers word text more line verdict n k wordRefused
-    (w ∙ word-refused (verdict .kind) z (λ y. let d : verdict .kind ≡ 2 = ap (λ (x : declared.Verdict). x .kind) e in omega arith))
+    let d : verdict .kind ≡ 2 = ap (λ (x : declared.Verdict). x .kind) e in
+    two-numbers word text more line verdict n k wordRefused (w ∙ word-refused (verdict .kind) z (λ y. omega (arith, d)) (λ y. omega (arith, d)))
     (ap (λ (x : declared.Verdict). x .first) e) (ap (λ (x : declared.Verdict). x .second) e) g h q
 
 pub counts : (r : ℕ) (line : List ℕ) → r ≤ length line → Counts r line

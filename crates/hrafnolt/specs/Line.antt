@@ -7,14 +7,17 @@ use lib.ListN.{length}
 use lib.Dec.{eqb, ltb}
 use Rattle.io.specs.Digits.{digits, Fewest}
 use Rattle.program_part.specs.Bytes.{choose}
-use Rattle.judge.specs.Judge.{Verdict, safe, reachable, refused, judged}
+use Rattle.judge.specs.Judge.{Verdict, safe, reachable, pso, refused, judged}
 
--- `safe`, `reachable` and `refused`
+-- `safe`, `reachable`, `pso` and `refused`
 abbrev pub wordSafe : List ℕ
 wordSafe = 115 ∷ 97 ∷ 102 ∷ 101 ∷ []
 
 abbrev pub wordReachable : List ℕ
 wordReachable = 114 ∷ 101 ∷ 97 ∷ 99 ∷ 104 ∷ 97 ∷ 98 ∷ 108 ∷ 101 ∷ []
+
+abbrev pub wordPso : List ℕ
+wordPso = 112 ∷ 115 ∷ 111 ∷ []
 
 abbrev pub wordRefused : List ℕ
 wordRefused = 114 ∷ 101 ∷ 102 ∷ 117 ∷ 115 ∷ 101 ∷ 100 ∷ []
@@ -41,11 +44,12 @@ pub record TwoNumbers (word : List ℕ) (n k : ℕ) (r : List ℕ) : Type 0 wher
 abbrev pub LineOf : Verdict → List ℕ → Type 0
 LineOf (safe n) r = OneNumber wordSafe n r
 LineOf (reachable n k) r = TwoNumbers wordReachable n k r
+LineOf (pso n k) r = TwoNumbers wordPso n k r
 LineOf (refused n k) r = TwoNumbers wordRefused n k r
 
 -- the word of each kind of verdict, as C has it
 unfoldable pub wordOf : ℕ → List ℕ
-wordOf kind = cond (eqb kind 0) wordSafe (cond (eqb kind 1) wordReachable wordRefused)
+wordOf kind = cond (eqb kind 0) wordSafe (cond (eqb kind 1) wordReachable (cond (eqb kind 3) wordPso wordRefused))
 
 -- ---- what the program says of its input
 

@@ -68,6 +68,9 @@ fn put_word(line: &mut [u8], kind: u64) -> usize
             &[b'r', b'e', b'a', b'c', b'h', b'a', b'b', b'l', b'e'],
         );
     }
+    if kind == 3 {
+        return put(line, 0, &[b'p', b's', b'o']);
+    }
     put(line, 0, &[b'r', b'e', b'f', b'u', b's', b'e', b'd'])
 }
 

@@ -89,7 +89,7 @@ rest-kept h k w b l e = sym (drop-drop k h (take h w ++ b)) ∙ ap (drop k) (dro
 abbrev Few : ℕ → Evidence → Type 0
 Few n (refusal r) = Unit {0}
 Few n (entries r) = length (r .offsets) ≤ n
-Few n (steps m c) = Unit {0}
+Few n (steps claim m c) = Unit {0}
 
 abbrev FewEntries : ℕ → EntriesRead → Type 0
 FewEntries n r = length (r .offsets) ≤ n
@@ -123,22 +123,22 @@ claim-few : (n : ℕ) (x : Checked) (y : Unit {0} → Evidence) → Few n (y tt)
 claim-few n Fine y h = h
 claim-few n (Refused r) y h = tt
 
-run-few : (n : ℕ) (f : List ℕ) (at : ℕ) (p : Program) → Few n (runEvidence f at p)
+run-few : (n : ℕ) (f : List ℕ) (claim at : ℕ) (p : Program) → Few n (runEvidence f claim at p)
 unfolding runEvidence
-run-few n f at p = claim-few n (unlessEnd f at (checked (startNumber (p .shape) f at) at)) _ tt
+run-few n f claim at p = claim-few n (unlessEnd f at (checked (startNumber (p .shape) f at) at)) _ tt
 
 evidence-few : (f : List ℕ) (at : ℕ) (p : Program) (area : ℕ) → Few (entriesAllowed area) (evidenceFrom f at p area)
 unfolding evidenceFrom
 evidence-few f at p area =
     claim-few (entriesAllowed area) (unlessEnd f at (checked (claimNumber f at) at)) _
-    (each-choice (Few (entriesAllowed area)) (eqb (byte f (at + 1)) 0) _ _ (entries-few (entriesAllowed area) (entriesAllowed area) (p .shape) (p .states) f (at + 2) [] [] (omega arith)) (run-few (entriesAllowed area) f (at + 2) p))
+    (each-choice (Few (entriesAllowed area)) (eqb (byte f (at + 1)) 0) _ _ (entries-few (entriesAllowed area) (entriesAllowed area) (p .shape) (p .states) f (at + 2) [] [] (omega arith)) (run-few (entriesAllowed area) f (byte f (at + 1)) (at + 2) p))
 
 -- past the bytes that belong to the judgement the reading leaves all as it was
 evidence-kept : (n : ℕ) (e : Evidence) (w : List ℕ) → 16384 ≤ length w → Few n e → drop (16384 + 4 * n) (evidenceArea e w) ≡ drop (16384 + 4 * n) w
 evidence-kept n (refusal r) w l h = refl
 evidence-kept n (entries r) w l h =
     rest-kept 16384 (4 * n) w (wroteFrom 0 (r .offsets) (drop 16384 w)) l (drop-wrote (r .offsets) (drop 16384 w) 0 (4 * n) (omega arith))
-evidence-kept n (steps m c) w l h = refl
+evidence-kept n (steps claim m c) w l h = refl
 
 -- what is the same past a place is the same past a later one
 drop-more : (a b : ℕ) (x y : List ℕ) → a ≤ b → drop a x ≡ drop a y → drop b x ≡ drop b y

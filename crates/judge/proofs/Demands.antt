@@ -1,12 +1,14 @@
 -- The theorems of the demands: what each says stands in specs/Demands.
 use Prim.Native.Nat.{ℕ, _<_, _≤_}
 use mathlib.Core.Path.{_≡_, refl, sym, ap, ap₂, subst, _∙_}
-use mathlib.Core.Logic.{_↔_, inl, inr, ⊎-elim}
+use mathlib.Core.Logic.{_↔_, _⊎_, inl, inr, ⊎-elim}
 use mathlib.Core.Bool.{Bool, true, false, cond}
 use mathlib.Core.List.{List}
 use native.Mathlib.Omega.{arith}
 use native.Mathlib.Decide.{decLt, ℕ-discrete}
+use lib.ListN.{getD}
 use lib.Dec.{T, eqb, leb}
+use borrow.Author.Tests.{leb-true}
 use Rattle.pws.specs.declared.Step.{Step}
 use Rattle.pws.specs.Program.{Program, ProgramInRange}
 use Rattle.pws.specs.Machine.{Configuration}
@@ -19,7 +21,7 @@ use Rattle.lists.specs.Decision as decision
 use Rattle.lists.proofs.Verdict.{verdict-unique, verdict-judged, safe-visited}
 use Rattle.whole_file.specs.Reading as reading
 use Rattle.by_number.specs.Contents.{ListRead}
-use Rattle.by_number.proofs.Contents.{list-read, run-read}
+use Rattle.by_number.proofs.Contents.{list-read, run-read, pso-run-read}
 use Rattle.by_number.proofs.Counts.{HasCounts, file-counts}
 use Rattle.replay.specs.declared.step.Cause.{Cause}
 use Rattle.replay.specs.declared.step.Cause.the-variants.{State, Queue, Pointer, Value, Nothing}
@@ -27,10 +29,16 @@ use Rattle.replay.specs.declared.run.RunAnswer.{RunAnswer}
 use Rattle.replay.specs.declared.run.RunAnswer.the-variants.{Reachable, Stopped, Missed}
 use Rattle.replay.specs.Causes.{causeNumber}
 use Rattle.replay.specs.Answers.{runAnswer}
-use Rattle.judge.specs.Judge.{Verdict, safe, reachable, refused, ofList, ofRun, FileJudged, Judged, ofFile, judged}
+use Rattle.pso.specs.declared.PsoStep.the-variants.{RemoveMark}
+use Rattle.psoreplay.specs.Answers.{psoSteps, PsoAnswered, psoRunAnswer}
+use Rattle.psoreplay.proofs.Accepted.{pso-answered, pso-only}
+use Rattle.judge.specs.Judge.{Verdict, safe, reachable, pso, refused, ofList, ofRun, ofPsoRun, FileJudged, Judged, ofFile, judged}
+use Rattle.judge.specs.PsoRuns.{OfPsoRun, PsoHalts}
 use Rattle.judge.specs.Demands.{
   OfList,
   OfRun,
+  Stops,
+  Cannot,
   OneAnswer,
   Refused8,
   RefusedReading,
@@ -41,6 +49,7 @@ use Rattle.judge.specs.Demands.{
   Refused12,
   Refused16,
   Refused17,
+  NoPointer,
   Refused15,
   Refused18,
   RefusedStep,
@@ -48,6 +57,7 @@ use Rattle.judge.specs.Demands.{
   NoOther,
   AcceptedList,
   AcceptedRun,
+  AcceptedPsoRun,
   Safety,
   Simulated,
   Simulation,
@@ -56,6 +66,7 @@ use Rattle.judge.specs.Demands.{
 }
 use Rattle.judge.proofs.Numbers.{short-file, refused-low, refused-large}
 use Rattle.judge.proofs.Runs.{RunJudged, run-judged, run-only, stopped-cannot, cannot-stopped}
+use Rattle.judge.proofs.PsoRuns.{never-pointer, stopped-halts, halts-stopped}
 
 -- ---- verdicts that differ
 
@@ -63,20 +74,24 @@ abbrev kind : Verdict → ℕ
 kind (safe n) = 0
 kind (reachable n k) = 1
 kind (refused n k) = 2
+kind (pso n k) = 3
 
 abbrev code : Verdict → ℕ
 code (safe n) = 15
 code (reachable n k) = 14
+code (pso n k) = 14
 code (refused n k) = n
 
 abbrev place : Verdict → ℕ
 place (safe n) = n
 place (reachable n k) = k
+place (pso n k) = k
 place (refused n k) = k
 
 abbrev toList : Verdict → lists.ListVerdict
 toList (safe n) = lists.safe n
 toList (reachable n k) = lists.safe n
+toList (pso n k) = lists.safe n
 toList (refused n k) = cond (eqb n 9) (lists.unheld k) (cond (eqb n 10) (lists.started k) (lists.entered k))
 
 abbrev causeBy : ℕ → Cause
@@ -85,6 +100,7 @@ causeBy n = cond (eqb n 12) State (cond (eqb n 16) Queue (cond (eqb n 17) Pointe
 abbrev toRun : Verdict → RunAnswer
 toRun (safe n) = Missed n
 toRun (reachable n k) = Reachable n k
+toRun (pso n k) = Reachable n k
 toRun (refused n k) = cond (eqb n 13) (Missed k) (Stopped k (causeBy n))
 
 list-back : (v : lists.ListVerdict) → toList (ofList v) ≡ v
@@ -101,6 +117,15 @@ run-back (Stopped k Pointer) = refl
 run-back (Stopped k Value) = refl
 run-back (Stopped k Nothing) = refl
 run-back (Missed n) = refl
+
+pso-back : (v : RunAnswer) → toRun (ofPsoRun v) ≡ v
+pso-back (Reachable n k) = refl
+pso-back (Stopped k State) = refl
+pso-back (Stopped k Queue) = refl
+pso-back (Stopped k Pointer) = refl
+pso-back (Stopped k Value) = refl
+pso-back (Stopped k Nothing) = refl
+pso-back (Missed n) = refl
 
 -- the numbers of the causes
 cause-range : (cause : Cause) → (12 ≤ causeNumber cause) × (causeNumber cause ≤ 18) × (causeNumber cause ≡ 14 → ⊥)
@@ -129,10 +154,11 @@ number-step n = ⊎-elim (λ e. (State, sym e)) (λ l. elim (ℕ-discrete 15 n) 
   ]
 ])
 
--- safe and 9 to 11 are said of lists alone, reachable and the numbers from 12 on of runs alone
+-- safe and 9 to 11 are said of lists alone, reachable, pso and the numbers from 12 on of runs alone
 abbrev isRun : Verdict → Bool
 isRun (safe n) = false
 isRun (reachable n k) = true
+isRun (pso n k) = true
 isRun (refused n k) = leb 12 n
 
 list-not : (v : lists.ListVerdict) → isRun (ofList v) ≡ false
@@ -150,20 +176,30 @@ run-is (Stopped k Value) = refl
 run-is (Stopped k Nothing) = refl
 run-is (Missed n) = refl
 
-never-both : (v : lists.ListVerdict) (w : RunAnswer) → ofList v ≡ ofRun w → ⊥
-never-both v w e = subst T (sym (sym (list-not v) ∙ ap isRun e ∙ run-is w)) tt
+pso-is : (v : RunAnswer) → isRun (ofPsoRun v) ≡ true
+pso-is (Reachable n k) = refl
+pso-is (Stopped k State) = refl
+pso-is (Stopped k Queue) = refl
+pso-is (Stopped k Pointer) = refl
+pso-is (Stopped k Value) = refl
+pso-is (Stopped k Nothing) = refl
+pso-is (Missed n) = refl
 
--- neither is a number of the reading
+never-both : (v : lists.ListVerdict) (w : Verdict) → isRun w ≡ true → ofList v ≡ w → ⊥
+never-both v w i e = subst T (sym (sym (list-not v) ∙ ap isRun e ∙ i)) tt
+
+-- and none of them is a number of the reading
+run-high : (w : Verdict) → isRun w ≡ true → 9 ≤ code w
+run-high (safe n) i = absurd (subst T (sym i) tt)
+run-high (reachable n k) i = omega arith
+run-high (pso n k) i = omega arith
+run-high (refused n k) i = omega (arith, leb-true 12 n i)
+
 list-code : (v : lists.ListVerdict) → 9 ≤ code (ofList v)
 list-code (lists.safe n) = omega arith
 list-code (lists.unheld k) = omega arith
 list-code (lists.started k) = omega arith
 list-code (lists.entered k) = omega arith
-
-run-code : (v : RunAnswer) → 9 ≤ code (ofRun v)
-run-code (Reachable n k) = omega arith
-run-code (Stopped k cause) = omega (arith, cause-range cause .0)
-run-code (Missed n) = omega arith
 
 module _ (f : List ℕ) (area : ℕ) where
   abbrev Reads : reading.FileRead → Type 0
@@ -190,12 +226,20 @@ module _ (f : List ℕ) (area : ℕ) where
   run-memory : (P : Program) (ts : List (ℕ → ℕ)) (m : List ℕ) (ss : List Step) → Reads (reading.run P ts m ss) → StartingMemory (P .shape) m
   run-memory P ts m ss q = run-read f area q .permitted
 
+  module _ (P : Program) (ts : List (ℕ → ℕ)) (m : List ℕ) (ss : List Step) (q : Reads (reading.psoRun P ts m ss)) where
+    pub pso-run-range : ProgramInRange P
+    pso-run-range = pso-run-read f area q .part .program
+
+    pso-run-memory : StartingMemory (P .shape) m
+    pso-run-memory = pso-run-read f area q .permitted
+
   file-judged : (r : reading.FileRead) → Reads r → FileJudged r (ofFile r) × ((v : Verdict) → FileJudged r v → v ≡ ofFile r)
   file-judged (reading.refused r) q = (refl, λ v e. e)
   file-judged (reading.list P ts es) q =
       let j = file-list-judged P ts es q in
       ((decision.verdictOf P ts es, j, refl), λ v x. x .2 ∙ ap ofList (verdict-unique P ts es (x .0) (decision.verdictOf P ts es) (x .1) j))
   file-judged (reading.run P ts m ss) q = (refl, λ v e. e)
+  file-judged (reading.psoRun P ts m ss) q = (refl, λ v e. e)
 
   -- what is said of a list, and of a run
 
@@ -212,28 +256,74 @@ module _ (f : List ℕ) (area : ℕ) where
       go (reading.list P ts es) q e =
           let z = sym (list-back (decision.verdictOf P ts es)) ∙ ap toList (sym (judged-as _ q) ∙ e) ∙ list-back v in
           record { program = P; targets = ts; entries = es; reads = q; holds = subst (lists.ListJudged P ts es) z (file-list-judged P ts es q) }
-      go (reading.run P ts m ss) q e = absurd (never-both v (runAnswer P ts m ss) (sym e ∙ judged-as _ q))
+      go (reading.run P ts m ss) q e = absurd (never-both v _ (run-is (runAnswer P ts m ss)) (sym e ∙ judged-as _ q))
+      go (reading.psoRun P ts m ss) q e = absurd (never-both v _ (pso-is (psoRunAnswer P m ts (psoSteps ss))) (sym e ∙ judged-as _ q))
 
-  pub run-said : (v : RunAnswer) → (judged f area ≡ ofRun v) ↔ OfRun f area (λ P ts m ss. RunJudged P ts m ss v)
-  run-said v = (
-    λ e. go (reading.readFile f area) refl e,
-    λ x.
-        judged-as _ (x .reads) ∙ ap ofRun (run-only (x .program) (run-range _ _ _ _ (x .reads)) (x .targets) (x .memory) (run-memory _ _ _ _ (x .reads)) (x .steps) v (x .holds)),
-  )
+  abbrev Run : RunAnswer → Type 0
+  Run v = OfRun f area (λ P ts m ss. RunJudged P ts m ss v)
+
+  abbrev PsoRun : RunAnswer → Type 0
+  PsoRun v = OfPsoRun f area (λ P ts m us. PsoAnswered P m ts us v)
+
+  said-run : (v : RunAnswer) → Run v → judged f area ≡ ofRun v
+  said-run v x =
+      judged-as _ (x .reads) ∙ ap ofRun (run-only (x .program) (run-range _ _ _ _ (x .reads)) (x .targets) (x .memory) (run-memory _ _ _ _ (x .reads)) (x .steps) v (x .holds))
+
+  said-pso : (v : RunAnswer) → PsoRun v → judged f area ≡ ofPsoRun v
+  said-pso v x =
+      judged-as _ (x .reads)
+      ∙ ap ofPsoRun (sym (pso-only (x .program) (pso-run-range _ _ _ _ (x .reads)) (x .memory) (x .targets) (psoSteps (x .records)) v (x .holds)))
+
+  -- w is the verdict of a run with the answer v, in one of the machines
+  one-of-runs : (v : RunAnswer) (w : Verdict) → isRun w ≡ true → toRun w ≡ v → judged f area ≡ w → (Run v × (w ≡ ofRun v)) ⊎ (PsoRun v × (w ≡ ofPsoRun v))
+  one-of-runs v w i b e = go (reading.readFile f area) refl
     where
-      go : (r : reading.FileRead) → Reads r → judged f area ≡ ofRun v → OfRun f area (λ P ts m ss. RunJudged P ts m ss v)
-      go (reading.refused r) q e = absurd (omega (arith, refused-low f area r q .1, run-code v, ap code (sym (judged-as _ q) ∙ e)))
-      go (reading.list P ts es) q e = absurd (never-both (decision.verdictOf P ts es) v (sym (judged-as _ q) ∙ e))
-      go (reading.run P ts m ss) q e =
-          let z = sym (run-back (runAnswer P ts m ss)) ∙ ap toRun (sym (judged-as _ q) ∙ e) ∙ run-back v in
-          record {
-            program = P;
-            targets = ts;
-            memory = m;
-            steps = ss;
-            reads = q;
-            holds = subst (RunJudged P ts m ss) z (run-judged P (run-range P ts m ss q) ts m (run-memory P ts m ss q) ss);
-          }
+      go : (r : reading.FileRead) → Reads r → (Run v × (w ≡ ofRun v)) ⊎ (PsoRun v × (w ≡ ofPsoRun v))
+      go (reading.refused r) q = absurd (omega (arith, refused-low f area r q .1, run-high w i, ap code (sym (judged-as _ q) ∙ e)))
+      go (reading.list P ts es) q = absurd (never-both (decision.verdictOf P ts es) w i (sym (judged-as _ q) ∙ e))
+      go (reading.run P ts m ss) q =
+          let d : ofRun (runAnswer P ts m ss) ≡ w = sym (judged-as _ q) ∙ e in
+          let z : runAnswer P ts m ss ≡ v = sym (run-back (runAnswer P ts m ss)) ∙ ap toRun d ∙ b in
+          inl (
+            record {
+              program = P;
+              targets = ts;
+              memory = m;
+              steps = ss;
+              reads = q;
+              holds = subst (RunJudged P ts m ss) z (run-judged P (run-range P ts m ss q) ts m (run-memory P ts m ss q) ss);
+            },
+            sym d ∙ ap ofRun z,
+          )
+      go (reading.psoRun P ts m ss) q =
+          let d : ofPsoRun (psoRunAnswer P m ts (psoSteps ss)) ≡ w = sym (judged-as _ q) ∙ e in
+          let z : psoRunAnswer P m ts (psoSteps ss) ≡ v = sym (pso-back (psoRunAnswer P m ts (psoSteps ss))) ∙ ap toRun d ∙ b in
+          inr (
+            record {
+              program = P;
+              targets = ts;
+              memory = m;
+              records = ss;
+              reads = q;
+              holds =
+                  subst (PsoAnswered P m ts (psoSteps ss)) z (pso-answered P (pso-run-range P ts m ss q) m ts (psoSteps ss) (pso-run-memory P ts m ss q));
+            },
+            sym d ∙ ap ofPsoRun z,
+          )
+
+  -- a verdict that both machines can give
+  either-said : (v : RunAnswer) (w : Verdict) → w ≡ ofRun v → w ≡ ofPsoRun v → (judged f area ≡ w) ↔ (Run v ⊎ PsoRun v)
+  either-said v w a b = (
+    λ e. ⊎-elim (λ x. inl (x .0)) (λ x. inr (x .0)) (one-of-runs v w (ap isRun a ∙ run-is v) (ap toRun a ∙ run-back v) e),
+    ⊎-elim (λ x. said-run v x ∙ sym a) (λ x. said-pso v x ∙ sym b),
+  )
+
+  -- one that the PWS machine alone gives, and one that the PSO machine alone gives
+  run-said : (v : RunAnswer) → (PsoRun v → ofRun v ≡ ofPsoRun v → ⊥) → (judged f area ≡ ofRun v) ↔ Run v
+  run-said v n = (λ e. ⊎-elim (λ x. x .0) (λ x. absurd (n (x .0) (x .1))) (one-of-runs v (ofRun v) (run-is v) (run-back v) e), said-run v)
+
+  pso-said : (v : RunAnswer) → (ofPsoRun v ≡ ofRun v → ⊥) → (judged f area ≡ ofPsoRun v) ↔ PsoRun v
+  pso-said v n = (λ e. ⊎-elim (λ x. absurd (n (x .1))) (λ x. x .0) (one-of-runs v (ofPsoRun v) (pso-is v) (pso-back v) e), said-pso v)
 
   -- and of the reading
 
@@ -245,7 +335,8 @@ module _ (f : List ℕ) (area : ℕ) where
           let z = sym (judged-as _ q) ∙ e in
           q ∙ ap₂ (λ (a b : ℕ). reading.refused (record { number = a; place = b })) (ap code z) (ap place z)
       go (reading.list P ts es) q e = absurd (omega (arith, l, list-code (decision.verdictOf P ts es), ap code (sym (judged-as _ q) ∙ e)))
-      go (reading.run P ts m ss) q e = absurd (omega (arith, l, run-code (runAnswer P ts m ss), ap code (sym (judged-as _ q) ∙ e)))
+      go (reading.run P ts m ss) q e = absurd (omega (arith, l, run-high _ (run-is (runAnswer P ts m ss)), ap code (sym (judged-as _ q) ∙ e)))
+      go (reading.psoRun P ts m ss) q e = absurd (omega (arith, l, run-high _ (pso-is (psoRunAnswer P m ts (psoSteps ss))), ap code (sym (judged-as _ q) ∙ e)))
 
 -- ---- demand 1
 
@@ -264,6 +355,7 @@ refused8 f area k = (
     placed (reading.refused r) = r .place
     placed (reading.list P ts es) = 0
     placed (reading.run P ts m ss) = 0
+    placed (reading.psoRun P ts m ss) = 0
 
     go : reading.readFile f area ≡ reading.refused (record { number = 8; place = k }) → (area < 65536) × (k ≡ 0)
     go q = elim (decLt area 65536) [
@@ -284,40 +376,78 @@ pub refused11 : Refused11
 refused11 f area k = list-said f area (lists.entered k)
 
 pub refused12 : Refused12
-refused12 f area k = run-said f area (Stopped k State)
+refused12 f area k = either-said f area (Stopped k State) (refused 12 k) refl refl
 
 pub refused16 : Refused16
-refused16 f area k = run-said f area (Stopped k Queue)
+refused16 f area k = either-said f area (Stopped k Queue) (refused 16 k) refl refl
 
 pub refused17 : Refused17
-refused17 f area k = run-said f area (Stopped k Pointer)
+refused17 f area k = run-said f area (Stopped k Pointer) (λ x e. never-pointer (x .program) (x .holds .before) (getD (psoSteps (x .records)) k (RemoveMark 0)) (x .holds .because))
+
+pub no-pointer : NoPointer
+no-pointer f area k x e = let z : _≡_ {A = ℕ} 0 1 = ap machine (sym (refused17 f area k .0 e .reads) ∙ x .reads) in omega arith
+  where
+    machine : reading.FileRead → ℕ
+    machine (reading.refused r) = 0
+    machine (reading.list P ts es) = 0
+    machine (reading.run P ts m ss) = 0
+    machine (reading.psoRun P ts m ss) = 1
 
 pub refused15 : Refused15
-refused15 f area k = run-said f area (Stopped k Value)
+refused15 f area k = either-said f area (Stopped k Value) (refused 15 k) refl refl
 
 pub refused18 : Refused18
-refused18 f area k = run-said f area (Stopped k Nothing)
+refused18 f area k = either-said f area (Stopped k Nothing) (refused 18 k) refl refl
 
 pub refused-step : RefusedStep
 refused-step f area k = (
   λ w.
       let c = number-step (w .0) (w .1) in
-      let x = run-said f area (Stopped k (c .0)) .0 (w .2 ∙ ap (λ (m : ℕ). refused m k) (sym (c .1))) in
-      record {
-        program = x .program;
-        targets = x .targets;
-        memory = x .memory;
-        steps = x .steps;
-        reads = x .reads;
-        holds = stopped-cannot (x .program) (run-range f area _ _ _ _ (x .reads)) (x .targets) (x .memory) (run-memory f area _ _ _ _ (x .reads)) (x .steps) k (c .0) (x .holds);
-      },
-  λ x.
+      ⊎-elim (λ x. inl (run-cannot (c .0) x)) (λ x. inr (pso-cannot (c .0) x))
+      (either-said f area (Stopped k (c .0)) (refused (causeNumber (c .0)) k) refl refl .0 (w .2 ∙ ap (λ (m : ℕ). refused m k) (sym (c .1)))),
+  ⊎-elim
+      (λ x.
       let w = cannot-stopped (x .program) (run-range f area _ _ _ _ (x .reads)) (x .targets) (x .memory) (run-memory f area _ _ _ _ (x .reads)) (x .steps) k (x .holds) in
-      (causeNumber (w .0), step-number (w .0), judged-as f area _ (x .reads) ∙ ap ofRun (w .1)),
+      (causeNumber (w .0), step-number (w .0), judged-as f area _ (x .reads) ∙ ap ofRun (w .1)))
+      (λ x.
+      let w = halts-stopped (x .program) (x .memory) (psoSteps (x .records)) k (x .holds) in (
+        causeNumber (w .0),
+        step-number (w .0),
+        said-pso f area (Stopped k (w .0)) (record {
+          program = x .program;
+          targets = x .targets;
+          memory = x .memory;
+          records = x .records;
+          reads = x .reads;
+          holds = w .1;
+        }),
+      )),
 )
+  where
+    run-cannot : (cause : Cause) → OfRun f area (λ P ts m ss. RunJudged P ts m ss (Stopped k cause)) → OfRun f area (λ P ts m ss. Stops Cannot P m ss k)
+    run-cannot cause x =
+        record {
+          program = x .program;
+          targets = x .targets;
+          memory = x .memory;
+          steps = x .steps;
+          reads = x .reads;
+          holds = stopped-cannot (x .program) (run-range f area _ _ _ _ (x .reads)) (x .targets) (x .memory) (run-memory f area _ _ _ _ (x .reads)) (x .steps) k cause (x .holds);
+        }
+
+    pso-cannot : (cause : Cause) → OfPsoRun f area (λ P ts m us. PsoAnswered P m ts us (Stopped k cause)) → OfPsoRun f area (λ P ts m us. PsoHalts P m us k)
+    pso-cannot cause x =
+        record {
+          program = x .program;
+          targets = x .targets;
+          memory = x .memory;
+          records = x .records;
+          reads = x .reads;
+          holds = stopped-halts (x .program) (x .memory) (psoSteps (x .records)) k cause (x .holds);
+        }
 
 pub refused13 : Refused13
-refused13 f area n = run-said f area (Missed n)
+refused13 f area n = either-said f area (Missed n) (refused 13 n) refl refl
 
 pub no-other : NoOther
 no-other f area n k e = go (reading.readFile f area) refl
@@ -336,6 +466,11 @@ no-other f area n k e = go (reading.readFile f area) refl
         (omega (arith, w .0), omega (arith, w .1), λ q. w .2 (z ∙ q))
     run-most (Missed m) e = let z : 13 ≡ n = ap code e in (omega arith, omega arith, λ q. omega arith)
 
+    pso-most : (v : RunAnswer) → ofPsoRun v ≡ refused n k → (12 ≤ n) × (n ≤ 18) × (n ≡ 14 → ⊥)
+    pso-most (Reachable m j) e = absurd (let z : _≡_ {A = ℕ} _ 2 = ap kind e in omega arith)
+    pso-most (Stopped m cause) e = run-most (Stopped m cause) e
+    pso-most (Missed m) e = run-most (Missed m) e
+
     go : (r : reading.FileRead) → reading.readFile f area ≡ r → (1 ≤ n) × (n ≤ 18) × (n ≡ 14 → ⊥)
     go (reading.refused r) q =
         let w = refused-low f area r q in
@@ -347,6 +482,9 @@ no-other f area n k e = go (reading.readFile f area) refl
     go (reading.run P ts m ss) q =
         let w = run-most (runAnswer P ts m ss) (sym (judged-as f area _ q) ∙ e) in
         (omega (arith, w .0), w .1, w .2)
+    go (reading.psoRun P ts m ss) q =
+        let w = pso-most (psoRunAnswer P m ts (psoSteps ss)) (sym (judged-as f area _ q) ∙ e) in
+        (omega (arith, w .0), w .1, w .2)
 
 -- ---- demand 2
 
@@ -354,7 +492,10 @@ pub accepted-list : AcceptedList
 accepted-list f area n = list-said f area (lists.safe n)
 
 pub accepted-run : AcceptedRun
-accepted-run f area n k = run-said f area (Reachable n k)
+accepted-run f area n k = run-said f area (Reachable n k) (λ x e. let z : _≡_ {A = ℕ} 1 3 = ap kind e in omega arith)
+
+pub accepted-pso-run : AcceptedPsoRun
+accepted-pso-run f area n k = pso-said f area (Reachable n k) (λ e. let z : _≡_ {A = ℕ} 3 1 = ap kind e in omega arith)
 
 -- ---- demand 3
 
@@ -374,7 +515,11 @@ simulated : (P : Program) → ProgramInRange P → Simulated P
 simulated P R c d e oc od B ss t = simulation P R d oc od B t
 
 pub simulation-holds : Simulation
-simulation-holds f area P ts = (λ es q. simulated P (list-range f area P ts es q), λ m ss q. simulated P (run-range f area P ts m ss q))
+simulation-holds f area P ts = (
+  λ es q. simulated P (list-range f area P ts es q),
+  λ m ss q. simulated P (run-range f area P ts m ss q),
+  λ m ss q. simulated P (pso-run-range f area P ts m ss q),
+)
 
 in-range : (f : List ℕ) (P : Program) → ProgramInRange P → CountsOf (P .shape) (countsIn f) → CountsOf (P .shape) (countsIn f) × KeepsRanges P (countsIn f)
 in-range f P R C = (C, keeps-ranges P R (countsIn f) C)
@@ -383,4 +528,5 @@ pub values-in-range : ValuesInRange
 values-in-range f area P ts = (
   λ es q. in-range f P (list-range f area P ts es q) (subst (HasCounts f) q (file-counts f area)),
   λ m ss q. in-range f P (run-range f area P ts m ss q) (subst (HasCounts f) q (file-counts f area)),
+  λ m ss q. in-range f P (pso-run-range f area P ts m ss q) (subst (HasCounts f) q (file-counts f area)),
 )

@@ -1,9 +1,13 @@
 -- From what the reading hands on to the verdict of the file.
 use Prim.Native.Nat.{ℕ, _*_, _-_, _<_, _≤_}
 use mathlib.Core.Path.{_≡_, refl, sym, ap, subst, _∙_}
+use mathlib.Core.Bool.{Bool, true, false, cond}
 use mathlib.Core.List.{List, [], _++_, append-nil}
 use native.Mathlib.Omega.{arith}
 use lib.ListN.{length, take, drop, length-drop, drop-of-length-le}
+use lib.Dec.{eqb}
+use borrow.Author.Tests.{eq-eqb, ne-eqb}
+use Rattle.pws.specs.declared.Step.{Step}
 use Rattle.pws.specs.Program as pws
 use Rattle.program_part.specs.declared.program.Refusal.{Refusal}
 use Rattle.program_part.specs.declared.program.Checked.the-variants.{Fine, Refused}
@@ -14,16 +18,17 @@ use Rattle.whole_file.specs.EvidencePart.{stepsOf, entriesAllowed}
 use Rattle.whole_file.specs.Cube.{configurationOf}
 use Rattle.whole_file.specs.Reading as reading
 use Rattle.by_number.specs.Again.{cubeAt, entriesOf}
+use Rattle.by_number.specs.Contents.{RunRead}
 use Rattle.by_number.proofs.Tables.{table-length}
 use Rattle.by_number.proofs.Rows.{steps-length}
-use Rattle.by_number.proofs.Contents.{list-read, run-read}
+use Rattle.by_number.proofs.Contents.{list-read, run-read, pso-run-read}
 use Rattle.by_number.proofs.Again.{reading-refused, reading-sizes, reading-run, reading-list, reading-count, reading-cube}
-use Rattle.replay.specs.declared.run.RunAnswer.{RunAnswer}
-use Rattle.replay.specs.Answers.{RunOf}
+use Rattle.replay.specs.Answers.{runAnswer}
+use Rattle.psoreplay.specs.Answers.{psoSteps, psoRunAnswer}
 use Rattle.judge.specs.declared.answer.Answer.{Answer}
 use Rattle.judge.specs.declared.answer.Answer.the-variants.{Unread}
 use Rattle.judge.specs.declared.answer.Verdict as declared
-use Rattle.judge.specs.Judge.{Verdict, refused, ofRun, ofFile, judged, usedOf}
+use Rattle.judge.specs.Judge.{Verdict, refused, ofRun, ofPsoRun, ofFile, judged, usedOf}
 use Rattle.judge.specs.Answers.{verdictIn, inC, Answered}
 use Rattle.judge.specs.Ready.{Listed, ListReady, slotsCleared, listSaid}
 use Rattle.judge.proofs.AreaLaws.{few, list-kept}
@@ -38,6 +43,20 @@ short-said f area l = sym (ap ofFile (short-file f area l))
 
 pub answered : (f : List ℕ) (area : ℕ) (a : Answer) (r : declared.Verdict) → r ≡ inC (verdictIn a) → verdictIn a ≡ judged f area → Answered f area r × (r ≡ inC (judged f area))
 answered f area a r e d = (record { verdict = judged f area; judged = one-answer f area .0; same = e ∙ ap inC d }, e ∙ ap inC d)
+
+-- ---- the machine of each claim
+
+module _ (claim : ℕ) (P : pws.Program) (ts : List (ℕ → ℕ)) (m : List ℕ) (ss : List Step) where
+  pub run-claimed : claim ≡ 1 → ofRun (runAnswer P ts m ss) ≡ ofFile (reading.runRead claim P ts m ss)
+  run-claimed e = rw (eq-eqb claim 1 e)
+
+  pub pso-claimed : (claim ≡ 1 → ⊥) → ofPsoRun (psoRunAnswer P m ts (psoSteps ss)) ≡ ofFile (reading.runRead claim P ts m ss)
+  pso-claimed e = rw (ne-eqb claim 1 e)
+
+either-read : (f : List ℕ) (area : ℕ) (b : Bool) {P : pws.Program} {ts : List (ℕ → ℕ)} {m : List ℕ} {ss : List Step}
+    → reading.readFile f area ≡ cond b (reading.run P ts m ss) (reading.psoRun P ts m ss) → RunRead P ts m ss
+either-read f area true e = run-read f area e
+either-read f area false e = pso-run-read f area e
 
 module _ (f w : List ℕ) (R : Reading) (r : R ≡ reading.readingOf (reading.partsOf f (length w))) where
   abbrev p : Program
@@ -100,12 +119,11 @@ module _ (f w : List ℕ) (R : Reading) (r : R ≡ reading.readingOf (reading.pa
             list-kept (length w) work w (last ++ drop (length work - 16384) (drop 16384 work)) y (omega arith)
             (ap (λ (t : List ℕ). drop (12 * entriesAllowed (length w)) (last ++ t)) none ∙ ap (drop (12 * entriesAllowed (length w))) (append-nil last) ∙ k)
 
-    pub run-said : (R .contents .claim ≡ 0 → ⊥) → (x : RunAnswer) (lower : ℕ) → lower ≡ 16384
-        → (pws.ProgramInRange (programOf f p) → n ≤ 1024 → lower ≡ 16384 → RunOf x (programOf f p) (targetsOf f p) (R .contents .memory) (stepsOf f (R .contents .evidence .at) n))
-        → (v : Verdict) → v ≡ ofRun x → v ≡ judged f (length w)
-    run-said c x lower l h v e =
+    pub run-said : (R .contents .claim ≡ 0 → ⊥) → (v : Verdict) (lower : ℕ) → lower ≡ 16384
+        → (pws.ProgramInRange (programOf f p) → n ≤ 1024 → lower ≡ 16384
+        → v ≡ ofFile (reading.runRead (R .contents .claim) (programOf f p) (targetsOf f p) (R .contents .memory) (stepsOf f (R .contents .evidence .at) n)))
+        → v ≡ judged f (length w)
+    run-said c v lower l h =
         let s = reading-run f w R r q c in
-        let L = run-read f (length w) s in
-        e
-        ∙ ap ofRun (h (L .part .program) (omega (arith, L .count, steps-length f (R .contents .evidence .at) n)) l .answer)
-        ∙ judged-of _ s
+        let L = either-read f (length w) (eqb (R .contents .claim) 1) s in
+        h (L .part .program) (omega (arith, L .count, steps-length f (R .contents .evidence .at) n)) l ∙ judged-of _ s

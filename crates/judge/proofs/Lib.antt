@@ -1,6 +1,7 @@
 pub mod Numbers
 pub mod StepCauses
 pub mod Runs
+pub mod PsoRuns
 pub mod Demands
 pub mod PsoDemands
 pub mod Cases

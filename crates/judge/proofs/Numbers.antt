@@ -64,7 +64,7 @@ use Rattle.whole_file.specs.EvidencePart.{
   entryThen,
   entriesFrom,
 }
-use Rattle.whole_file.specs.Reading.{Evidence, refusal, entries, steps, claimThen, evidenceFrom, runEvidence, twoParts, partsOf, FileRead, refused, list, run, listRead, partsRead, readFile}
+use Rattle.whole_file.specs.Reading.{Evidence, refusal, entries, steps, claimThen, evidenceFrom, runEvidence, twoParts, partsOf, FileRead, refused, list, run, psoRun, listRead, partsRead, readFile}
 use Rattle.whole_file.proofs.ReadingLaws.{parts-short, parts-refused, parts-both}
 
 -- ---- what a refusal is
@@ -90,12 +90,13 @@ LowEntry (bad r) = Low r
 abbrev LowEvidence : Evidence → Type 0
 LowEvidence (refusal r) = Low r
 LowEvidence (entries r) = LowChecked (r .answer)
-LowEvidence (steps m n) = LowCounted n
+LowEvidence (steps claim m n) = LowCounted n
 
 abbrev LowFile : FileRead → Type 0
 LowFile (refused r) = Low r
 LowFile (list P ts es) = Unit {0}
 LowFile (run P ts m ss) = Unit {0}
+LowFile (psoRun P ts m ss) = Unit {0}
 
 -- ---- cases
 
@@ -234,9 +235,9 @@ claim-then : (x : Checked) (y : Unit {0} → Evidence) → LowChecked x → LowE
 claim-then Fine y h k = k
 claim-then (Refused r) y h k = h
 
-run-low : (f : List ℕ) (at : ℕ) (p : Program) → LowEvidence (runEvidence f at p)
+run-low : (f : List ℕ) (claim at : ℕ) (p : Program) → LowEvidence (runEvidence f claim at p)
 unfolding runEvidence startNumber
-run-low f at p =
+run-low f claim at p =
     claim-then (unlessEnd f at (checked (startNumber (p .shape) f at) at)) _ (unless-low f at _ (checked-low (startNumber (p .shape) f at) at (first-low _ _ _ _ _)))
     (steps-low _ _ f _)
 
@@ -244,7 +245,7 @@ evidence-low : (f : List ℕ) (at : ℕ) (p : Program) (area : ℕ) → LowEvide
 unfolding evidenceFrom claimNumber
 evidence-low f at p area =
     claim-then (unlessEnd f at (checked (claimNumber f at) at)) _ (unless-low f at _ (checked-low (claimNumber f at) at (first-low _ _ _ _ _)))
-    (each-choice LowEvidence (eqb (byte f (at + 1)) 0) _ _ (entries-low _ _ _ f _ [] []) (run-low f _ p))
+    (each-choice LowEvidence (eqb (byte f (at + 1)) 0) _ _ (entries-low _ _ _ f _ [] []) (run-low f _ _ p))
 
 -- ---- the whole reading
 
@@ -260,8 +261,8 @@ evidence-file f p (entries r) h = go (r .answer) h
     go : (x : Checked) → LowChecked x → LowFile (listRead f p x r)
     go Fine h = tt
     go (Refused q) h = h
-evidence-file f p (steps m (Records n)) h = tt
-evidence-file f p (steps m (Stopped r)) h = h
+evidence-file f p (steps claim m (Records n)) h = each-cond LowFile (eqb claim 1) _ _ tt tt
+evidence-file f p (steps claim m (Stopped r)) h = h
 
 pub file-low : (f : List ℕ) (area : ℕ) → 65536 ≤ area → LowFile (readFile f area)
 unfolding readFile
@@ -285,6 +286,7 @@ refused-low f area r e = elim (decLt area 65536) [
     numberOf (refused r) = r .number
     numberOf (list P ts es) = 0
     numberOf (run P ts m ss) = 0
+    numberOf (psoRun P ts m ss) = 0
 
 pub refused-large : (f : List ℕ) (area : ℕ) (r : Refusal) → readFile f area ≡ refused r → 65536 ≤ area → r .number ≤ 7
 refused-large f area r e l = let z : Low r = subst LowFile e (file-low f area l) in z .1

@@ -2,8 +2,9 @@
 use Rattle.lists.specs.Verdict.{target}
 use Rattle.lists.proofs.Verdict.{safe-visited}
 use Rattle.equivalence.proofs.Reachability.{permitted-start, start-of, visited-takes, takes-visited, same-reachability}
-use Rattle.judge.specs.PsoDemands.{PsoSafety, PsoReachability}
-use Rattle.judge.proofs.Demands.{list-range, run-range, accepted-list, accepted-run}
+use Rattle.psoreplay.specs.Answers.{psoSteps}
+use Rattle.judge.specs.PsoDemands.{PsoSafety, PsoReachability, PwsReachability}
+use Rattle.judge.proofs.Demands.{list-range, run-range, pso-run-range, accepted-list, accepted-run, accepted-pso-run}
 
 pub pso-safety : PsoSafety
 pso-safety f area n e =
@@ -45,4 +46,20 @@ pso-reachability f area n k e =
             takes = r .takes;
             reached = r .met;
           });
+    }
+
+pub pws-reachability : PwsReachability
+pws-reachability f area n k e =
+    let x = accepted-pso-run f area n k .0 e in
+    let P = x .program in
+    let R = pso-run-range f area P (x .targets) (x .memory) (x .records) (x .reads) in
+    let r = x .holds in
+    record {
+      program = P;
+      targets = x .targets;
+      memory = x .memory;
+      records = x .records;
+      reads = x .reads;
+      holds = same-reachability P R (x .memory) (target (x .targets) k) .1
+          (record { first = r .start; starts = r .permitted; steps = psoSteps (x .records); last = r .end; takes = r .takes; reached = r .met });
     }

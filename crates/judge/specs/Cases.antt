@@ -1,11 +1,11 @@
--- The worked cases A to K of document 01 ("Judged files"), with the causes, starting memories and shapes of document 02 (N1, N3, N5), and
--- small examples of the refusal table, as one table with one statement. Files are rows of bytes, K is two facts about queues. Bytes are in
+-- The worked cases A to K of document 01 ("Judged files"), with the causes, starting memories and shapes of document 02 (N1, N3, N5), runs of the
+-- PSO machine (N7), and small examples of the refusal table, as one table with one statement. Files are rows of bytes, K is two facts about queues. Bytes are in
 -- decimal: 15 is 0F, 16 to 18 are 10 to 12, 31 is 1F, 32 to 34 are 20 to 22, 255 is FF.
 use Prim.Native.Nat.{ℕ, zero, suc, _≤_}
 use mathlib.Core.Path.{_≡_}
 use mathlib.Core.List.{List, [], _∷_, _++_}
 use Rattle.pws.specs.Order.{QueueBelow}
-use Rattle.judge.specs.Judge.{Verdict, safe, reachable, refused, judged}
+use Rattle.judge.specs.Judge.{Verdict, safe, reachable, pso, refused, judged}
 
 -- ---- rows and what they say
 
@@ -58,6 +58,10 @@ starting x = 31 ∷ x ∷ 0 ∷ 0 ∷ 0 ∷ []
 abbrev pub fromZeros : List ℕ
 fromZeros = claim 1 ++ starting 0
 
+-- the same, of the PSO machine
+abbrev pub psoFromZeros : List ℕ
+psoFromZeros = claim 2 ++ starting 0
+
 -- an entry of one process, whose pointer is 1
 abbrev pub entry : ℕ → List ℕ
 entry q = 16 ∷ q ∷ 0 ∷ 0 ∷ 0 ∷ 1 ∷ 0 ∷ 0 ∷ 0 ∷ []
@@ -80,6 +84,13 @@ serialise p v = 33 ∷ p ∷ v ∷ []
 
 abbrev pub update : ℕ → List ℕ
 update p = 34 ∷ p ∷ []
+
+-- under claim 2 a 21 is an update of a variable, and a 22 removes a mark
+abbrev pub updateVariable : ℕ → ℕ → List ℕ
+updateVariable = serialise
+
+abbrev pub removeMark : ℕ → List ℕ
+removeMark = update
 
 -- ---- files
 
@@ -118,6 +129,14 @@ abbrev pub programJ : List ℕ
 programJ =
     1 ∷ 2 ∷ 2 ∷ 2 ∷ 2 ∷ 0 ∷ 0 ∷ 2 ∷ 4 ∷ 0 ∷ 2 ∷ 3 ∷ 0 ∷ []
     ++ goes 0 0 2 0 1 1 ++ goes 0 1 4 0 0 2 ++ goes 0 2 2 1 1 3 ++ goes 1 0 1 1 1 1 ++ goes 1 1 1 0 0 2 ++ target 3 2
+
+-- store buffering: each process writes 1 to its own variable and reads 0 in the other's
+abbrev pub buffering : List ℕ
+buffering = twoProcesses ++ goes 0 0 2 0 1 1 ++ goes 0 1 1 1 0 2 ++ goes 1 0 2 1 1 1 ++ goes 1 1 1 0 0 2 ++ target 2 2
+
+-- an sfence, then an arw
+abbrev pub marked : List ℕ
+marked = single ++ goes 0 0 4 0 0 1 ++ goes 0 1 5 0 0 2 ++ target 2 0
 
 -- one process writes 1; then it may read 1, read 0, or pass an sfence or an mfence
 abbrev pub programH : List ℕ
@@ -210,4 +229,25 @@ cases =
     -- of one value, FF and 0 are the same
     ∷ file (smallOf 1 ++ target 1 0 ++ claim 0 ++ fourOf 0) (safe 4)
     ∷ file (smallOf 2 ++ target 1 0 ++ claim 0 ++ fourOf 0) (refused 9 0)
+    -- runs of the PSO machine (document 02, N7): G and store buffering; J, whose sfence is permitted and keeps the writes in order
+    ∷ file (programG ++ psoFromZeros ++ takeStep 0 ++ takeStep 1 ++ updateVariable 0 1 ++ takeStep 2 ++ takeStep 3) (pso 5 0)
+    ∷ file (buffering ++ psoFromZeros ++ takeStep 0 ++ takeStep 1 ++ takeStep 2 ++ takeStep 3) (pso 4 0)
+    ∷ file (programJ ++ psoFromZeros ++ takeStep 0 ++ takeStep 1 ++ takeStep 2 ++ updateVariable 0 0 ++ removeMark 0 ++ updateVariable 0 1 ++ takeStep 3 ++ takeStep 4) (refused 15 7)
+    -- 12; 15, and a starting memory that has the value; 16: a value for an mfence, and a mark for an arw, which is permitted once it is removed
+    ∷ file (small ++ nop ++ target 1 0 ++ psoFromZeros ++ takeStep 0 ++ takeStep 0) (refused 12 1)
+    ∷ file (programH ++ psoFromZeros ++ takeStep 0 ++ updateVariable 0 0 ++ takeStep 2) (refused 15 2)
+    ∷ file (programN ++ psoFromZeros ++ takeStep 0) (refused 15 0)
+    ∷ file (programN ++ claim 2 ++ starting 1 ++ takeStep 0) (pso 1 0)
+    ∷ file (programH ++ psoFromZeros ++ takeStep 0 ++ takeStep 4) (refused 16 1)
+    ∷ file (marked ++ psoFromZeros ++ takeStep 0 ++ takeStep 1) (refused 16 1)
+    ∷ file (marked ++ psoFromZeros ++ takeStep 0 ++ removeMark 0 ++ takeStep 1) (pso 3 0)
+    -- 18: nothing to update; a mark heads the queue; a mark does not head every queue; 13
+    ∷ file (programH ++ psoFromZeros ++ updateVariable 0 0) (refused 18 0)
+    ∷ file (programJ ++ psoFromZeros ++ takeStep 0 ++ takeStep 1 ++ takeStep 2 ++ updateVariable 0 1) (refused 18 3)
+    ∷ file (programJ ++ psoFromZeros ++ takeStep 0 ++ takeStep 1 ++ removeMark 0) (refused 18 2)
+    ∷ file (small ++ target 1 0 ++ psoFromZeros) (refused 13 0)
+    -- the starting memory is missing, another record stands there; a claim above 2
+    ∷ file (small ++ target 1 0 ++ claim 2) (refused 6 17)
+    ∷ file (small ++ target 1 0 ++ claim 2 ++ takeStep 0) (refused 2 17)
+    ∷ file (small ++ target 1 0 ++ claim 3 ++ starting 0) (refused 4 15)
     ∷ []

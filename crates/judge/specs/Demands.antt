@@ -1,6 +1,6 @@
 -- The demands, as statements about the verdict of a file. The theorems are in proofs/Demands, under the same names in small letters. A
 -- configuration, a step and a sequence of steps are the machine's (pws/specs), with no bound of any kind; `area` is the length of any work area.
--- What the answers say of the PSO machine stands in specs/PsoDemands.
+-- Of a file whose claim is 2 they speak of the PSO machine (pso/specs). What the answers to claims 0 and 1 say of it stands in specs/PsoDemands.
 use Prim.Native.Nat.{ℕ, _<_, _≤_}
 use mathlib.Core.Path.{_≡_}
 use mathlib.Core.Logic.{_↔_, _⊎_}
@@ -21,7 +21,10 @@ use Rattle.pws.specs.Ranges.{CountsOf, KeepsRanges}
 use Rattle.lists.specs.Verdict.{target, SafeList, Unheld, Started, Entered}
 use Rattle.program_part.specs.Bytes.{byte}
 use Rattle.whole_file.specs.Reading as reading
-use Rattle.judge.specs.Judge.{Verdict, safe, reachable, refused, Judged, judged}
+use Rattle.replay.specs.declared.step.Cause.the-variants.{State, Queue, Value, Nothing}
+use Rattle.psoreplay.specs.Answers.{PsoReached, PsoStopped, PsoMissed}
+use Rattle.judge.specs.Judge.{Verdict, safe, reachable, pso, refused, Judged, judged}
+use Rattle.judge.specs.PsoRuns.{OfPsoRun, PsoHalts}
 
 -- ---- what the bytes of a file give
 
@@ -178,30 +181,47 @@ Refused10 = (f : List ℕ) (area k : ℕ) → (judged f area ≡ refused 10 k) �
 abbrev pub Refused11 : Type 0
 Refused11 = (f : List ℕ) (area k : ℕ) → (judged f area ≡ refused 11 k) ↔ OfList f area (λ P ts es. Entered P ts es k)
 
--- 12, 16, 17, 15 and 18: the machine takes the steps before number k, and step k fails for this reason first
+-- 12, 16, 17, 15 and 18: the machine takes the steps before number k, and step k fails for this reason first. A run of either machine gets
+-- them, but for 17, of which the PSO machine knows nothing.
 abbrev pub Refused12 : Type 0
-Refused12 = (f : List ℕ) (area k : ℕ) → (judged f area ≡ refused 12 k) ↔ OfRun f area (λ P ts m ss. Stops OtherState P m ss k)
+Refused12 =
+    (f : List ℕ) (area k : ℕ) → (judged f area ≡ refused 12 k)
+    ↔ (OfRun f area (λ P ts m ss. Stops OtherState P m ss k) ⊎ OfPsoRun f area (λ P ts m us. PsoStopped P m us k State))
 
 abbrev pub Refused16 : Type 0
-Refused16 = (f : List ℕ) (area k : ℕ) → (judged f area ≡ refused 16 k) ↔ OfRun f area (λ P ts m ss. Stops QueueWaits P m ss k)
+Refused16 =
+    (f : List ℕ) (area k : ℕ) → (judged f area ≡ refused 16 k)
+    ↔ (OfRun f area (λ P ts m ss. Stops QueueWaits P m ss k) ⊎ OfPsoRun f area (λ P ts m us. PsoStopped P m us k Queue))
 
 abbrev pub Refused17 : Type 0
 Refused17 = (f : List ℕ) (area k : ℕ) → (judged f area ≡ refused 17 k) ↔ OfRun f area (λ P ts m ss. Stops PointerBehind P m ss k)
 
+-- so 17 is never said under claim 2
+abbrev pub NoPointer : Type 0
+NoPointer = (f : List ℕ) (area k : ℕ) → OfPsoRun f area (λ P ts m us. Unit {0}) → judged f area ≡ refused 17 k → ⊥
+
 abbrev pub Refused15 : Type 0
-Refused15 = (f : List ℕ) (area k : ℕ) → (judged f area ≡ refused 15 k) ↔ OfRun f area (λ P ts m ss. Stops OtherValue P m ss k)
+Refused15 =
+    (f : List ℕ) (area k : ℕ) → (judged f area ≡ refused 15 k)
+    ↔ (OfRun f area (λ P ts m ss. Stops OtherValue P m ss k) ⊎ OfPsoRun f area (λ P ts m us. PsoStopped P m us k Value))
 
 abbrev pub Refused18 : Type 0
-Refused18 = (f : List ℕ) (area k : ℕ) → (judged f area ≡ refused 18 k) ↔ OfRun f area (λ P ts m ss. Stops NothingThere P m ss k)
+Refused18 =
+    (f : List ℕ) (area k : ℕ) → (judged f area ≡ refused 18 k)
+    ↔ (OfRun f area (λ P ts m ss. Stops NothingThere P m ss k) ⊎ OfPsoRun f area (λ P ts m us. PsoStopped P m us k Nothing))
 
 -- together: one of them is said of step k exactly when the machine takes the steps before it and cannot take it
 abbrev pub RefusedStep : Type 0
-RefusedStep = (f : List ℕ) (area k : ℕ) → ((n : ℕ) × StepNumber n × (judged f area ≡ refused n k)) ↔ OfRun f area (λ P ts m ss. Stops Cannot P m ss k)
+RefusedStep =
+    (f : List ℕ) (area k : ℕ) → ((n : ℕ) × StepNumber n × (judged f area ≡ refused n k))
+    ↔ (OfRun f area (λ P ts m ss. Stops Cannot P m ss k) ⊎ OfPsoRun f area (λ P ts m us. PsoHalts P m us k))
 
 -- 13
 
 abbrev pub Refused13 : Type 0
-Refused13 = (f : List ℕ) (area n : ℕ) → (judged f area ≡ refused 13 n) ↔ OfRun f area (λ P ts m ss. Misses P ts m ss n)
+Refused13 =
+    (f : List ℕ) (area n : ℕ) → (judged f area ≡ refused 13 n)
+    ↔ (OfRun f area (λ P ts m ss. Misses P ts m ss n) ⊎ OfPsoRun f area (λ P ts m us. PsoMissed P m ts us n))
 
 -- and there is no other number
 abbrev pub NoOther : Type 0
@@ -217,6 +237,10 @@ AcceptedList = (f : List ℕ) (area n : ℕ) → (judged f area ≡ safe n) ↔ 
 abbrev pub AcceptedRun : Type 0
 AcceptedRun = (f : List ℕ) (area n k : ℕ) → (judged f area ≡ reachable n k) ↔ OfRun f area (λ P ts m ss. Reaches P ts m ss n k)
 
+-- claim 2: if and only if the PSO machine does (document 02, N7)
+abbrev pub AcceptedPsoRun : Type 0
+AcceptedPsoRun = (f : List ℕ) (area n k : ℕ) → (judged f area ≡ pso n k) ↔ OfPsoRun f area (λ P ts m us. PsoReached P m ts us n k)
+
 -- ---- demand 3
 
 -- In a file that is accepted as safe, with whatever work area, no sequence of steps, of any length and from any start of any memory, visits a
@@ -227,7 +251,7 @@ Safety = (f : List ℕ) (area n : ℕ) → judged f area ≡ safe n → OfList f
     → ((k : ℕ) → k < length ts → InTarget (P .shape) (target ts k) d → ⊥) × (AboveList (P .shape) es d → ⊥))
 
 -- Of two configurations, one above the other, the upper answers each of any number of steps that the lower takes, in turn, with one or more
--- of its own, and is above it again after each. So for the program of every file that is read as a list, accepted or not, and as a run.
+-- of its own, and is above it again after each. So for the program of every file that is read as a list, accepted or not, and as a run of either machine.
 abbrev pub Simulated : Program → Type 0
 Simulated P = (c d e : Configuration) → ConfigurationOf P c → ConfigurationOf P d → Below (P .shape) c d → (ss : List Step) → Takes P c ss e → Answers P c d ss
 
@@ -236,6 +260,7 @@ Simulation =
     (f : List ℕ) (area : ℕ) (P : Program) (ts : List (ℕ → ℕ))
     → ((es : List Configuration) → reading.readFile f area ≡ reading.list P ts es → Simulated P)
     × ((m : List ℕ) (ss : List Step) → reading.readFile f area ≡ reading.run P ts m ss → Simulated P)
+    × ((m : List ℕ) (ss : List Step) → reading.readFile f area ≡ reading.psoRun P ts m ss → Simulated P)
 
 -- ---- document 02, N5: values in the ranges of their variables
 
@@ -245,9 +270,10 @@ countsIn f = byte f 3 ∷ byte f 4 ∷ byte f 5 ∷ byte f 6 ∷ []
 
 -- Every snapshot and every queue keeps its values in the ranges of these counts: in every step, and so in every configuration that a sequence
 -- of steps, of any length and from any start, visits. So for the program of every file that is read as a list, accepted or
--- not, and as a run.
+-- not, and as a run of either machine.
 abbrev pub ValuesInRange : Type 0
 ValuesInRange =
     (f : List ℕ) (area : ℕ) (P : Program) (ts : List (ℕ → ℕ))
     → ((es : List Configuration) → reading.readFile f area ≡ reading.list P ts es → CountsOf (P .shape) (countsIn f) × KeepsRanges P (countsIn f))
     × ((m : List ℕ) (ss : List Step) → reading.readFile f area ≡ reading.run P ts m ss → CountsOf (P .shape) (countsIn f) × KeepsRanges P (countsIn f))
+    × ((m : List ℕ) (ss : List Step) → reading.readFile f area ≡ reading.psoRun P ts m ss → CountsOf (P .shape) (countsIn f) × KeepsRanges P (countsIn f))

@@ -13,12 +13,15 @@ use Rattle.replay.specs.declared.run.RunAnswer.{RunAnswer}
 use Rattle.replay.specs.declared.run.RunAnswer.the-variants.{Reachable, Stopped, Missed}
 use Rattle.replay.specs.Causes.{causeNumber}
 use Rattle.replay.specs.Answers.{runAnswer}
+use Rattle.psoreplay.specs.Answers.{psoSteps, psoRunAnswer}
 
 pub data Verdict : Type 0 where
   -- the number of entries
   safe : ℕ → Verdict
   -- the number of steps, and the lowest number of a target met by the last local states
   reachable : ℕ → ℕ → Verdict
+  -- the same, of a run of the PSO machine (document 02, N7)
+  pso : ℕ → ℕ → Verdict
   -- number and place
   refused : ℕ → ℕ → Verdict
 
@@ -35,14 +38,20 @@ ofRun (Reachable n k) = reachable n k
 ofRun (Stopped k cause) = refused (causeNumber cause) k
 ofRun (Missed n) = refused 13 n
 
+abbrev pub ofPsoRun : RunAnswer → Verdict
+ofPsoRun (Reachable n k) = pso n k
+ofPsoRun (Stopped k cause) = refused (causeNumber cause) k
+ofPsoRun (Missed n) = refused 13 n
+
 -- ---- the verdict
 
 -- A refused reading ends the judgement with its number and place. Of a list is said what is true of it over all configurations; a run is
--- replayed.
+-- replayed in its machine.
 abbrev pub FileJudged : reading.FileRead → Verdict → Type 0
 FileJudged (reading.refused r) v = v ≡ refused (r .number) (r .place)
 FileJudged (reading.list P ts es) v = (l : lists.ListVerdict) × lists.ListJudged P ts es l × (v ≡ ofList l)
 FileJudged (reading.run P ts m ss) v = v ≡ ofRun (runAnswer P ts m ss)
+FileJudged (reading.psoRun P ts m ss) v = v ≡ ofPsoRun (psoRunAnswer P m ts (psoSteps ss))
 
 -- v is the verdict of the file f, with a work area of so many bytes
 unfoldable pub Judged : List ℕ → ℕ → Verdict → Type 0
@@ -53,6 +62,7 @@ abbrev pub ofFile : reading.FileRead → Verdict
 ofFile (reading.refused r) = refused (r .number) (r .place)
 ofFile (reading.list P ts es) = ofList (decision.verdictOf P ts es)
 ofFile (reading.run P ts m ss) = ofRun (runAnswer P ts m ss)
+ofFile (reading.psoRun P ts m ss) = ofPsoRun (psoRunAnswer P m ts (psoSteps ss))
 
 unfoldable pub judged : List ℕ → ℕ → Verdict
 judged f area = ofFile (reading.readFile f area)

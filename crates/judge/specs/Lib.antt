@@ -1,4 +1,5 @@
 pub mod Judge
+pub mod PsoRuns
 pub mod Demands
 pub mod PsoDemands
 pub mod Cases

@@ -8,7 +8,9 @@ use Rattle.lists.specs.Verdict.{target}
 use Rattle.pso.specs.declared.PsoStep.{PsoStep}
 use Rattle.pso.specs.Machine.{PsoConfiguration}
 use Rattle.pso.specs.Runs.{PsoStart, PsoVisited, PsoInTarget, PsoReachable}
-use Rattle.judge.specs.Judge.{safe, reachable, judged}
+use Rattle.equivalence.specs.Equivalence.{PwsReachable}
+use Rattle.judge.specs.Judge.{safe, reachable, pso, judged}
+use Rattle.judge.specs.PsoRuns.{OfPsoRun}
 use Rattle.judge.specs.Demands.{OfList, OfRun}
 
 -- In a file that is accepted as safe, with whatever work area, no sequence of steps of the PSO machine, of any length and from any
@@ -21,3 +23,7 @@ PsoSafety = (f : List ℕ) (area n : ℕ) → judged f area ≡ safe n → OfLis
 -- In a file that is accepted as reachable, a run of the PSO machine reaches the same target from the file's memory.
 abbrev pub PsoReachability : Type 0
 PsoReachability = (f : List ℕ) (area n k : ℕ) → judged f area ≡ reachable n k → OfRun f area (λ P ts m ss. PsoReachable P m (target ts k))
+
+-- In a file that is accepted under claim 2, a run of the PWS machine reaches the same target from the file's memory.
+abbrev pub PwsReachability : Type 0
+PwsReachability = (f : List ℕ) (area n k : ℕ) → judged f area ≡ pso n k → OfPsoRun f area (λ P ts m us. PwsReachable P m (target ts k))

@@ -1,6 +1,6 @@
 // The answers of the judge, and the verdict as C has it.
 ghost use mathlib.Core.Path.{_≡_};
-ghost use Rattle.judge.specs.Judge.{ofRun};
+ghost use Rattle.judge.specs.Judge.{ofRun, ofPsoRun};
 ghost use Rattle.judge.specs.Answers.{verdictIn, inC};
 use program_part::program::Refusal;
 use replay::run::RunAnswer;
@@ -11,6 +11,7 @@ use replay::step::cause_number;
 pub enum Answer {
     Safe { entries: usize },
     Reachable { steps: usize, target: usize },
+    Pso { steps: usize, target: usize },
     Unread(Refusal),
     Unheld { target: usize },
     Started { entry: usize },
@@ -19,7 +20,7 @@ pub enum Answer {
     Missed { steps: usize },
 }
 
-// kind 0 safe: first is the number of entries. 1 reachable: steps and target. 2 refused: number and place.
+// kind 0 safe: first is the number of entries. 1 reachable: steps and target. 2 refused: number and place. 3 pso: steps and target.
 #[repr(C)]
 pub struct Verdict {
     pub kind: u64,
@@ -51,6 +52,11 @@ pub(crate) fn verdict_of(answer: Answer) -> Verdict
             first: steps as u64,
             second: target as u64,
         },
+        Answer::Pso { steps, target } => Verdict {
+            kind: 3,
+            first: steps as u64,
+            second: target as u64,
+        },
         Answer::Unread(refusal) => refused(refusal.number as u64, refusal.place),
         Answer::Unheld { target } => refused(9, target),
         Answer::Started { entry } => refused(10, entry),
@@ -66,6 +72,23 @@ pub(crate) fn run_answer(answer: RunAnswer) -> Answer
 {
     match answer {
         RunAnswer::Reachable { steps, target } => Answer::Reachable {
+            steps: steps,
+            target: target,
+        },
+        RunAnswer::Stopped { step, cause } => Answer::Stopped {
+            step: step,
+            cause: cause,
+        },
+        RunAnswer::Missed { steps } => Answer::Missed { steps: steps },
+    }
+}
+
+// The answer of a run of the PSO machine.
+pub(crate) fn pso_answer(answer: RunAnswer) -> Answer
+    ensures { λ r. ⌜ verdictIn r ≡ ofPsoRun answer ⌝ }
+{
+    match answer {
+        RunAnswer::Reachable { steps, target } => Answer::Pso {
             steps: steps,
             target: target,
         },

@@ -5,11 +5,16 @@ ghost use Prim.Native.Nat.{_*_, _-_, _≤_};
 ghost use lib.ListN.{length, take, drop, replicate};
 ghost use Rattle.whole_file.specs.EvidencePart.{entriesAllowed};
 ghost use Rattle.summary.specs.Groups.{summarised};
-ghost use Rattle.judge.specs.Judge.{judged, usedOf, areaAfter};
+ghost use Rattle.pws.specs.Program.{ProgramInRange};
+ghost use Rattle.program_part.specs.ProgramPart.{programOf, targetsOf};
+ghost use Rattle.whole_file.specs.EvidencePart.{stepsOf};
+ghost use Rattle.whole_file.specs.Reading.{runRead};
+ghost use Rattle.judge.specs.Judge.{ofFile, judged, usedOf, areaAfter};
 ghost use Rattle.judge.specs.Answers.{verdictIn, inC, Answered};
 ghost use Rattle.judge.specs.Ready.{Ready, ListReady, slotsCleared, listSaid};
 use crate::answer::Answer;
 use crate::answer::Verdict;
+use crate::answer::pso_answer;
 use crate::answer::run_answer;
 use crate::answer::verdict_of;
 use crate::list::list_answer;
@@ -19,9 +24,11 @@ use program_part::program::Checked;
 use program_part::program::Program;
 use program_part::program::Refusal;
 use program_part::program::refusal_of;
+use psoreplay::run::replay_steps;
 use replay::area::clear;
 use replay::run::replay;
 use summary::summarise;
+use whole_file::evidence::Contents;
 use whole_file::evidence::entries_allowed;
 use whole_file::evidence::read;
 
@@ -80,6 +87,20 @@ fn list_judged(file: &[u8], upper: &mut [u8], at: usize, n: usize, program: Prog
     summed_answer(file, upper, at, n, program)
 }
 
+// A run, in the machine of its claim; afterwards the lower part is 0.
+fn run_judged(file: &[u8], contents: Contents, lower: &mut [u8]) -> Answer
+    ensures { λ r. ⌜ now (lower .exit) ≡ replicate (length (now (lower .entry))) 0 ⌝ }
+    ensures { λ r. ⌜ (ProgramInRange (programOf (now (file .entry)) (contents .program)) → contents .evidence .count ≤ 1024 → length (now (lower .entry)) ≡ 16384 → verdictIn r ≡ ofFile (runRead (contents .claim) (programOf (now (file .entry)) (contents .program)) (targetsOf (now (file .entry)) (contents .program)) (contents .memory) (stepsOf (now (file .entry)) (contents .evidence .at) (contents .evidence .count)))) ⌝ }
+{
+    if contents.claim == 1 {
+        return run_answer(replay(file, contents, lower));
+    }
+    let program = contents.program;
+    let memory = contents.memory;
+    let steps = contents.evidence;
+    pso_answer(replay_steps(file, program, memory, steps.at, steps.count, lower))
+}
+
 // The judgement in an area that is large enough. The part of it that the judgement does not use is untouched.
 fn judge_file(file: &[u8], work: &mut [u8]) -> Answer
     requires { ⌜ 65536 ≤ length (now work) ⌝ }
@@ -98,7 +119,7 @@ fn judge_file(file: &[u8], work: &mut [u8]) -> Answer
         let at = summary_place(work.len());
         return list_judged(file, &mut work[16384..], at, entries.count, program);
     }
-    run_answer(replay(file, contents, &mut work[..16384]))
+    run_judged(file, contents, &mut work[..16384])
 }
 
 // The answer for a file. Afterwards the first 16,384 bytes of the work area and twelve for each entry allowed are 0, and the rest is untouched;

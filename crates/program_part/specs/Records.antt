@@ -136,10 +136,10 @@ targetNumber s states f at n = firstNumber (not (isKind f at 4)) (cut f at 4) (l
 abbrev pub stateAt : List ℕ → ℕ → ℕ → ℕ
 stateAt f at p = cond (ltb p 4) (byte f (at + (1 + p))) 0
 
--- ---- 0F: claim 0 safe, 1 reachable
+-- ---- 0F: claim 0 safe, 1 reachable, 2 reachable in the PSO machine (document 02, N7)
 
 unfoldable pub claimNumber : List ℕ → ℕ → ℕ
-claimNumber f at = firstNumber (not (isKind f at 15)) (cut f at 1) false false (not (leb (byte f (at + 1)) 1))
+claimNumber f at = firstNumber (not (isKind f at 15)) (cut f at 1) false false (not (leb (byte f (at + 1)) 2))
 
 -- ---- 1F: the memory that a run starts from, four values (document 02, N3)
 

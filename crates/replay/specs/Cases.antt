@@ -4,7 +4,7 @@ use Prim.Native.Nat.{ℕ}
 use mathlib.Core.Path.{_≡_}
 use mathlib.Core.Option.{Option, none, some}
 use mathlib.Core.List.{List, [], _∷_, _++_}
-use Rattle.whole_file.specs.Reading.{FileRead, refused, list, run, readFile}
+use Rattle.whole_file.specs.Reading.{FileRead, refused, list, run, psoRun, readFile}
 use Rattle.replay.specs.Replay.{RunVerdict, reachable, stopped, missed, runVerdict}
 
 -- ---- rows and what they say
@@ -18,6 +18,7 @@ unfoldable pub ofRun : FileRead → Option RunVerdict
 ofRun (refused r) = none
 ofRun (list P ts es) = none
 ofRun (run P ts m ss) = some (runVerdict P ts m ss)
+ofRun (psoRun P ts m ss) = none
 
 -- with the smallest work area
 unfoldable pub Holds : Row → Type 0

@@ -45,7 +45,7 @@ module _ (f : List ℕ) (at : ℕ) (p : Program) (area : ℕ) where
   unfolding evidenceFrom
   evidence-entries e d = rw (e, eq-eqb (byte f (at + 1)) 0 d)
 
-  pub evidence-run : Claims Fine → (byte f (at + 1) ≡ 0 → ⊥) → evidenceFrom f at p area ≡ runEvidence f (at + 2) p
+  pub evidence-run : Claims Fine → (byte f (at + 1) ≡ 0 → ⊥) → evidenceFrom f at p area ≡ runEvidence f (byte f (at + 1)) (at + 2) p
   unfolding evidenceFrom
   evidence-run e d = rw (e, ne-eqb (byte f (at + 1)) 0 d)
 
@@ -55,15 +55,15 @@ module _ (f : List ℕ) (at : ℕ) (p : Program) (area : ℕ) where
 
 -- ---- a run, from the place after its claim on
 
-module _ (f : List ℕ) (at : ℕ) (p : Program) where
+module _ (f : List ℕ) (claim at : ℕ) (p : Program) where
   abbrev Starts : Checked → Type 0
   Starts x = unlessEnd f at (checked (startNumber (p .shape) f at) at) ≡ x
 
-  pub start-refused : (r : Refusal) → Starts (Refused r) → runEvidence f at p ≡ refusal r
+  pub start-refused : (r : Refusal) → Starts (Refused r) → runEvidence f claim at p ≡ refusal r
   unfolding runEvidence
   start-refused r e = rw e
 
-  pub run-steps : Starts Fine → runEvidence f at p ≡ steps (memoryAt f at) (stepsFrom (p .shape) (p .transitions .count) f (at + 5))
+  pub run-steps : Starts Fine → runEvidence f claim at p ≡ steps claim (memoryAt f at) (stepsFrom (p .shape) (p .transitions .count) f (at + 5))
   unfolding runEvidence
   run-steps e = rw e
 
@@ -72,11 +72,11 @@ module _ (f : List ℕ) (at : ℕ) (p : Program) where
   start-fits e = cut-fits f at 4 (good at (unless-fine f at _ e .1) .whole)
 
 -- no run touches the area
-pub run-area : (f : List ℕ) (p : Program) (w : List ℕ) (at : ℕ) → w ≡ evidenceArea (runEvidence f at p) w
+pub run-area : (f : List ℕ) (p : Program) (w : List ℕ) (claim at : ℕ) → w ≡ evidenceArea (runEvidence f claim at p) w
 unfolding runEvidence
-run-area f p w at = go (unlessEnd f at (checked (startNumber (p .shape) f at) at))
+run-area f p w claim at = go (unlessEnd f at (checked (startNumber (p .shape) f at) at))
   where
-    go : (x : Checked) → w ≡ evidenceArea (claimThen x (λ _. steps (memoryAt f at) (stepsFrom (p .shape) (p .transitions .count) f (at + 5)))) w
+    go : (x : Checked) → w ≡ evidenceArea (claimThen x (λ _. steps claim (memoryAt f at) (stepsFrom (p .shape) (p .transitions .count) f (at + 5)))) w
     go Fine = refl
     go (Refused r) = refl
 

@@ -1,4 +1,4 @@
--- The evidence part of a file, from a place in it on: one 0F; then entries (claim 0) or steps (claim 1) to the file's end (document 01,
+-- The evidence part of a file, from a place in it on: one 0F; then entries (claim 0) or steps (claims 1 and 2) to the file's end (document 01,
 -- "Records" and the refusal table).
 use Prim.Native.Nat.{ℕ, zero, suc, _+_, _*_, _-_, _/_, min}
 use mathlib.Core.Bool.{Bool, true, false, cond, _&&_, _||_, not}

@@ -28,26 +28,26 @@ use Rattle.whole_file.specs.Tally.{countOf}
 pub data Evidence : Type 0 where
   refusal : Refusal → Evidence
   entries : EntriesRead → Evidence
-  -- the memory that the run starts from, and its steps
-  steps : List ℕ → Counted → Evidence
+  -- the claim, the memory that the run starts from, and its steps
+  steps : ℕ → List ℕ → Counted → Evidence
 
 abbrev pub claimThen : Checked → (Unit {0} → Evidence) → Evidence
 claimThen Fine x = x tt
 claimThen (Refused r) x = refusal r
 
 -- from `at` on, a 1F and the steps (document 02, N3)
-unfoldable pub runEvidence : List ℕ → ℕ → Program → Evidence
-runEvidence f at p =
+unfoldable pub runEvidence : List ℕ → ℕ → ℕ → Program → Evidence
+runEvidence f claim at p =
     claimThen (unlessEnd f at (checked (startNumber (p .shape) f at) at)) (λ _.
-    steps (memoryAt f at) (stepsFrom (p .shape) (p .transitions .count) f (at + 5)))
+    steps claim (memoryAt f at) (stepsFrom (p .shape) (p .transitions .count) f (at + 5)))
 
--- claim 0: entries; claim 1: a run. `at` is the place of the claim, `area` the work area's length.
+-- claim 0: entries; claims 1 and 2: a run. `at` is the place of the claim, `area` the work area's length.
 unfoldable pub evidenceFrom : List ℕ → ℕ → Program → ℕ → Evidence
 evidenceFrom f at p area =
     claimThen (unlessEnd f at (checked (claimNumber f at) at)) (λ _.
     choose (eqb (byte f (at + 1)) 0)
     (λ _. entries (entriesFrom (entriesAllowed area) (p .shape) (p .states) f (at + 2) [] []))
-    (λ _. runEvidence f (at + 2) p))
+    (λ _. runEvidence f (byte f (at + 1)) (at + 2) p))
 
 pub data Parts : Type 0 where
   noParts : Refusal → Parts
@@ -72,16 +72,22 @@ pub data FileRead : Type 0 where
   list : pws.Program → List (ℕ → ℕ) → List Configuration → FileRead
   -- program, targets, the memory that the run starts from, steps
   run : pws.Program → List (ℕ → ℕ) → List ℕ → List Step → FileRead
+  -- the same, of the PSO machine (document 02, N7)
+  psoRun : pws.Program → List (ℕ → ℕ) → List ℕ → List Step → FileRead
 
 abbrev pub listRead : List ℕ → Program → Checked → EntriesRead → FileRead
 listRead f p Fine r = list (programOf f p) (targetsOf f p) (r .entries)
 listRead f p (Refused q) r = refused q
 
+-- claim 1 or claim 2
+abbrev pub runRead : ℕ → pws.Program → List (ℕ → ℕ) → List ℕ → List Step → FileRead
+runRead claim P ts m ss = cond (eqb claim 1) (run P ts m ss) (psoRun P ts m ss)
+
 abbrev pub evidenceRead : List ℕ → Program → Evidence → FileRead
 evidenceRead f p (refusal r) = refused r
 evidenceRead f p (entries r) = listRead f p (r .answer) r
-evidenceRead f p (steps m (Records n)) = run (programOf f p) (targetsOf f p) m (stepsOf f (p .claim + 2 + 5) n)
-evidenceRead f p (steps m (Stopped r)) = refused r
+evidenceRead f p (steps claim m (Records n)) = runRead claim (programOf f p) (targetsOf f p) m (stepsOf f (p .claim + 2 + 5) n)
+evidenceRead f p (steps claim m (Stopped r)) = refused r
 
 abbrev pub partsRead : List ℕ → Parts → FileRead
 partsRead f (noParts r) = refused r
@@ -113,7 +119,7 @@ countReading p claim memory at (Stopped r) = readingRefused r
 abbrev pub evidenceReading : Program → Evidence → Reading
 evidenceReading p (refusal r) = readingRefused r
 evidenceReading p (entries r) = countReading p 0 noMemory (p .claim + 2) (countOf r)
-evidenceReading p (steps m n) = countReading p 1 m (p .claim + 2 + 5) n
+evidenceReading p (steps claim m n) = countReading p claim m (p .claim + 2 + 5) n
 
 abbrev pub readingOf : Parts → Reading
 readingOf (noParts r) = readingRefused r
@@ -126,7 +132,7 @@ listArea offsets w = take 16384 w ++ wroteFrom 0 offsets (drop 16384 w)
 abbrev pub evidenceArea : Evidence → List ℕ → List ℕ
 evidenceArea (refusal r) w = w
 evidenceArea (entries r) w = listArea (r .offsets) w
-evidenceArea (steps m n) w = w
+evidenceArea (steps claim m n) w = w
 
 abbrev pub areaRead : Parts → List ℕ → List ℕ
 areaRead (noParts r) w = w

@@ -23,7 +23,7 @@ use program_part::program::unless_end;
 
 // ---- the whole reading
 
-// What a file holds: its program, its claim, and its entries (claim 0), or the memory that a run starts from and its steps (claim 1).
+// What a file holds: its program, its claim, and its entries (claim 0), or the memory that a run starts from and its steps (claims 1 and 2).
 pub struct Contents {
     pub program: Program,
     pub claim: u8,
@@ -98,9 +98,9 @@ pub fn entries_allowed(area: usize) -> usize
 }
 
 // A run, from the place after its claim on.
-fn read_run(file: &[u8], program: Program, at: usize) -> Reading
+fn read_run(file: &[u8], program: Program, claim: u8, at: usize) -> Reading
     requires { ⌜ at ≡ program .claim + 2 ⌝ }
-    ensures { λ r. ⌜ r ≡ evidenceReading program (runEvidence (now (file .entry)) at program) ⌝ }
+    ensures { λ r. ⌜ r ≡ evidenceReading program (runEvidence (now (file .entry)) claim at program) ⌝ }
 {
     let shape = program.shape;
     let start = unless_end(file, at, check_start(file, at, shape));
@@ -111,7 +111,7 @@ fn read_run(file: &[u8], program: Program, at: usize) -> Reading
     let transitions = program.transitions;
     let first = at + 5;
     let taken = steps_from(file, first, shape, transitions.count);
-    reading_with(program, 1, memory, first, taken)
+    reading_with(program, claim, memory, first, taken)
 }
 
 // From the claim on.
@@ -126,14 +126,15 @@ fn read_evidence(file: &[u8], program: Program, work: &mut [u8]) -> Reading
         return reading_refused(refusal_of(claim));
     };
     let shape = program.shape;
-    if field(file, at, 1) == 0 {
+    let said = field(file, at, 1);
+    if said == 0 {
         let states = program.states;
         let most = entries_allowed(work.len());
         let listed = entries_from(file, at + 2, shape, states, most, &mut work[16384..]);
         let none = [0u8; 4];
         return reading_with(program, 0, none, at + 2, listed);
     }
-    read_run(file, program, at + 2)
+    read_run(file, program, said, at + 2)
 }
 
 // The file's contents or the first refusal; the offsets of its entries go into the work area, from byte 16,384 on.

@@ -25,7 +25,7 @@ pub(crate) fn check_claim(file: &[u8], at: usize) -> Checked
             cut(file, at, 1),
             false,
             false,
-            !(field(file, at, 1) <= 1),
+            !(field(file, at, 1) <= 2),
         ),
         at,
     )

@@ -1,10 +1,11 @@
 use Prim.Native.Nat.{_-_}
 use lib.ListN.{take, drop}
 use Rattle.whole_file.proofs.ReadingLaws.{run-area, upper, evidence-refused, evidence-entries, evidence-run, claim-fits}
-use Rattle.whole_file.specs.Reading.{Evidence, noMemory, readingRefused, countReading, evidenceReading, evidenceArea}
+use Rattle.whole_file.specs.Reading.{Evidence, runEvidence, noMemory, readingRefused, countReading, evidenceReading, evidenceArea}
 use Rattle.whole_file.specs.Tally.{countOf}
 use Rattle.whole_file.specs.EvidencePart.{EntriesRead, entriesFrom, entriesAllowed, wroteFrom}
 use Rattle.program_part.specs.ProgramPart.{refusalOf, unlessEnd}
+use Rattle.program_part.specs.Bytes.{byte}
 use Rattle.program_part.specs.Records.{checked, claimNumber}
 use Rattle.program_part.specs.declared.program.Checked.the-variants.{Fine, Refused}
 use lib.ListN.{length}
@@ -67,4 +68,4 @@ read-evidence-spec = tie.close (tie.spec
     -- read-run-requires
     (λ c κs. search needs)
     -- returns-3
-    (λ c. let a = c .before .before .before .before .before .before .before .before .before .before .args in let f = a .file .now in let p = a .program in let w = a .work .now in let e = evidence-run f (p .claim) p (length w) (fine (c .before .before .before .before)) (λ z. c .before .if1 .left (c .before .before .field .ensures ∙ z)) in (c .read-run .ensures ∙ sym (ap (evidenceReading p) e), run-area f p w (p .claim + 2) ∙ sym (ap (λ (x : Evidence). evidenceArea x w) e))))
+    (λ c. let a = c .before .before .before .before .before .before .before .before .before .before .args in let f = a .file .now in let p = a .program in let w = a .work .now in let e = evidence-run f (p .claim) p (length w) (fine (c .before .before .before .before)) (λ z. c .before .if1 .left (c .before .before .field .ensures ∙ z)) in (c .read-run .ensures ∙ ap (λ (k : ℕ). evidenceReading p (runEvidence f k (p .claim + 2) p)) (c .before .before .field .ensures) ∙ sym (ap (evidenceReading p) e), run-area f p w (byte f (p .claim + 1)) (p .claim + 2) ∙ sym (ap (λ (x : Evidence). evidenceArea x w) e))))

@@ -32,14 +32,14 @@ read-run-spec = tie.close (tie.spec
     -- reading-refused-requires
     (λ c κs. search needs)
     -- returns
-    (λ c. let a = c .before .before .before .before .before .before .before .before .args in let f = a .file .now in let p = a .program in let r = c .before .before .enum-told2 .given .0 .0 in let u : unlessEnd f (a .at) (checked (startNumber (p .shape) f (a .at)) (a .at)) ≡ Refused r = sym (ap (unlessEnd f (a .at)) (c .before .before .before .before .before .check-start .ensures)) ∙ sym (c .before .before .before .before .unless-end .ensures) ∙ c .before .before .enum-told2 .given .1 in c .reading-refused .ensures ∙ ap readingRefused (c .before .refusal-of .ensures ∙ ap refusalOf (c .before .before .enum-told2 .given .1)) ∙ sym (ap (evidenceReading p) (start-refused f (a .at) p r u)))
+    (λ c. let a = c .before .before .before .before .before .before .before .before .args in let f = a .file .now in let p = a .program in let r = c .before .before .enum-told2 .given .0 .0 in let u : unlessEnd f (a .at) (checked (startNumber (p .shape) f (a .at)) (a .at)) ≡ Refused r = sym (ap (unlessEnd f (a .at)) (c .before .before .before .before .before .check-start .ensures)) ∙ sym (c .before .before .before .before .unless-end .ensures) ∙ c .before .before .enum-told2 .given .1 in c .reading-refused .ensures ∙ ap readingRefused (c .before .refusal-of .ensures ∙ ap refusalOf (c .before .before .enum-told2 .given .1)) ∙ sym (ap (evidenceReading p) (start-refused f (a .claim) (a .at) p r u)))
     -- memory-at-requires
     (λ c κs. search needs)
     -- add-first
-    (λ c. omega (arith, start-fits (c .before .before .before .before .before .before .before .before .args .file .now) (c .before .before .before .before .before .before .before .before .args .at) (c .before .before .before .before .before .before .before .before .args .program) (fine (c .before .before))))
+    (λ c. omega (arith, start-fits (c .before .before .before .before .before .before .before .before .args .file .now) (c .before .before .before .before .before .before .before .before .args .claim) (c .before .before .before .before .before .before .before .before .args .at) (c .before .before .before .before .before .before .before .before .args .program) (fine (c .before .before))))
     -- steps-from-requires
     (λ c κs. search needs)
     -- reading-with-requires
     (λ c κs. search needs)
     -- returns-2
-    (λ c. let a = c .before .before .before .before .before .before .before .before .before .before .args in let f = a .file .now in let p = a .program in let e = run-steps f (a .at) p (fine (c .before .before .before .before)) in c .reading-with .ensures ∙ ap₂ (λ (m : List ℕ) (n : Counted). countReading p 1 m (a .at + 5) n) (c .before .before .before .memory-at .ensures) (c .before .steps-from .ensures) ∙ ap (λ (k : ℕ). countReading p 1 (memoryAt f (a .at)) (k + 5) (stepsFrom (p .shape) (p .transitions .count) f (a .at + 5))) (c .before .before .before .before .before .before .before .before .before .before .pre) ∙ sym (ap (evidenceReading p) e)))
+    (λ c. let a = c .before .before .before .before .before .before .before .before .before .before .args in let f = a .file .now in let p = a .program in let e = run-steps f (a .claim) (a .at) p (fine (c .before .before .before .before)) in c .reading-with .ensures ∙ ap₂ (λ (m : List ℕ) (n : Counted). countReading p (a .claim) m (a .at + 5) n) (c .before .before .before .memory-at .ensures) (c .before .steps-from .ensures) ∙ ap (λ (k : ℕ). countReading p (a .claim) (memoryAt f (a .at)) (k + 5) (stepsFrom (p .shape) (p .transitions .count) f (a .at + 5))) (c .before .before .before .before .before .before .before .before .before .before .pre) ∙ sym (ap (evidenceReading p) e)))

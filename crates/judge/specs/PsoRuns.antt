@@ -1,0 +1,33 @@
+-- What the bytes of a file give whose claim is 2, and a step that the PSO machine cannot take (document 02, N7). What else the machine does with a run
+-- stands in psoreplay/specs/Answers, why it refuses a step in psoreplay/specs/Causes.
+use Prim.Native.Nat.{ℕ, _<_}
+use mathlib.Core.Path.{_≡_}
+use mathlib.Core.Bool.{false}
+use mathlib.Core.List.{List}
+use lib.ListN.{length, getD, take}
+use Rattle.pws.specs.declared.Step.{Step}
+use Rattle.pws.specs.Program.{Program}
+use Rattle.pso.specs.declared.PsoStep.{PsoStep}
+use Rattle.pso.specs.declared.PsoStep.the-variants.{RemoveMark}
+use Rattle.pso.specs.Machine.{PsoConfiguration, psoMay}
+use Rattle.pso.specs.Runs.{PsoStart, PsoTakes}
+use Rattle.whole_file.specs.Reading as reading
+use Rattle.psoreplay.specs.Answers.{psoSteps}
+
+-- they give a program, targets, a starting memory and steps of the PSO machine, of which F holds
+pub record OfPsoRun (f : List ℕ) (area : ℕ) (F : Program → List (ℕ → ℕ) → List ℕ → List PsoStep → Type 0) : Type 0 where
+  pub program : Program
+  pub targets : List (ℕ → ℕ)
+  pub memory : List ℕ
+  pub records : List Step
+  pub reads : reading.readFile f area ≡ reading.psoRun program targets memory records
+  pub holds : F program targets memory (psoSteps records)
+
+-- from a start with the memory m the machine takes the steps before that of number k, and may not take that one
+pub record PsoHalts (P : Program) (m : List ℕ) (us : List PsoStep) (k : ℕ) : Type 0 where
+  pub exists : k < length us
+  pub start : PsoConfiguration
+  pub permitted : PsoStart P m start
+  pub before : PsoConfiguration
+  pub takes : PsoTakes P start (take k us) before
+  pub cannot : psoMay P before (getD us k (RemoveMark 0)) ≡ false
