@@ -20,10 +20,10 @@ HasCounts f (list P ts es) = CountsOf (P .shape) (shapeAt f 0 .values)
 HasCounts f (run P ts m ss) = CountsOf (P .shape) (shapeAt f 0 .values)
 HasCounts f (psoRun P ts m ss) = CountsOf (P .shape) (shapeAt f 0 .values)
 
-run-counts : (f : List ℕ) {P : pws.Program} {ts : List (ℕ → ℕ)} {m : List ℕ} {ss : List Step} → CountsOf (P .shape) (shapeAt f 0 .values) → (b : Bool)
+run-counts : (f : List ℕ) (P : pws.Program) (ts : List (ℕ → ℕ)) (m : List ℕ) (ss : List Step) → CountsOf (P .shape) (shapeAt f 0 .values) → (b : Bool)
     → HasCounts f (cond b (run P ts m ss) (psoRun P ts m ss))
-run-counts f C true = C
-run-counts f C false = C
+run-counts f P ts m ss C true = C
+run-counts f P ts m ss C false = C
 
 pub file-counts : (f : List ℕ) (area : ℕ) → HasCounts f (readFile f area)
 file-counts f area = go (outcome f area)
@@ -31,4 +31,4 @@ file-counts f area = go (outcome f area)
     go : Outcome f area → HasCounts f (readFile f area)
     go (outcome-refused r a b) = subst (HasCounts f) (sym b) tt
     go (outcome-list L) = subst (HasCounts f) (sym (file-list f area L)) (part-counts f 0 (L .fine))
-    go (outcome-run R) = subst (HasCounts f) (sym (file-run f area R)) (run-counts f (part-counts f 0 (R .fine)) (eqb (byte f (programFrom f 0 .program .claim + 1)) 1))
+    go (outcome-run R) = subst (HasCounts f) (sym (file-run f area R)) (run-counts f _ _ _ _ (part-counts f 0 (R .fine)) (eqb (byte f (programFrom f 0 .program .claim + 1)) 1))

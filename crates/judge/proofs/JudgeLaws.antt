@@ -125,5 +125,6 @@ module _ (f w : List ℕ) (R : Reading) (r : R ≡ reading.readingOf (reading.pa
         → v ≡ judged f (length w)
     run-said c v lower l h =
         let s = reading-run f w R r q c in
-        let L = either-read f (length w) (eqb (R .contents .claim) 1) s in
+        let L : RunRead (programOf f p) (targetsOf f p) (R .contents .memory) (stepsOf f (R .contents .evidence .at) n) =
+        either-read f (length w) (eqb (R .contents .claim) 1) s in
         h (L .part .program) (omega (arith, L .count, steps-length f (R .contents .evidence .at) n)) l ∙ judged-of _ s

@@ -88,7 +88,7 @@ fn list_judged(file: &[u8], upper: &mut [u8], at: usize, n: usize, program: Prog
 }
 
 // A run, in the machine of its claim; afterwards the lower part is 0.
-fn run_judged(file: &[u8], contents: Contents, lower: &mut [u8]) -> Answer
+fn replay_answer(file: &[u8], contents: Contents, lower: &mut [u8]) -> Answer
     ensures { λ r. ⌜ now (lower .exit) ≡ replicate (length (now (lower .entry))) 0 ⌝ }
     ensures { λ r. ⌜ (ProgramInRange (programOf (now (file .entry)) (contents .program)) → contents .evidence .count ≤ 1024 → length (now (lower .entry)) ≡ 16384 → verdictIn r ≡ ofFile (runRead (contents .claim) (programOf (now (file .entry)) (contents .program)) (targetsOf (now (file .entry)) (contents .program)) (contents .memory) (stepsOf (now (file .entry)) (contents .evidence .at) (contents .evidence .count)))) ⌝ }
 {
@@ -119,7 +119,7 @@ fn judge_file(file: &[u8], work: &mut [u8]) -> Answer
         let at = summary_place(work.len());
         return list_judged(file, &mut work[16384..], at, entries.count, program);
     }
-    run_judged(file, contents, &mut work[..16384])
+    replay_answer(file, contents, &mut work[..16384])
 }
 
 // The answer for a file. Afterwards the first 16,384 bytes of the work area and twelve for each entry allowed are 0, and the rest is untouched;

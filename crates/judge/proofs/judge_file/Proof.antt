@@ -13,7 +13,7 @@ use Rattle.judge.proofs.judge_file.Statement.{statement}
 use Rattle.judge.proofs.judge_file.Tie as tie
 use Rattle.judge.proofs.judge_file.Reads as reads
 use Rattle.judge.proofs.judge_file.Lts as lts
-use Rattle.judge.proofs.run_judged.Reads as run-judged-reads
+use Rattle.judge.proofs.replay_answer.Reads as replay-answer-reads
 use Rattle.judge.proofs.list_judged.Reads as list-judged-reads
 use Rattle.judge.proofs.summary_place.Reads as summary-place-reads
 use Rattle.whole_file.proofs.evidence.read.Reads as read-reads
@@ -70,20 +70,20 @@ same-length-2 c = upper-same 16384 (c .before .before .before .before .before .b
 returns-2 : tie.Need-returns-2
 returns-2 c = (list-said (c .before .before .before .before .before .before .before .before .before .before .before .before .before .before .before .before .before .before .args .file .now) (c .before .before .before .before .before .before .before .before .before .before .before .before .before .before .before .before .before .before .args .work .now) (c .before .before .before .before .before .before .before .before .before .before .before .before .before .before .read .result) (c .before .before .before .before .before .before .before .before .before .before .before .before .before .before .read .ensures .0) (c .before .before .before .before .before .before .before .before .before .before .enum-told .given .1) _ (c .before .before .before .before .before .before .before .before .before .before .before .before .before .before .read .ensures .1) (c .before .before .before .before .before .before .before .if1 .taken) _ (upper-part 16384 (c .before .before .before .before .before .before .before .before .before .before .before .before .before .before .read .last .1 .0)) _ (c .before .before .before .before .summary-place .ensures ∙ ap (λ (x : ℕ). 4 * entriesAllowed x) (omega arith)) (c .before .before .before .before .before .before .before .before .before .before .before .before .before .before .before .before .before .before .pre) (omega arith) _ (c .before .before .list-judged .ensures .0), list-area (c .before .before .before .before .before .before .before .before .before .before .before .before .before .before .before .before .before .before .args .file .now) (c .before .before .before .before .before .before .before .before .before .before .before .before .before .before .before .before .before .before .args .work .now) (c .before .before .before .before .before .before .before .before .before .before .before .before .before .before .read .result) (c .before .before .before .before .before .before .before .before .before .before .before .before .before .before .read .ensures .0) (c .before .before .before .before .before .before .before .before .before .before .enum-told .given .1) _ (c .before .before .before .before .before .before .before .before .before .before .before .before .before .before .read .ensures .1) (c .before .before .before .before .before .before .before .if1 .taken) _ (upper-part 16384 (c .before .before .before .before .before .before .before .before .before .before .before .before .before .before .read .last .1 .0)) _ (c .before .before .before .before .summary-place .ensures ∙ ap (λ (x : ℕ). 4 * entriesAllowed x) (omega arith)) (c .before .before .before .before .before .before .before .before .before .before .before .before .before .before .before .before .before .before .pre) (omega arith) (c .before .before .list-judged .ensures .1) (ap (drop (usedOf (length (c .before .before .before .before .before .before .before .before .before .before .before .before .before .before .before .before .before .before .args .work .now)))) (c .before .before .before .before .before .before .before .before .before .before .before .before .before .before .read .ensures .1) ∙ reading-kept (c .before .before .before .before .before .before .before .before .before .before .before .before .before .before .before .before .before .before .args .file .now) (c .before .before .before .before .before .before .before .before .before .before .before .before .before .before .before .before .before .before .args .work .now) (c .before .before .before .before .before .before .before .before .before .before .before .before .before .before .before .before .before .before .pre)))
 
-slice-relend-prefix-run-judged : tie.Need-slice-relend-prefix-run-judged
-slice-relend-prefix-run-judged c = search needs
+slice-relend-prefix-replay-answer : tie.Need-slice-relend-prefix-replay-answer
+slice-relend-prefix-replay-answer c = search needs
 
-slice-aggregate-run-judged : tie.Need-slice-aggregate-run-judged
-slice-aggregate-run-judged c = sym (length-take-le 16384 (c .before .before .before .before .before .before .before .before .read .last .1 .0) (omega (arith, c .before .before .before .before .before .before .before .before .before .before .before .before .pre)))
+slice-aggregate-replay-answer : tie.Need-slice-aggregate-replay-answer
+slice-aggregate-replay-answer c = sym (length-take-le 16384 (c .before .before .before .before .before .before .before .before .read .last .1 .0) (omega (arith, c .before .before .before .before .before .before .before .before .before .before .before .before .pre)))
 
-run-judged-requires : tie.Need-run-judged-requires
-run-judged-requires c κs = search needs
+replay-answer-requires : tie.Need-replay-answer-requires
+replay-answer-requires c κs = search needs
 
 same-length-3 : tie.Need-same-length-3
 same-length-3 c = search needs
 
 returns-3 : tie.Need-returns-3
-returns-3 c = (run-said (c .before .before .before .before .before .before .before .before .before .before .before .before .before .before .before .args .file .now) (c .before .before .before .before .before .before .before .before .before .before .before .before .before .before .before .args .work .now) (c .before .before .before .before .before .before .before .before .before .before .before .read .result) (c .before .before .before .before .before .before .before .before .before .before .before .read .ensures .0) (c .before .before .before .before .before .before .before .enum-told .given .1) (c .before .before .before .before .if1 .left) _ _ (length-take-le 16384 (c .before .before .before .before .before .before .before .before .before .before .before .read .last .1 .0) (omega (arith, c .before .before .before .before .before .before .before .before .before .before .before .before .before .before .before .pre))) (c .before .before .run-judged .ensures .1), replay-kept (length (c .before .before .before .before .before .before .before .before .before .before .before .before .before .before .before .args .work .now)) (c .before .before .before .before .before .before .before .before .before .before .before .read .last .1 .0) (c .before .before .before .before .before .before .before .before .before .before .before .before .before .before .before .args .work .now) _ (ap (drop (usedOf (length (c .before .before .before .before .before .before .before .before .before .before .before .before .before .before .before .args .work .now)))) (c .before .before .before .before .before .before .before .before .before .before .before .read .ensures .1) ∙ reading-kept (c .before .before .before .before .before .before .before .before .before .before .before .before .before .before .before .args .file .now) (c .before .before .before .before .before .before .before .before .before .before .before .before .before .before .before .args .work .now) (c .before .before .before .before .before .before .before .before .before .before .before .before .before .before .before .pre)) (omega (arith, c .before .before .before .before .before .before .before .before .before .before .before .before .before .before .before .pre)) (c .before .before .run-judged .ensures .0))
+returns-3 c = (run-said (c .before .before .before .before .before .before .before .before .before .before .before .before .before .before .before .args .file .now) (c .before .before .before .before .before .before .before .before .before .before .before .before .before .before .before .args .work .now) (c .before .before .before .before .before .before .before .before .before .before .before .read .result) (c .before .before .before .before .before .before .before .before .before .before .before .read .ensures .0) (c .before .before .before .before .before .before .before .enum-told .given .1) (c .before .before .before .before .if1 .left) _ _ (length-take-le 16384 (c .before .before .before .before .before .before .before .before .before .before .before .read .last .1 .0) (omega (arith, c .before .before .before .before .before .before .before .before .before .before .before .before .before .before .before .pre))) (c .before .before .replay-answer .ensures .1), replay-kept (length (c .before .before .before .before .before .before .before .before .before .before .before .before .before .before .before .args .work .now)) (c .before .before .before .before .before .before .before .before .before .before .before .read .last .1 .0) (c .before .before .before .before .before .before .before .before .before .before .before .before .before .before .before .args .work .now) _ (ap (drop (usedOf (length (c .before .before .before .before .before .before .before .before .before .before .before .before .before .before .before .args .work .now)))) (c .before .before .before .before .before .before .before .before .before .before .before .read .ensures .1) ∙ reading-kept (c .before .before .before .before .before .before .before .before .before .before .before .before .before .before .before .args .file .now) (c .before .before .before .before .before .before .before .before .before .before .before .before .before .before .before .args .work .now) (c .before .before .before .before .before .before .before .before .before .before .before .before .before .before .before .pre)) (omega (arith, c .before .before .before .before .before .before .before .before .before .before .before .before .before .before .before .pre)) (c .before .before .replay-answer .ensures .0))
 
 pub judge-file-spec : {M : Type 1} → statement M
 judge-file-spec =
@@ -102,8 +102,8 @@ judge-file-spec =
     list-judged-requires
     same-length-2
     returns-2
-    slice-relend-prefix-run-judged
-    slice-aggregate-run-judged
-    run-judged-requires
+    slice-relend-prefix-replay-answer
+    slice-aggregate-replay-answer
+    replay-answer-requires
     same-length-3
     returns-3)
