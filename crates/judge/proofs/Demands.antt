@@ -335,8 +335,8 @@ module _ (f : List ℕ) (area : ℕ) where
           let z = sym (judged-as _ q) ∙ e in
           q ∙ ap₂ (λ (a b : ℕ). reading.refused (record { number = a; place = b })) (ap code z) (ap place z)
       go (reading.list P ts es) q e = absurd (omega (arith, l, list-code (decision.verdictOf P ts es), ap code (sym (judged-as _ q) ∙ e)))
-      go (reading.run P ts m ss) q e = absurd (omega (arith, l, run-high _ (run-is (runAnswer P ts m ss)), ap code (sym (judged-as _ q) ∙ e)))
-      go (reading.psoRun P ts m ss) q e = absurd (omega (arith, l, run-high _ (pso-is (psoRunAnswer P m ts (psoSteps ss))), ap code (sym (judged-as _ q) ∙ e)))
+      go (reading.run P ts m ss) q e = absurd (omega (arith, l, run-high (ofRun (runAnswer P ts m ss)) (run-is (runAnswer P ts m ss)), ap code (sym (judged-as _ q) ∙ e)))
+      go (reading.psoRun P ts m ss) q e = absurd (omega (arith, l, run-high (ofPsoRun (psoRunAnswer P m ts (psoSteps ss))) (pso-is (psoRunAnswer P m ts (psoSteps ss))), ap code (sym (judged-as _ q) ∙ e)))
 
 -- ---- demand 1
 

@@ -22,4 +22,4 @@ replay-answer-spec = tie.close (tie.spec
     -- same-length-2
     (λ c. search needs)
     -- returns-2
-    (λ c. let e = c .before .before .before .replay-steps .ensures in (e .1 .0, λ R few room. c .pso-answer .ensures ∙ ap ofPsoRun (e .1 .1 R few room) ∙ pso-claimed _ _ _ _ _ (c .before .before .before .before .before .if1 .left))))
+    (λ c. let e = c .before .before .before .replay-steps .ensures in (e .1 .0, λ R few room. c .pso-answer .ensures ∙ ap ofPsoRun (e .1 .1 R few room) ∙ pso-claimed _ _ _ _ _ (c .before .before .before .before .before .before .before .before .if1 .left))))
