@@ -161,6 +161,7 @@ fn main() {
     );
     let runs = |time: f64| format!("{:.0} runs/s", 1.0 / time);
     bench.row("run of 1,024 steps, least area", &bench.times("run", &inputs::long_run(), Area::Least), &runs);
+    bench.row("PSO run of 1,024 steps, least area", &bench.times("pso", &inputs::long_pso_run(), Area::Least), &runs);
     bench.row("empty file, least area", &bench.times("empty", &[], Area::Least), &duration);
 
     println!();

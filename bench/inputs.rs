@@ -3,7 +3,7 @@
 use crate::search::closed_list;
 use crate::seeded::Random;
 use reference::cubes::least;
-use reference::{writing, Configuration, Operation, Program, Run, Step, Transition, FF};
+use reference::{writing, Configuration, Machine, Operation, Program, Run, Step, Transition, FF};
 
 pub fn thousands(n: usize) -> String {
     if n < 1_000 {
@@ -171,7 +171,33 @@ pub fn long_run() -> Vec<u8> {
         Step::Transition(3),
         Step::Update(0),
     ];
-    writing::run_file(&program, &Run { memory: [0; 4], steps: round.repeat(128) })
+    writing::run_file(&program, &Run { machine: Machine::Pws, memory: [0; 4], steps: round.repeat(128) })
+}
+
+/// A run of 1,024 steps of the PSO machine: process 0 writes and fences, process 1 writes and reads, with their updates and removals.
+pub fn long_pso_run() -> Vec<u8> {
+    let mut program = shape(2, 2, vec![2, 3]);
+    for (process, from, operation, to) in [
+        (0, 0, Operation::Write { variable: 0, value: 1 }, 1),
+        (0, 1, Operation::Sfence, 0),
+        (1, 0, Operation::Write { variable: 1, value: 1 }, 1),
+        (1, 1, Operation::Read { variable: 1, value: 1 }, 2),
+        (1, 2, Operation::Read { variable: 0, value: 1 }, 0),
+    ] {
+        program.transitions.push(Transition { process, from, operation, to });
+    }
+    program.targets.push([0, 0, 0, 0]);
+    let round = [
+        Step::Transition(0),
+        Step::Transition(1),
+        Step::Serialise(0, 0),
+        Step::Update(0),
+        Step::Transition(2),
+        Step::Serialise(1, 1),
+        Step::Transition(3),
+        Step::Transition(4),
+    ];
+    writing::run_file(&program, &Run { machine: Machine::Pso, memory: [0; 4], steps: round.repeat(128) })
 }
 
 /// Reading alone: as many entries as can be, and a last record that is refused.

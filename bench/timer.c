@@ -41,7 +41,7 @@ int main(int count, char **words)
         if (taken < least)
             least = taken;
     } while (all < enough);
-    static const char *const kinds[] = {"safe", "reachable", "refused"};
+    static const char *const kinds[] = {"safe", "reachable", "refused", "pso"};
     printf("%" PRIu64 " %s %" PRIu64, least, kinds[v.kind], v.first);
     if (v.kind != HRAFNOLT_SAFE)
         printf(" %" PRIu64, v.second);

@@ -1,5 +1,6 @@
-/* hrafnolt-dot FILE: the drawing of a run, in the DOT graph language, on standard output. FILE is an evidence file whose claim is 1, or
- * bare step records.
+/* hrafnolt-dot FILE: the drawing of a run, in the DOT graph language, on standard output. FILE is an evidence file whose claim is 1 or 2,
+ * or bare step records. In a run of claim 2, s01 is the PSO machine's update of process 0 and variable 1, and u0 the removal of process 0's
+ * mark.
  * hrafnolt-dot -r FILE: a drawing back to step records, on standard output.
  * FILE may be `-`, standard input.
  * Exit status: 0 if it was written, 1 if the file is refused (`FILE: refused NUMBER PLACE` on standard error, the place counted in
@@ -12,7 +13,7 @@
 #include <stdlib.h>
 #include <string.h>
 
-static const char usage[] = "usage: hrafnolt-dot FILE     the drawing of a run (an evidence file whose claim is 1, or bare steps)\n"
+static const char usage[] = "usage: hrafnolt-dot FILE     the drawing of a run (an evidence file whose claim is 1 or 2, or bare steps)\n"
                             "       hrafnolt-dot -r FILE  a drawing back to step records\n"
                             "FILE may be -, standard input.\n";
 
@@ -54,9 +55,9 @@ static size_t body(uint8_t kind)
     return kind < sizeof bodies ? bodies[kind] : 0;
 }
 
-enum found { STEPS, LIST, NO_CLAIM, NO_MEMORY };
+enum found { STEPS, LIST, NO_CLAIM, NO_MEMORY, OTHER_CLAIM };
 
-/* Where the step records begin: at the file's start, or after a claim that is 1 and the starting memory. */
+/* Where the step records begin: at the file's start, or after a claim that is 1 or 2 and the starting memory. */
 static enum found find_steps(const uint8_t *file, size_t length, size_t *start)
 {
     size_t at = 0;
@@ -67,8 +68,10 @@ static enum found find_steps(const uint8_t *file, size_t length, size_t *start)
         at += 1 + body(file[at]);
     if (at + 2 > length || file[at] != 0x0F)
         return NO_CLAIM;
-    if (file[at + 1] != 1)
+    if (file[at + 1] == 0)
         return LIST;
+    if (file[at + 1] > 2)
+        return OTHER_CLAIM;
     if (at + 7 > length || file[at + 2] != 0x1F)
         return NO_MEMORY;
     *start = at + 7;
@@ -97,9 +100,10 @@ int main(int count, char **words)
         enum found found = find_steps(file, length, &start);
         if (found != STEPS) {
             fprintf(stderr, "%s: %s\n", name,
-                    found == LIST       ? "its claim is 0: it holds a list and no run"
-                    : found == NO_CLAIM ? "no claim follows its program"
-                                        : "no starting memory follows its claim");
+                    found == LIST          ? "its claim is 0: it holds a list and no run"
+                    : found == NO_CLAIM    ? "no claim follows its program"
+                    : found == OTHER_CLAIM ? "its claim is none of 0, 1 and 2"
+                                           : "no starting memory follows its claim");
             return 2;
         }
     }

@@ -1,7 +1,7 @@
 /* hrafnolt-files [-s] FILE..: judges each file, of any size, and prints `NAME: LINE`.
  * With -s it prints at the end, over the files that it judged, the mean and the variance of entries per safe file and the share of safe
  * among all, as `mean 5/2 (2.500000)`, or as `mean refused 24`; beyond 4,096 files all three are `refused 25`.
- * Exit status: 0 if all were accepted (safe or reachable), 1 if any was refused, 2 if a file can't be read. */
+ * Exit status: 0 if all were accepted (safe, reachable or pso), 1 if any was refused, 2 if a file can't be read. */
 #include "hrafnolt.h"
 
 #include <errno.h>
@@ -103,6 +103,9 @@ int main(int count, char **names)
             break;
         case HRAFNOLT_REACHABLE:
             printf("%s: reachable %" PRIu64 " %" PRIu64 "\n", names[i], v.first, v.second);
+            break;
+        case HRAFNOLT_PSO:
+            printf("%s: pso %" PRIu64 " %" PRIu64 "\n", names[i], v.first, v.second);
             break;
         default:
             printf("%s: refused %" PRIu64 " %" PRIu64 "\n", names[i], v.first, v.second);

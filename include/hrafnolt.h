@@ -16,6 +16,7 @@ extern "C" {
 
 /* kind HRAFNOLT_SAFE:      first = number of entries; line `safe FIRST`
  * kind HRAFNOLT_REACHABLE: first = number of steps, second = lowest target met; line `reachable FIRST SECOND`
+ * kind HRAFNOLT_PSO:       the same of a run of the PSO machine, claim 2; line `pso FIRST SECOND`
  *     A safe list is about every starting memory, a run about the one that its file gives after the claim.
  * kind HRAFNOLT_REFUSED:   first = number of the refusal table, second = place; line `refused FIRST SECOND`.
  *     A step that the machine can't take is 12, 15, 16, 17 or 18 by its cause, and the place is the step's number. */
@@ -23,7 +24,7 @@ struct hrafnolt_verdict {
     uint64_t kind, first, second;
 };
 
-enum { HRAFNOLT_SAFE = 0, HRAFNOLT_REACHABLE = 1, HRAFNOLT_REFUSED = 2 };
+enum { HRAFNOLT_SAFE = 0, HRAFNOLT_REACHABLE = 1, HRAFNOLT_REFUSED = 2, HRAFNOLT_PSO = 3 };
 
 /* Bytes of a work area: the least that is not refused with 8, and the most that is ever used (524,288 entries). */
 #define HRAFNOLT_WORK_LEAST ((size_t)65536)
@@ -64,7 +65,7 @@ struct hrafnolt_written {
 #define HRAFNOLT_DOT_MOST ((size_t)33560)
 #define HRAFNOLT_STEPS_MOST ((size_t)(3 * 1024))
 
-/* Step records (20, 21, 22) to DOT text. Bad records are 2, 1, 5 or 4 with the record's offset, as the judge says for a program of four
+/* Step records (20, 21, 22), of a run of either machine, to DOT text. Bad records are 2, 1, 5 or 4 with the record's offset, as the judge says for a program of four
  * processes, four variables and 256 transitions; an output too short is 26 with the bytes needed.
  * The pointers are not null, each names as many bytes as its length says (at most PTRDIFF_MAX), those of out set to something, and the two
  * don't overlap. */

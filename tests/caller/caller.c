@@ -121,6 +121,8 @@ int main(void)
             printf("safe %" PRIu64 "\n", v.first);
         else if (v.kind == HRAFNOLT_REACHABLE)
             printf("reachable %" PRIu64 " %" PRIu64 "\n", v.first, v.second);
+        else if (v.kind == HRAFNOLT_PSO)
+            printf("pso %" PRIu64 " %" PRIu64 "\n", v.first, v.second);
         else if (v.kind == HRAFNOLT_REFUSED)
             printf("refused %" PRIu64 " %" PRIu64 "\n", v.first, v.second);
         else

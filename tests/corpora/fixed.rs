@@ -26,6 +26,10 @@ pub fn full_files() -> Vec<Full> {
     let run = hex(&(head.to_string()
         + "0F 01  1F 01 02 00 00
         20 00  20 02  21 01 01  22 00  20 01  20 04  22 02  22 01  20 03"));
+    // Accepted, with every kind of step and every operation: pso 9 0.
+    let pso = hex(&(head.to_string()
+        + "0F 02  1F 01 00 00 00
+        20 00  20 02  21 01 01  20 01  20 04  20 03  22 02  20 05  20 02"));
     // Safe 8: one process that reads 1 in a state where it does not start, over case A, with the entries that the read needs.
     let safe = hex(
         "01 01 01 02 00 00 00  02 03 02  03 00 00 01 00 01 00 01  04 01 00 00 00  0F 00
@@ -38,7 +42,7 @@ pub fn full_files() -> Vec<Full> {
         10 00 00 00 00 01 00 00 00  11 00 00 FF 00 00 00  11 00 00 01 00 00 00
         10 00 00 00 00 01 00 00 00  11 00 00 FF 00 00 00  11 00 00 FF 00 00 00  12 00 00 01",
     );
-    vec![Full { name: "list", bytes: list }, Full { name: "run", bytes: run }, Full { name: "safe", bytes: safe }]
+    vec![Full { name: "list", bytes: list }, Full { name: "run", bytes: run }, Full { name: "pso", bytes: pso }, Full { name: "safe", bytes: safe }]
 }
 
 /// Offsets of the records, and the file's length.
@@ -110,20 +114,20 @@ pub fn shapes(each: &mut dyn FnMut(&str, Vec<u8>)) {
     }
 }
 
-/// The 1F of every shape: each of its bytes in turn with values in range and outside, of existing variables and absent ones; cut; left out;
-/// twice; and after a claim of 0.
+/// The 1F of every shape, for runs of both machines: each of its bytes in turn with values in range and outside, of existing variables and
+/// absent ones; cut; left out; twice; and after a claim of 0, or one that is none.
 pub fn memories(each: &mut dyn FnMut(&str, Vec<u8>)) {
     for processes in 1..=4u8 {
         for variables in 1..=4u8 {
-            for first in 1..=4u8 {
+            for (first, claim) in [(1u8, 1), (2, 1), (3, 1), (4, 1), (1, 2), (2, 2), (3, 2), (4, 2), (4, 3), (4, 255)] {
                 // Another count for each variable.
                 let mut counts = [0; 4];
                 for v in 0..variables {
                     counts[v as usize] = 1 + (first - 1 + v) % 4;
                 }
                 let head = [&[1, processes, variables][..], &counts, &[2, 1, 0].repeat(processes as usize), &[4, 0, 0, 0, 0]].concat();
-                let run = [&head[..], &[0x0f, 1]].concat();
-                let what = format!("shape {} {} {:?}, its memory", processes, variables, counts);
+                let run = [&head[..], &[0x0f, claim]].concat();
+                let what = format!("shape {} {} {:?}, claim {}, its memory", processes, variables, counts, claim);
                 for at in 0..4 {
                     for byte in [0, 1, 2, 3, 4, 5, 0x1f, 0x7f, 0x80, 0xfe, 0xff] {
                         let mut memory = counts.map(|count| count.max(1) - 1);
@@ -136,7 +140,7 @@ pub fn memories(each: &mut dyn FnMut(&str, Vec<u8>)) {
                         each(&what, [&run[..], &[0x1f], &memory[..at]].concat());
                     }
                 }
-                for end in [&[][..], &[0x20], &[0x22, 0], &[0x10], &[0x1f], &[0x0f, 1, 0x1f, 0, 0, 0, 0]] {
+                for end in [&[][..], &[0x20], &[0x22, 0], &[0x10], &[0x1f], &[0x0f, claim, 0x1f, 0, 0, 0, 0]] {
                     each(&what, [&run[..], end].concat());
                     each(&what, [&run[..], end, &[0x1f, 0, 0, 0, 0]].concat());
                 }
@@ -214,6 +218,34 @@ pub fn limits(each: &mut dyn FnMut(&str, Vec<u8>, usize)) {
     each("512 waiting and serialised", [&writes[..], &hex("20 00").repeat(512), &hex("21 00 00").repeat(512)].concat(), small);
     each("341 three times", [&writes[..], &hex("20 00").repeat(341), &hex("21 00 00").repeat(341), &hex("22 00").repeat(342)].concat(), small);
     each("1,024 arw", [&writes[..], &hex("20 01").repeat(1_024)].concat(), small);
+    // The same for PSO: waiting values, and marks in all buffers of a process, put there and removed.
+    let start = [&p11[..], &nop, &hex("04 00 00 00 00  0F 02  1F 00 00 00 00")].concat();
+    for count in [0, 1, 1_023, 1_024, 1_025] {
+        for end in [&[][..], &[0x22, 1], &[0x22, 0], &[0x21, 0, 0]] {
+            each(&format!("{} PSO steps and another", count), [&start[..], &hex("20 00").repeat(count), end].concat(), small);
+        }
+    }
+    let mut full = hex("01 04 04 04 04 04 04  02 01 00  02 01 00  02 01 00  02 01 00");
+    for process in 0..4 {
+        full.extend([3, process, 0, 4, 0, 0, 0, 0]);
+        for variable in 0..4 {
+            full.extend([3, process, 0, 2, variable, 3, 0, 0]);
+        }
+    }
+    full.extend(hex("04 00 00 00 00  0F 02  1F 00 01 02 03"));
+    for process in 0..4u8 {
+        let (fence, write, remove) = ([0x20, 5 * process], [0x20, 5 * process + 1 + process], [0x22, process]);
+        let update = [0x21, process, process];
+        each("1,024 marks in each buffer", [&full[..], &fence.repeat(1_024)].concat(), small);
+        each("512 marks put there and removed", [&full[..], &fence.repeat(512), &remove.repeat(512)].concat(), small);
+        each("one mark more removed", [&full[..], &fence.repeat(511), &remove.repeat(512)].concat(), small);
+        each("1,024 values", [&full[..], &write.repeat(1_024)].concat(), small);
+        each("512 values updated", [&full[..], &write.repeat(512), &update.repeat(512)].concat(), small);
+        each("values and marks", [&full[..], &[write, fence].concat().repeat(256), &[&update[..], &remove].concat().repeat(256)].concat(), small);
+        each("a value behind a mark", [&full[..], &[fence, write].concat().repeat(256), &[&update[..], &remove].concat()].concat(), small);
+    }
+    let round: Vec<u8> = (0..4u8).flat_map(|p| [0x20, 5 * p, 0x20, 5 * p + 1, 0x20, 5 * p + 4]).collect();
+    each("marks and values of all processes", [&full[..], &round.repeat(85)].concat(), small);
     // Entries: as many as an area allows, one more, and the work areas around.
     for area in [0, 1, 16_383, 16_384, 16_396, 32_768, 65_535, small, 65_537, 65_547, 65_548, 65_559, 65_560, 80_000, 131_072] {
         let allowed = reference::entries_allowed(area);

@@ -12,7 +12,7 @@ mod random;
 mod search;
 mod seeded;
 
-use reference::{brute, cubes, judge, judge_input, writing, Configuration, Program, Verdict, AREA_LEAST, AREA_MOST};
+use reference::{brute, cubes, judge, judge_input, writing, Configuration, Machine, Program, Step, Verdict, AREA_LEAST, AREA_MOST};
 use seeded::Random;
 use std::collections::{BTreeMap, HashMap};
 use std::io::{BufRead, BufReader, Read, Write};
@@ -92,6 +92,7 @@ impl Judges {
         let kind = match wanted {
             Verdict::Safe(_) => "safe".to_string(),
             Verdict::Reachable(..) => "reachable".to_string(),
+            Verdict::Pso(..) => "pso".to_string(),
             Verdict::Refused(number, _) => format!("{:>2}", number),
         };
         *self.lines.entry(kind).or_default() += 1;
@@ -265,8 +266,16 @@ fn brute_force(seed: u64, count: usize, judges: &mut Judges) {
             let area = AREA_MOST;
             let most = if processes == 2 || values[0] != values[1] && variables == 2 { 150_000.0 } else { 40_000.0 };
             if both_algorithms(judges, "random list", &file, area, most) {
-                judges.compare("random list", &file, area, judge(&file, area), false);
+                let line = judge(&file, area);
+                judges.compare("random list", &file, area, line, false);
                 number += 1;
+                // Of an accepted list PSO reaches no target, as far as a bound on what waits goes. The search always ends, loops or not.
+                if matches!(line, Verdict::Safe(_)) {
+                    if let Ok(run) = search::shortest_run(&program, Machine::Pso, &program.memories(), 4) {
+                        let found = judge(&writing::run_file(&program, &run), area);
+                        judges.fail("a PSO run beside a safe list", "the search", &line.to_string(), &found.to_string(), &file, area);
+                    }
+                }
             }
             if processes == 2 && variant == 1 {
                 break;
@@ -285,8 +294,8 @@ fn reach(seed: u64, judges: &mut Judges) {
         while reached + safe < programs {
             let values = random::values(&mut r, variables, 3);
             let program = random::program_without_loops(&mut r, processes, variables, values);
-            let run = search::shortest_run(&program, &program.memories(), usize::MAX);
-            let from_cleared = search::shortest_run(&program, &[[0; 4]], usize::MAX).is_ok();
+            let run = search::shortest_run(&program, Machine::Pws, &program.memories(), usize::MAX);
+            let from_cleared = search::shortest_run(&program, Machine::Pws, &[[0; 4]], usize::MAX).is_ok();
             // Most random programs reach their target: half of those taken shall not, and some only from other memories.
             if run.is_ok() && (reached > safe || from_cleared && reached > 3 * uncleared) {
                 continue;
@@ -299,6 +308,7 @@ fn reach(seed: u64, judges: &mut Judges) {
             let line = judge(&list, area);
             // Long lists that are safe take the judges long; the search has been made for them all.
             let short = entries.len() <= 600;
+            pso_too(&program, run.is_ok(), area, judges);
             match run {
                 Ok(found) => {
                     let run = writing::run_file(&program, &found);
@@ -326,12 +336,30 @@ fn reach(seed: u64, judges: &mut Judges) {
     }
 }
 
+/// PSO reaches a target exactly when PWS does; then its run is accepted too.
+fn pso_too(program: &Program, reached: bool, area: usize, judges: &mut Judges) {
+    match search::shortest_run(program, Machine::Pso, &program.memories(), usize::MAX) {
+        Ok(found) => {
+            let file = writing::run_file(program, &found);
+            let wanted = Verdict::Pso(found.steps.len() as u64, 0);
+            let line = judge(&file, area);
+            if !reached || line != wanted {
+                judges.fail("a PSO run", "the separate judge", &wanted.to_string(), &line.to_string(), &file, area);
+            }
+            judges.compare("a PSO run", &file, area, wanted, false);
+        }
+        Err(_) if reached => judges.fail("no PSO run", "the search", "a run", "none", &writing::program(program), area),
+        Err(_) => {}
+    }
+}
+
 /// Every cause of a refused step at random depths, and every two causes of a transition at once: the first in the order 12, 16, 17, 15 is said.
-fn refused_steps(r: &mut Random, judges: &mut Judges) {
-    let mut met: BTreeMap<Vec<u64>, usize> = BTreeMap::new();
+/// PSO has no pointers, and more reasons for 18.
+fn refused_steps(r: &mut Random, machine: Machine, judges: &mut Judges) {
+    let mut met: BTreeMap<(Vec<u64>, &str), usize> = BTreeMap::new();
     for _ in 0..600 {
-        random::refused_steps(r, &mut |causes, depth, file| {
-            *met.entry(causes.to_vec()).or_insert(0) += 1;
+        random::refused_steps(r, machine, &mut |causes, reason, depth, file| {
+            *met.entry((causes.to_vec(), reason)).or_insert(0) += 1;
             let wanted = Verdict::Refused(causes[0], depth as u64);
             if judge(file, AREA_LEAST) != wanted {
                 judges.fail("a refused step", "the separate judge", &wanted.to_string(), &judge(file, AREA_LEAST).to_string(), file, AREA_LEAST);
@@ -339,8 +367,19 @@ fn refused_steps(r: &mut Random, judges: &mut Judges) {
             judges.compare("a refused step", file, AREA_LEAST, wanted, depth % 100 == 7);
         });
     }
-    for wanted in [&[12][..], &[16], &[17], &[15], &[18], &[12, 16], &[12, 17], &[12, 15], &[16, 17], &[16, 15], &[17, 15], &[12, 16, 17, 15]] {
-        assert!(met.get(wanted).is_some_and(|n| *n >= 10), "causes {:?} are met too seldom: {:?}", wanted, met);
+    let (causes, reasons): (&[&[u64]], &[&str]) = match machine {
+        Machine::Pws => (
+            &[&[12], &[16], &[17], &[15], &[12, 16], &[12, 17], &[12, 15], &[16, 17], &[16, 15], &[17, 15], &[12, 16, 17, 15]],
+            &["nothing to serialise", "no newer message"],
+        ),
+        Machine::Pso => (
+            &[&[12], &[16], &[15], &[12, 16], &[12, 15], &[16, 15], &[12, 16, 15]],
+            &["nothing to update", "a mark heads the buffer", "no mark", "not every head a mark"],
+        ),
+    };
+    let wanted = causes.iter().map(|causes| (causes.to_vec(), "")).chain(reasons.iter().map(|reason| (vec![18], *reason)));
+    for wanted in wanted {
+        assert!(met.get(&wanted).is_some_and(|n| *n >= 10), "causes {:?} are met too seldom: {:?}", wanted, met);
     }
 }
 
@@ -365,20 +404,33 @@ fn corpora(seed: u64, judges: &mut Judges) {
     fixed::limits(&mut |what, file, area| {
         judges.compare(what, &file, area, judge(&file, area), area == AREA_LEAST);
     });
-    for _ in 0..2_000 {
-        let (program, run) = random::walk(&mut r);
+    // Steps of each kind that the PSO machine has taken.
+    let mut taken = [0; 3];
+    for number in 0..4_000 {
+        let machine = if number % 2 == 0 { Machine::Pws } else { Machine::Pso };
+        let (program, run) = random::walk(&mut r, machine);
         let file = writing::run_file(&program, &run);
         let area = *r.pick(&areas);
         judges.compare("run", &file, area, judge(&file, area), sample());
+        for step in run.steps.iter().filter(|_| machine == Machine::Pso) {
+            taken[match step {
+                Step::Transition(_) => 0,
+                Step::Serialise(..) => 1,
+                Step::Update(_) => 2,
+            }] += 1;
+        }
         for _ in 0..4 {
             let file = random::damaged_run(&mut r, &program, &run);
             let area = *r.pick(&areas);
             judges.compare("damaged run", &file, area, judge(&file, area), sample());
         }
     }
-    refused_steps(&mut Random(seed ^ 0xca05e), judges);
-    for _ in 0..100 {
-        random::every_memory(&mut Random(r.next()), &mut |program, run| {
+    assert!(taken.iter().all(|n| *n >= 1_000), "a kind of step is taken too seldom by PSO: {:?}", taken);
+    refused_steps(&mut Random(seed ^ 0xca05e), Machine::Pws, judges);
+    refused_steps(&mut Random(seed ^ 0xca05e), Machine::Pso, judges);
+    for number in 0..200 {
+        let machine = if number % 2 == 0 { Machine::Pws } else { Machine::Pso };
+        random::every_memory(&mut Random(r.next()), machine, &mut |program, run| {
             let file = writing::run_file(program, run);
             judges.compare("run from every memory", &file, AREA_LEAST, judge(&file, AREA_LEAST), sample());
         });

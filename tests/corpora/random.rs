@@ -4,7 +4,8 @@ use crate::search::closed_list;
 use crate::seeded::Random;
 use reference::cubes::start_above;
 use reference::entries::Cube;
-use reference::{writing, Configuration, Message, Operation, Program, Run, Step, Transition, FF};
+use reference::pso::{self, Item};
+use reference::{writing, Configuration, Machine, Message, Operation, Program, Run, Running, Step, Transition, FF};
 
 /// A number of values for each of so many variables, each up to `most`: different ones, or in a third of the shapes all the same.
 pub fn values(r: &mut Random, variables: usize, most: usize) -> [u8; 4] {
@@ -69,22 +70,39 @@ pub fn memory(r: &mut Random, program: &Program) -> [u8; 4] {
     memory
 }
 
-/// A run by random walk. The targets are the last local states, or by chance others.
-pub fn walk(r: &mut Random) -> (Program, Run) {
+/// A run of the machine by random walk. The targets are the last local states, or by chance others.
+pub fn walk(r: &mut Random, machine: Machine) -> (Program, Run) {
     let (processes, variables) = (1 + r.below(4), 1 + r.below(4));
     let values = values(r, variables, 4);
     let most_states = *r.pick(&[2, 3, 4, 32]);
     let transitions = *r.pick(&[1, 4, 12, 12, 30, 60, 256]);
     let mut program = program(r, processes, variables, values, most_states, transitions);
+    if machine == Machine::Pso {
+        // Marks are what is new there.
+        for transition in &mut program.transitions {
+            if r.one_in(6) {
+                transition.operation = Operation::Sfence;
+            }
+        }
+    }
     let length = *r.pick(&[0, 1, 3, 8, 20, 20, 60, 60, 200, 1_024]);
     let all = program.all_steps();
     let memory = memory(r, &program);
-    let mut c = Configuration::start(&program, memory);
+    let mut c = Running::start(machine, &program, memory);
     let mut steps = Vec::new();
     while steps.len() < length {
-        // A few tries, then a look at all steps, so that a walk ends only where nothing is permitted.
+        // A few tries, then a look at all steps, so that a walk ends only where nothing is permitted. What heads a buffer of PSO comes first
+        // now and then: else buffers grow, and few marks are removed.
         let mut taken = None;
-        for _ in 0..20 {
+        if machine == Machine::Pso && r.one_in(2) {
+            let memory_only = all.iter().copied().filter(|step| !matches!(step, Step::Transition(_)));
+            let permitted: Vec<Step> = memory_only.filter(|step| c.refusal(&program, *step).is_none()).collect();
+            if !permitted.is_empty() {
+                taken = Some(*r.pick(&permitted));
+                c.take(&program, taken.unwrap());
+            }
+        }
+        for _ in 0..if taken.is_none() { 20 } else { 0 } {
             let step = *r.pick(&all);
             if c.take(&program, step) {
                 taken = Some(step);
@@ -101,9 +119,9 @@ pub fn walk(r: &mut Random) -> (Program, Run) {
     }
     if !r.one_in(8) {
         let at = r.below(program.targets.len());
-        program.targets[at] = c.states;
+        program.targets[at] = c.states();
     }
-    (program, Run { memory, steps })
+    (program, Run { machine, memory, steps })
 }
 
 /// One of the ways to damage a run.
@@ -144,8 +162,61 @@ pub fn damaged_run(r: &mut Random, program: &Program, run: &Run) -> Vec<u8> {
     writing::run_file(&program, &run)
 }
 
-/// The causes, of 12, 16, 17 and 15, for which a transition is refused from c, each asked by itself.
-fn causes(program: &Program, c: &Configuration, t: &Transition) -> Vec<u64> {
+/// The causes, of 12, 16, 17 and 15, for which a transition is refused, each asked by itself.
+fn causes(program: &Program, c: &Running, t: &Transition) -> Vec<u64> {
+    match c {
+        Running::Pws(c) => pws_causes(program, c, t),
+        Running::Pso(d) => pso_causes(program, d, t),
+    }
+}
+
+fn pso_causes(program: &Program, d: &pso::Configuration, t: &Transition) -> Vec<u64> {
+    let waits = |v: usize| !d.buffers[program.queue(t.process, v)].is_empty();
+    let (queue, value) = match t.operation {
+        Operation::Nop | Operation::Write { .. } | Operation::Sfence => (false, false),
+        Operation::Read { variable, value } => {
+            let mut seen = d.memory[variable];
+            for item in &d.buffers[program.queue(t.process, variable)] {
+                if let Item::Value(newer) = item {
+                    seen = *newer;
+                }
+            }
+            (false, seen != value)
+        }
+        Operation::Mfence => ((0..program.variables).any(waits), false),
+        Operation::Arw { variable, old, .. } => (waits(variable), d.memory[variable] != old),
+    };
+    let each = [(12, d.states[t.process] != t.from), (16, queue), (15, value)];
+    each.iter().filter(|(_, applies)| *applies).map(|(number, _)| *number).collect()
+}
+
+/// Why a serialise or an update of PWS, an update or a removal of PSO, is refused: one of these words, for 18; None if it is permitted.
+fn nothing_there(program: &Program, c: &Running, step: Step) -> Option<&'static str> {
+    match (c, step) {
+        (_, Step::Transition(_)) => None,
+        (Running::Pws(c), Step::Serialise(p, v)) => c.queues[program.queue(p, v)].is_empty().then_some("nothing to serialise"),
+        (Running::Pws(c), Step::Update(p)) => (c.pointers[p] == c.channel.len()).then_some("no newer message"),
+        (Running::Pso(d), Step::Serialise(p, v)) => match d.buffers[program.queue(p, v)].first() {
+            None => Some("nothing to update"),
+            Some(Item::Mark) => Some("a mark heads the buffer"),
+            Some(Item::Value(_)) => None,
+        },
+        (Running::Pso(d), Step::Update(p)) => {
+            let heads: Vec<Option<&Item>> = (0..program.variables).map(|v| d.buffers[program.queue(p, v)].first()).collect();
+            let marks = heads.iter().filter(|head| **head == Some(&Item::Mark)).count();
+            // A buffer is not empty then: as many marks stand in each of them.
+            if marks == heads.len() {
+                None
+            } else if marks == 0 {
+                Some("no mark")
+            } else {
+                Some("not every head a mark")
+            }
+        }
+    }
+}
+
+fn pws_causes(program: &Program, c: &Configuration, t: &Transition) -> Vec<u64> {
     let waits = |v: usize| !c.queues[program.queue(t.process, v)].is_empty();
     let behind = c.pointers[t.process] < c.channel.len();
     let newest = c.channel[c.channel.len() - 1].snapshot;
@@ -164,25 +235,30 @@ fn causes(program: &Program, c: &Configuration, t: &Transition) -> Vec<u64> {
 }
 
 /// A walk that ends in a step that is refused: for every set of causes that some transition meets at that depth one such file, with the
-/// transition added to the program; and one for a serialise or an update. Each comes with its causes and the step's number.
-pub fn refused_steps(r: &mut Random, each: &mut dyn FnMut(&[u64], usize, &[u8])) {
-    let (program, run) = walk(r);
+/// transition added to the program; and one for every reason of 18. Each comes with its causes, the words for 18, and the step's number.
+pub fn refused_steps(r: &mut Random, machine: Machine, each: &mut dyn FnMut(&[u64], &'static str, usize, &[u8])) {
+    let (program, mut run) = walk(r, machine);
     let depth = r.below(run.steps.len().min(1_023) + 1);
-    let mut c = Configuration::start(&program, run.memory);
-    for step in &run.steps[..depth] {
+    let mut c = Running::start(machine, &program, run.memory);
+    run.steps.truncate(depth);
+    for step in &run.steps {
         c.take(&program, *step);
     }
-    let mut run = Run { memory: run.memory, steps: run.steps[..depth].to_vec() };
-    let still: Vec<Step> = program.all_steps().into_iter().filter(|step| !matches!(step, Step::Transition(_)) && c.refusal(&program, *step).is_some()).collect();
-    if !still.is_empty() {
-        run.steps.push(*r.pick(&still));
-        each(&[18], depth, &writing::run_file(&program, &run));
-        run.steps.pop();
+    let mut steps = program.all_steps();
+    r.shuffle(&mut steps);
+    let mut reasons: Vec<&str> = Vec::new();
+    for step in steps {
+        if let Some(reason) = nothing_there(&program, &c, step).filter(|reason| !reasons.contains(reason)) {
+            reasons.push(reason);
+            run.steps.push(step);
+            each(&[18], reason, depth, &writing::run_file(&program, &run));
+            run.steps.pop();
+        }
     }
     let mut seen: Vec<Vec<u64>> = Vec::new();
     for _ in 0..200 {
         let process = r.below(program.processes);
-        let from = if r.one_in(2) { c.states[process] } else { r.below(program.states[process] as usize) as u8 };
+        let from = if r.one_in(2) { c.states()[process] } else { r.below(program.states[process] as usize) as u8 };
         let t = Transition { process, from, operation: operation(r, program.variables, program.values), to: from };
         let met = causes(&program, &c, &t);
         if met.is_empty() || seen.contains(&met) || program.transitions.is_empty() {
@@ -203,16 +279,16 @@ pub fn refused_steps(r: &mut Random, each: &mut dyn FnMut(&[u64], usize, &[u8]))
             None => continue,
         };
         run.steps.push(Step::Transition(number));
-        each(&met, depth, &writing::run_file(&with, &run));
+        each(&met, "", depth, &writing::run_file(&with, &run));
         run.steps.pop();
         seen.push(met);
     }
 }
 
 /// The run of a walk of a tiny shape, from every memory.
-pub fn every_memory(r: &mut Random, each: &mut dyn FnMut(&Program, &Run)) {
+pub fn every_memory(r: &mut Random, machine: Machine, each: &mut dyn FnMut(&Program, &Run)) {
     loop {
-        let (program, mut run) = walk(r);
+        let (program, mut run) = walk(r, machine);
         let memories = program.memories();
         if memories.len() > 16 {
             continue;

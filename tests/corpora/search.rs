@@ -4,7 +4,7 @@
 use reference::cubes::{least, predecessors};
 use reference::entries::Cube;
 use reference::index::Index;
-use reference::{Configuration, Program, Run, Step};
+use reference::{Configuration, Machine, Program, Run, Running, Step};
 use std::collections::{HashMap, VecDeque};
 
 /// Entries that hold every target, the entries given and every predecessor; None if the list outgrows `most` entries or what an entry can
@@ -52,16 +52,17 @@ pub fn closed_list(program: &Program, given: &[Configuration], most: usize) -> O
     Some((0..index.len()).map(|number| index.entry(number).configuration(program)).collect())
 }
 
-/// A shortest run to a target, from one of these memories, that keeps at most `waiting` waiting values per process; else the number of
-/// configurations that there are within that bound. It ends for programs without loops, which make finitely many messages.
-pub fn shortest_run(program: &Program, memories: &[[u8; 4]], waiting: usize) -> Result<Run, usize> {
+/// A shortest run of the machine to a target, from one of these memories, that keeps at most `waiting` waiting values, and marks, per
+/// process; else the number of configurations that there are within that bound. It ends for programs without loops, which make finitely
+/// many messages, and within a bound it always ends for PSO.
+pub fn shortest_run(program: &Program, machine: Machine, memories: &[[u8; 4]], waiting: usize) -> Result<Run, usize> {
     let steps = program.all_steps();
-    let mut order: Vec<Configuration> = memories.iter().map(|memory| Configuration::start(program, *memory)).collect();
-    let mut from: HashMap<Configuration, Option<(usize, Step)>> = order.iter().map(|start| (start.clone(), None)).collect();
+    let mut order: Vec<Running> = memories.iter().map(|memory| Running::start(machine, program, *memory)).collect();
+    let mut from: HashMap<Running, Option<(usize, Step)>> = order.iter().map(|start| (start.clone(), None)).collect();
     let mut next: VecDeque<usize> = (0..order.len()).collect();
     while let Some(number) = next.pop_front() {
         let c = order[number].clone();
-        if program.targets.contains(&c.states) {
+        if program.targets.contains(&c.states()) {
             let mut run = Vec::new();
             let mut at = number;
             while let Some((before, step)) = from[&order[at]] {
@@ -69,16 +70,14 @@ pub fn shortest_run(program: &Program, memories: &[[u8; 4]], waiting: usize) -> 
                 at = before;
             }
             run.reverse();
-            return Ok(Run { memory: order[at].channel[0].snapshot, steps: run });
+            return Ok(Run { machine, memory: memories[at], steps: run });
         }
         for step in &steps {
             let mut after = c.clone();
             if !after.take(program, *step) || from.contains_key(&after) {
                 continue;
             }
-            let within = (0..program.processes)
-                .all(|p| (0..program.variables).map(|v| after.queues[program.queue(p, v)].len()).sum::<usize>() <= waiting);
-            if within {
+            if (0..program.processes).all(|p| after.waiting(program, p) <= waiting) {
                 from.insert(after.clone(), Some((number, *step)));
                 next.push_back(order.len());
                 order.push(after);

@@ -3,12 +3,10 @@
 //! sfences, counted alike in both machines, so that there are finitely many configurations.
 //! Exit status 0 if all local states agree, and if they do not once an sfence of PSO does nothing.
 
-mod pso;
 #[path = "../corpora/seeded.rs"]
 mod seeded;
 
-use pso::Fences;
-use reference::{Operation, Program, Step, Transition};
+use reference::{Machine, Operation, Program, Running, Step, Transition};
 use seeded::Random;
 use std::collections::HashSet;
 use std::hash::{BuildHasherDefault, Hash, Hasher};
@@ -55,32 +53,31 @@ type Reached = ([u8; 4], [u8; 4]);
 
 /// A configuration of either machine, with the counts.
 #[derive(Clone, PartialEq, Eq, Hash)]
-struct Counted<C> {
-    configuration: C,
+struct Counted {
+    configuration: Running,
     counts: [u8; 4],
 }
 
-/// All that is reached from the start, each process doing at most `most` of what is counted; None beyond `limit` configurations.
-fn reached<C: Clone + Eq + Hash, S: Copy>(
-    start: C,
-    steps: &[(S, Option<usize>)],
-    most: u8,
-    limit: usize,
-    take: impl Fn(&mut C, S) -> bool,
-    states: impl Fn(&C) -> [u8; 4],
-) -> Option<(Set<Reached>, usize)> {
-    let start = Rc::new(Counted { configuration: start, counts: [0; 4] });
-    let mut all = Set::from_iter([(states(&start.configuration), start.counts)]);
+/// All that the machine reaches from this memory, each process doing at most `most` of what is counted; None beyond `limit` configurations.
+fn reached(machine: Machine, program: &Program, memory: [u8; 4], most: u8, limit: usize, fences: Fences) -> Option<(Set<Reached>, usize)> {
+    let steps: Vec<(Step, Option<usize>)> = program
+        .all_steps()
+        .into_iter()
+        .map(|step| (step, if let Step::Transition(number) = step { counted(program, number) } else { None }))
+        .collect();
+    let program = &if fences == Fences::Kept { program.clone() } else { without_fences(program) };
+    let start = Rc::new(Counted { configuration: Running::start(machine, program, memory), counts: [0; 4] });
+    let mut all = Set::from_iter([(start.configuration.states(), start.counts)]);
     let mut seen = Set::from_iter([start.clone()]);
     let mut open = vec![start];
     while let Some(from) = open.pop() {
         let mut unchanged = None;
-        for (step, counted) in steps {
+        for (step, counted) in &steps {
             if counted.is_some_and(|p| from.counts[p] == most) {
                 continue;
             }
             let mut next = unchanged.take().unwrap_or_else(|| Counted::clone(&from));
-            if !take(&mut next.configuration, *step) {
+            if !next.configuration.take(program, *step) {
                 unchanged = Some(next);
                 continue;
             }
@@ -93,7 +90,7 @@ fn reached<C: Clone + Eq + Hash, S: Copy>(
             if seen.len() == limit {
                 return None;
             }
-            all.insert((states(&next.configuration), next.counts));
+            all.insert((next.configuration.states(), next.counts));
             let next = Rc::new(next);
             seen.insert(next.clone());
             open.push(next);
@@ -108,23 +105,19 @@ fn counted(program: &Program, number: usize) -> Option<usize> {
     matches!(transition.operation, Operation::Write { .. } | Operation::Arw { .. } | Operation::Sfence).then_some(transition.process)
 }
 
-fn pws(program: &Program, memory: [u8; 4], most: u8, limit: usize) -> Option<(Set<Reached>, usize)> {
-    let start = reference::Configuration::start(program, memory);
-    let steps: Vec<(Step, Option<usize>)> = program
-        .all_steps()
-        .into_iter()
-        .map(|step| (step, if let Step::Transition(number) = step { counted(program, number) } else { None }))
-        .collect();
-    reached(start, &steps, most, limit, |c, step| c.take(program, step), |c| c.states)
+/// What an sfence does; the second is wrong, and there to show that the comparison sees it.
+#[derive(Clone, Copy, PartialEq)]
+enum Fences {
+    Kept,
+    Ignored,
 }
 
-fn pso(program: &Program, memory: [u8; 4], most: u8, limit: usize, fences: Fences) -> Option<(Set<Reached>, usize)> {
-    let steps: Vec<(pso::Step, Option<usize>)> = pso::all_steps(program)
-        .into_iter()
-        .map(|step| (step, if let pso::Step::Transition(number) = step { counted(program, number) } else { None }))
-        .collect();
-    let start = pso::Configuration::start(program, memory);
-    reached(start, &steps, most, limit, |c, step| c.take(program, step, fences), |c| c.states)
+fn without_fences(program: &Program) -> Program {
+    let mut program = program.clone();
+    for transition in program.transitions.iter_mut().filter(|transition| transition.operation == Operation::Sfence) {
+        transition.operation = Operation::Nop;
+    }
+    program
 }
 
 /// Mostly reads, mostly stores, or both.
@@ -244,8 +237,8 @@ fn main() {
         let sfence = program.transitions.iter().any(|t| t.operation == Operation::Sfence);
         let mut missed = false;
         let all = program.memories().into_iter().try_for_each(|memory| {
-            let (by_pws, a) = pws(&program, memory, most, limit)?;
-            let (by_pso, b) = pso(&program, memory, most, limit, Fences::Kept)?;
+            let (by_pws, a) = reached(Machine::Pws, &program, memory, most, limit, Fences::Kept)?;
+            let (by_pso, b) = reached(Machine::Pso, &program, memory, most, limit, Fences::Kept)?;
             configurations += a + b;
             local_states += by_pws.len();
             if by_pws != by_pso {
@@ -253,7 +246,7 @@ fn main() {
                 println!("from memory {:?} PWS reaches {:?}, PSO {:?}: {:?}", memory, by_pws, by_pso, program);
             }
             if sfence && told < 10 {
-                missed |= pso(&program, memory, most, limit, Fences::Ignored)?.0 != by_pws;
+                missed |= reached(Machine::Pso, &program, memory, most, limit, Fences::Ignored)?.0 != by_pws;
             }
             Some(())
         });

@@ -8,11 +8,14 @@ pub mod cubes;
 pub mod entries;
 pub mod index;
 pub mod machine;
+pub mod pso;
 pub mod reading;
+pub mod running;
 pub mod writing;
 
-pub use machine::{Configuration, Message, Operation, Program, Run, Step, Transition};
+pub use machine::{Configuration, Machine, Message, Operation, Program, Run, Step, Transition};
 pub use reading::{read, Evidence};
+pub use running::Running;
 
 /// Stands for any value of its place, in an entry.
 pub const FF: u8 = 255;
@@ -21,6 +24,8 @@ pub const FF: u8 = 255;
 pub enum Verdict {
     Safe(u64),
     Reachable(u64, u64),
+    /// Claim 2.
+    Pso(u64, u64),
     Refused(u64, u64),
 }
 
@@ -29,6 +34,7 @@ impl std::fmt::Display for Verdict {
         match self {
             Verdict::Safe(n) => write!(f, "safe {}", n),
             Verdict::Reachable(steps, target) => write!(f, "reachable {} {}", steps, target),
+            Verdict::Pso(steps, target) => write!(f, "pso {} {}", steps, target),
             Verdict::Refused(number, place) => write!(f, "refused {} {}", number, place),
         }
     }
@@ -63,17 +69,19 @@ pub fn judge_input(file: &[u8]) -> Verdict {
     judge(file, AREA_LEAST)
 }
 
-/// Claim 1: every step in turn from the starting memory, then the lowest target that the last local states meet.
+/// Claims 1 and 2: every step in turn from the starting memory, then the lowest target that the last local states meet.
 pub fn replay(program: &Program, run: &Run) -> Verdict {
-    let mut configuration = Configuration::start(program, run.memory);
+    let mut configuration = Running::start(run.machine, program, run.memory);
     for (number, step) in run.steps.iter().enumerate() {
         if let Some(cause) = configuration.refusal(program, *step) {
             return Verdict::Refused(cause, number as u64);
         }
         configuration.take(program, *step);
     }
-    match program.targets.iter().position(|target| *target == configuration.states) {
-        Some(target) => Verdict::Reachable(run.steps.len() as u64, target as u64),
-        None => Verdict::Refused(13, run.steps.len() as u64),
+    let steps = run.steps.len() as u64;
+    match (program.targets.iter().position(|target| *target == configuration.states()), run.machine) {
+        (Some(target), Machine::Pws) => Verdict::Reachable(steps, target as u64),
+        (Some(target), Machine::Pso) => Verdict::Pso(steps, target as u64),
+        (None, _) => Verdict::Refused(13, steps),
     }
 }

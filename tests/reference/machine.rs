@@ -25,10 +25,18 @@ pub enum Step {
     Update(usize),
 }
 
-/// The evidence of claim 1.
-#[derive(Clone, PartialEq, Eq, Debug, Default)]
+/// The machine that a run is said to be of: claim 1 or claim 2.
+#[derive(Clone, Copy, PartialEq, Eq, Debug)]
+pub enum Machine {
+    Pws,
+    Pso,
+}
+
+/// The evidence of claims 1 and 2.
+#[derive(Clone, PartialEq, Eq, Debug)]
 pub struct Run {
-    /// The snapshot of the start's message.
+    pub machine: Machine,
+    /// What memory holds at the start.
     pub memory: [u8; 4],
     pub steps: Vec<Step>,
 }

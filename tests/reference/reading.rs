@@ -1,7 +1,7 @@
 //! Document 01, "Records" and the refusal table: bytes to program and evidence, or a number and a place.
 
 use crate::entries::{Cube, List};
-use crate::machine::{Message, Operation, Program, Run, Step, Transition};
+use crate::machine::{Machine, Message, Operation, Program, Run, Step, Transition};
 use crate::FF;
 
 pub enum Evidence {
@@ -55,8 +55,8 @@ impl Reader {
             (0x0f, None) => all_states && !no_target,
             (0x10, Some(0)) => true,
             (0x11 | 0x12, Some(0)) => self.latest.is_some(),
-            (0x1f, Some(1)) => self.memory.is_none(),
-            (0x20 | 0x21 | 0x22, Some(1)) => self.memory.is_some(),
+            (0x1f, Some(1 | 2)) => self.memory.is_none(),
+            (0x20 | 0x21 | 0x22, Some(1 | 2)) => self.memory.is_some(),
             _ => false,
         }
     }
@@ -182,7 +182,7 @@ impl Reader {
                 self.program.targets.push(target);
             }
             0x0f => {
-                if body[0] > 1 {
+                if body[0] > 2 {
                     return None;
                 }
                 self.claim = Some(body[0]);
@@ -278,7 +278,10 @@ pub fn read(file: &[u8], entries_allowed: usize) -> Result<(Program, Evidence), 
     reader.end_entry();
     match (reader.claim, reader.memory) {
         (Some(0), _) => Ok((reader.program, Evidence::List(reader.list))),
-        (Some(_), Some(memory)) => Ok((reader.program, Evidence::Run(Run { memory, steps: reader.steps }))),
+        (Some(claim), Some(memory)) => {
+            let machine = if claim == 1 { Machine::Pws } else { Machine::Pso };
+            Ok((reader.program, Evidence::Run(Run { machine, memory, steps: reader.steps })))
+        }
         _ => Err((6, file.len())), // before the claim, or before the memory that a run starts from
     }
 }

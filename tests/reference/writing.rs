@@ -1,6 +1,6 @@
 //! Programs, entries and steps to the records of document 01.
 
-use crate::machine::{Configuration, Operation, Program, Run, Step};
+use crate::machine::{Configuration, Machine, Operation, Program, Run, Step};
 
 /// Records 01 to 04.
 pub fn program(program: &Program) -> Vec<u8> {
@@ -64,7 +64,11 @@ pub fn list_file(of: &Program, entries: &[Configuration]) -> Vec<u8> {
 
 pub fn run_file(of: &Program, run: &Run) -> Vec<u8> {
     let mut out = program(of);
-    out.extend([0x0f, 1, 0x1f]);
+    let claim = match run.machine {
+        Machine::Pws => 1,
+        Machine::Pso => 2,
+    };
+    out.extend([0x0f, claim, 0x1f]);
     out.extend(run.memory);
     for s in &run.steps {
         out.extend(step(*s));
