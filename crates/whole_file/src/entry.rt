@@ -6,6 +6,7 @@ ghost use Rattle.program_part.specs.Records.{messageAt};
 ghost use Rattle.whole_file.specs.Cube.{loadsMessage, loadsWaiting, pushed, loaded, loadEntry};
 use program_part::bytes::both;
 use program_part::bytes::byte_at;
+use program_part::bytes::cut;
 use program_part::bytes::field;
 use program_part::bytes::wide;
 use program_part::record::is_kind;
@@ -28,9 +29,18 @@ pub struct Cube {
     pub count: usize,
 }
 
-fn message_at(file: &[u8], at: usize) -> Message
+pub(crate) fn message_at(file: &[u8], at: usize) -> Message
     ensures { λ r. ⌜ r ≡ messageAt (now (file .entry)) at ⌝ }
 {
+    // one test for the record, and not one for each byte
+    if !cut(file, at, 6) {
+        let values = [file[at + 3], file[at + 4], file[at + 5], file[at + 6]];
+        return Message {
+            process: file[at + 1],
+            variable: file[at + 2],
+            snapshot: values,
+        };
+    }
     let snapshot = [
         field(file, at, 3),
         field(file, at, 4),

@@ -1,11 +1,13 @@
 // The entries of a list: each is checked, and its place written down (document 01, "Records").
 ghost use mathlib.Core.Path.{_≡_};
+ghost use mathlib.Core.Bool.{_&&_};
 ghost use mathlib.Core.List.{[]};
 ghost use Prim.Native.Nat.{_+_, _≤_};
 ghost use lib.ListN.{length, getD};
-ghost use Rattle.program_part.specs.Records.{checked, messageNumber, waitingNumber, pointerAt, pointerName, pointerNames, entryNumber, valueName, valueNames, messageNames, waitingNames};
+ghost use Rattle.program_part.specs.Records.{checked, messageNumber, waitingNumber, pointerAt, pointerName, pointerNames, entryNumber, valueName, messageNames, waitingNames};
 ghost use Rattle.whole_file.specs.EvidencePart.{bodySize, pointerInside, pointsFirst, pointersFit, someFirst, complete, atBoundary, entryRead, entriesFrom, wroteFrom};
 ghost use Rattle.whole_file.specs.Tally.{queueAt, numberBy, TallyRoom, tallied, endOf, endRefusal, countOf};
+use crate::entry::message_at;
 use crate::steps::pair_exists;
 use program_part::bytes::both;
 use program_part::bytes::cut;
@@ -70,22 +72,24 @@ fn value_name(shape: Shape, variable: usize, value: u8) -> bool
     value == 0
 }
 
-fn value_names(file: &[u8], at: usize, shape: Shape) -> bool
-    ensures { λ r. ⌜ r ≡ valueNames shape (now (file .entry)) at ⌝ }
+fn value_names(shape: Shape, snapshot: [u8; 4]) -> bool
+    ensures { λ r. ⌜ r ≡ (valueName shape 0 (getD snapshot 0 0) && (valueName shape 1 (getD snapshot 1 0) && (valueName shape 2 (getD snapshot 2 0) && valueName shape 3 (getD snapshot 3 0)))) ⌝ }
 {
-    let a = value_name(shape, 0, field(file, at, 3));
-    let b = value_name(shape, 1, field(file, at, 4));
-    let c = value_name(shape, 2, field(file, at, 5));
-    let d = value_name(shape, 3, field(file, at, 6));
+    let a = value_name(shape, 0, snapshot[0]);
+    let b = value_name(shape, 1, snapshot[1]);
+    let c = value_name(shape, 2, snapshot[2]);
+    let d = value_name(shape, 3, snapshot[3]);
     both(a, both(b, both(c, d)))
 }
 
 fn message_names(file: &[u8], at: usize, shape: Shape) -> bool
     ensures { λ r. ⌜ r ≡ messageNames shape (now (file .entry)) at ⌝ }
 {
+    let message = message_at(file, at);
+    let snapshot = message.snapshot;
     both(
-        pair_exists(shape, field(file, at, 1), field(file, at, 2)),
-        value_names(file, at, shape),
+        pair_exists(shape, message.process, message.variable),
+        value_names(shape, snapshot),
     )
 }
 
