@@ -11,6 +11,7 @@ pub mod Queues
 pub mod NoneMissing
 pub mod NoneExtra
 pub mod Closed
+pub mod StepOrder
 pub mod Shapes
 pub mod Targets
 pub mod Starts

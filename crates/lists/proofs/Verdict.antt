@@ -1,8 +1,8 @@
 -- The verdict of a list: one is judged, exactly one, and it is what `verdictOf` computes. What a safe list says of every run.
 use Prim.Native.Nat.{ℕ, _<_}
-use mathlib.Core.Path.{_≡_, refl, sym, ap, subst, _∙_}
-use mathlib.Core.Logic.{_↔_}
-use mathlib.Core.Bool.{not}
+use mathlib.Core.Path.{_≡_, refl, sym, ap, ap₂, subst, _∙_}
+use mathlib.Core.Logic.{_↔_, ⊎-elim}
+use mathlib.Core.Bool.{Bool, not}
 use mathlib.Core.Option.{Option, none, some}
 use mathlib.Core.List.{List, List·Memᴰ}
 use native.Mathlib.Omega.{arith}
@@ -11,6 +11,7 @@ use lib.ListN.{length}
 use lib.Dec.{T, T-not}
 use mir.Facts.{T-not-not}
 use Rattle.pws.specs.declared.Step.{Step}
+use Rattle.pws.specs.declared.Step.the-variants.{Update}
 use Rattle.pws.specs.Program.{Shape, Program, ProgramInRange}
 use Rattle.pws.specs.Machine.{Configuration}
 use Rattle.pws.specs.Configurations.{StatesOf, ConfigurationOf, Start, InTarget}
@@ -18,15 +19,17 @@ use Rattle.pws.specs.Entries.{EntryOf, AboveList, filled, noEntry, entry}
 use Rattle.pws.specs.Sequences.{Visited, start, later}
 use Rattle.pws.proofs.Steps.{step-configuration}
 use Rattle.lists.specs.Lists.{every, lowest}
-use Rattle.lists.specs.Verdict.{TargetHeld, TargetMissed, NoStartAbove, StartAbove, Closed, WayIn, noTarget, target, SafeList, ListVerdict, safe, unheld, started, entered, Unheld, Started, Entered, ListJudged}
+use Rattle.lists.specs.Verdict.{TargetHeld, TargetMissed, NoStartAbove, StartAbove, Closed, WayIn, LowestWayIn, noTarget, target, SafeList, ListVerdict, safe, unheld, started, entered, Unheld, Started, Entered, ListJudged}
 use Rattle.lists.specs.Covering.{Outside}
 use Rattle.lists.specs.Predecessors.{predecessors, steps, cube}
 use Rattle.lists.specs.Shapes.{shapeCubes}
-use Rattle.lists.specs.Decision.{held, targetHeld, looksStarted, closed, verdictOf}
+use Rattle.lists.specs.Decision.{held, targetHeld, looksStarted, closed, openStep, verdictOf}
 use Rattle.lists.proofs.Lists.{every-yes, every-no, Lowest, fails, passes, lowest-is}
 use Rattle.lists.proofs.Cubes.{entry-cube}
+use Rattle.lists.proofs.NoneMissing.{none-missing}
 use Rattle.lists.proofs.NoneExtra.{none-extra, filling-configuration}
-use Rattle.lists.proofs.Closed.{predecessor-of, closed-cubes}
+use Rattle.lists.proofs.Closed.{step-in, predecessor-of, step-cubes, closed-cubes}
+use Rattle.lists.proofs.StepOrder.{before-or, steps-order, first-fails, first-lower}
 use Rattle.lists.proofs.Targets.{shape-entry, shape-target, shapes-target}
 use Rattle.lists.proofs.Starts.{start-above, no-start-above}
 use Rattle.lists.proofs.Splitting.{Decided, held-decided, decided-yes, decided-no}
@@ -65,8 +68,11 @@ held-missed H m = m .outside (H (m .configuration) (m .of) (m .inTarget))
 none-start : {P : Program} {e : Configuration} → NoStartAbove P e → StartAbove P e → ⊥
 none-start N s = N (s .configuration) (s .start) (s .above)
 
-closed-way : {P : Program} {es : List Configuration} {e : Configuration} → Closed P es e → WayIn P es e → ⊥
-closed-way C w = w .outside (C (w .configuration) (w .of) (w .step) (w .permitted) (w .above))
+closed-way : {P : Program} {es : List Configuration} {e : Configuration} → Closed P es e → (s : Step) × WayIn P es e s → ⊥
+closed-way C (s, w) = w .outside (C (w .configuration) (w .of) s (w .permitted) (w .above))
+
+way-same : {P : Program} {es : List Configuration} {e : Configuration} (s t : Step) → LowestWayIn P es e s → LowestWayIn P es e t → s ≡ t
+way-same s t a b = ⊎-elim (λ e. e) (⊎-elim (λ l. absurd (b .lower s l (a .way))) (λ l. absurd (a .lower t l (b .way)))) (before-or s t)
 
 -- two lowest numbers are equal
 lowest-same : {F G : ℕ → Type 0} → ((k : ℕ) → F k → G k → ⊥) → (i j : ℕ) → ((k : ℕ) → k < i → F k) → G i → ((k : ℕ) → k < j → F k) → G j → i ≡ j
@@ -82,8 +88,13 @@ module _ (P : Program) (ts : List (ℕ → ℕ)) (es : List Configuration) where
   started-clash : {k : ℕ} → Started P ts es k → NoneStarted P ts es → ⊥
   started-clash {k} s N = none-start (N k (s .exists)) (s .start)
 
-  entered-clash : {k : ℕ} → Entered P ts es k → AllClosed P ts es → ⊥
-  entered-clash {k} w C = closed-way (C k (w .exists)) (w .way)
+  entered-clash : {k : ℕ} {s : Step} → Entered P ts es k s → AllClosed P ts es → ⊥
+  entered-clash {k} {s} w C = closed-way (C k (w .exists)) (s, w .way .way)
+
+  entered-same : (k j : ℕ) (s t : Step) → Entered P ts es k s → Entered P ts es j t → entered k s ≡ entered j t
+  entered-same k j s t x y =
+      let e = lowest-same (λ i. closed-way) k j (x .lower) (s, x .way .way) (y .lower) (t, y .way .way) in
+      ap₂ entered e (way-same s t (x .way) (subst (λ (i : ℕ). LowestWayIn P es (entry es i) t) (sym e) (y .way)))
 
   safe-parts : SafeList P ts es → TargetsHeld P ts es × NoneStarted P ts es × AllClosed P ts es
   safe-parts s = safe-by-number P ts es .0 s
@@ -92,19 +103,19 @@ module _ (P : Program) (ts : List (ℕ → ℕ)) (es : List Configuration) where
   verdict-unique (safe m) (safe n) x y = ap safe (x .0 ∙ sym (y .0))
   verdict-unique (safe m) (unheld k) x y = absurd (unheld-clash y (safe-parts (x .1) .0))
   verdict-unique (safe m) (started k) x y = absurd (started-clash y (safe-parts (x .1) .1))
-  verdict-unique (safe m) (entered k) x y = absurd (entered-clash y (safe-parts (x .1) .2))
+  verdict-unique (safe m) (entered k s) x y = absurd (entered-clash y (safe-parts (x .1) .2))
   verdict-unique (unheld k) (safe n) x y = absurd (unheld-clash x (safe-parts (y .1) .0))
   verdict-unique (unheld k) (unheld j) x y = ap unheld (lowest-same (λ i. held-missed) k j (x .lower) (x .missed) (y .lower) (y .missed))
   verdict-unique (unheld k) (started j) x y = absurd (unheld-clash x (y .held))
-  verdict-unique (unheld k) (entered j) x y = absurd (unheld-clash x (y .held))
+  verdict-unique (unheld k) (entered j t) x y = absurd (unheld-clash x (y .held))
   verdict-unique (started k) (safe n) x y = absurd (started-clash x (safe-parts (y .1) .1))
   verdict-unique (started k) (unheld j) x y = absurd (unheld-clash y (x .held))
   verdict-unique (started k) (started j) x y = ap started (lowest-same (λ i. none-start) k j (x .lower) (x .start) (y .lower) (y .start))
-  verdict-unique (started k) (entered j) x y = absurd (started-clash x (y .unstarted))
-  verdict-unique (entered k) (safe n) x y = absurd (entered-clash x (safe-parts (y .1) .2))
-  verdict-unique (entered k) (unheld j) x y = absurd (unheld-clash y (x .held))
-  verdict-unique (entered k) (started j) x y = absurd (started-clash y (x .unstarted))
-  verdict-unique (entered k) (entered j) x y = ap entered (lowest-same (λ i. closed-way) k j (x .lower) (x .way) (y .lower) (y .way))
+  verdict-unique (started k) (entered j t) x y = absurd (started-clash x (y .unstarted))
+  verdict-unique (entered k s) (safe n) x y = absurd (entered-clash x (safe-parts (y .1) .2))
+  verdict-unique (entered k s) (unheld j) x y = absurd (unheld-clash y (x .held))
+  verdict-unique (entered k s) (started j) x y = absurd (started-clash y (x .unstarted))
+  verdict-unique (entered k s) (entered j t) x y = entered-same k j s t x y
 
 -- ---- the verdict that is computed
 
@@ -139,26 +150,41 @@ module _ (P : Program) (R : ProgramInRange P) (es : List Configuration) (oes : (
   closed-yes e o y = closed-cubes P R es e o .1 (λ s j d i.
       decided-yes (decided d (predecessor-entry e o s d i)) (every-yes (held S es) (predecessors P e s) (every-yes (λ s. every (held S es) (predecessors P e s)) (steps P) y s j) d i))
 
-  pub closed-no : (e : Configuration) → EntryOf P e → T (not (closed P es e)) → WayIn P es e
-  closed-no e o y =
-      let r = every-no (λ s. every (held S es) (predecessors P e s)) (steps P) y in
-      let s = r .0 in
-      let q = every-no (held S es) (predecessors P e s) (r .2) in
+  pub step-yes : (e : Configuration) → EntryOf P e → (s : Step) → T (every (held S es) (predecessors P e s)) → WayIn P es e s → ⊥
+  step-yes e o s y w =
+      w .outside
+      (step-cubes P R es e o s .1 (λ d i. decided-yes (decided d (predecessor-entry e o s d i)) (every-yes (held S es) (predecessors P e s) y d i))
+      (w .configuration) (w .of) (w .permitted) (w .above))
+
+  pub step-no : (e : Configuration) → EntryOf P e → (s : Step) → T (not (every (held S es) (predecessors P e s))) → WayIn P es e s
+  step-no e o s y =
+      let q = every-no (held S es) (predecessors P e s) y in
       let p = predecessor-of P e s (q .0) (q .1) in
       let x = subst (Outside S es) (p .2) (decided-no (decided (q .0) (predecessor-entry e o s (q .0) (q .1))) (q .2)) in
       let a = none-extra P R e o s (p .0) (p .1) (x .queues) (x .channel) (x .filling) in
       record {
         configuration = filled (cube P e s (p .0)) (x .queues) (x .channel);
         of = filling-configuration P R e o s (p .0) (p .1) (x .queues) (x .channel) (x .filling);
-        step = s;
         permitted = a .may;
         above = a .above;
         outside = x .outside;
       }
 
+  -- what leads above an entry is a step of the program
+  way-step : (e : Configuration) → EntryOf P e → (s : Step) → WayIn P es e s → List·Memᴰ s (steps P)
+  way-step e o s w = let b = none-missing P R e (w .configuration) o (w .of) s (w .permitted) (w .above) in step-in P e s (b .kind) (b .has)
+
+  pub closed-no : (e : Configuration) → EntryOf P e → T (not (closed P es e)) → LowestWayIn P es e (openStep P es e)
+  closed-no e o y =
+      let test : Step → Bool = λ s. every (held S es) (predecessors P e s) in
+      record {
+        way = step-no e o (openStep P es e) (first-fails test (Update 0) (steps P) y);
+        lower = λ t l w. step-yes e o t (first-lower test (Update 0) (steps P) (steps-order P) y t (way-step e o t w) l) w;
+      }
+
   module _ (ts : List (ℕ → ℕ)) (ots : (k : ℕ) → k < length ts → StatesOf P (target ts k))
       (ones : (k : ℕ) → k < length es → (q : ℕ) × (q < P .shape .processes) × (entry es k .memory .pointer q ≡ 1)) where
-    third : TargetsHeld P ts es → NoneStarted P ts es → {o : Option ℕ} → Lowest (closed P es) noEntry es o → ListJudged P ts es (elim o [ some k ↦ entered k | none ↦ safe (length es) ])
+    third : TargetsHeld P ts es → NoneStarted P ts es → {o : Option ℕ} → Lowest (closed P es) noEntry es o → ListJudged P ts es (elim o [ some k ↦ entered k (openStep P es (entry es k)) | none ↦ safe (length es) ])
     third H N (fails k l t a) =
         record { held = H; unstarted = N; exists = l; lower = λ j i. closed-yes (entry es j) (oes j (omega arith)) (a j i); way = closed-no (entry es k) (oes k l) t }
     third H N (passes a) = (refl, safe-by-number P ts es .1 (H, N, λ k l. closed-yes (entry es k) (oes k l) (a k l)))
@@ -167,7 +193,7 @@ module _ (P : Program) (R : ProgramInRange P) (es : List Configuration) (oes : (
     unstarted k l t = let q = ones k l in no-start-above P R (entry es k) (oes k l) (q .0) (q .1) (q .2) .0 (T-not (looksStarted P (entry es k)) t)
 
     second : TargetsHeld P ts es → {o : Option ℕ} → Lowest (λ e. not (looksStarted P e)) noEntry es o
-        → ListJudged P ts es (elim o [ some k ↦ started k | none ↦ elim (lowest (closed P es) es) [ some k ↦ entered k | none ↦ safe (length es) ] ])
+        → ListJudged P ts es (elim o [ some k ↦ started k | none ↦ elim (lowest (closed P es) es) [ some k ↦ entered k (openStep P es (entry es k)) | none ↦ safe (length es) ] ])
     second H (fails k l t a) =
         let q = ones k l in
         record {
@@ -181,7 +207,7 @@ module _ (P : Program) (R : ProgramInRange P) (es : List Configuration) (oes : (
     first : {o : Option ℕ} → Lowest (targetHeld P es) noTarget ts o
         → ListJudged P ts es (elim o [
           | some k ↦ unheld k
-          | none ↦ elim (lowest (λ e. not (looksStarted P e)) es) [ some k ↦ started k | none ↦ elim (lowest (closed P es) es) [ some k ↦ entered k | none ↦ safe (length es) ] ]
+          | none ↦ elim (lowest (λ e. not (looksStarted P e)) es) [ some k ↦ started k | none ↦ elim (lowest (closed P es) es) [ some k ↦ entered k (openStep P es (entry es k)) | none ↦ safe (length es) ] ]
         ])
     first (fails k l t a) =
         record { exists = l; lower = λ j i. target-yes (target ts j) (ots j (omega arith)) (a j i); missed = target-no (target ts k) (ots k l) t }

@@ -5,6 +5,7 @@ use mathlib.Core.List.{List, [], _∷_, map}
 use lib.Dec.{eqb}
 use Rattle.pws.specs.declared.Message.{Message}
 use Rattle.pws.specs.declared.Operation.the-variants.{Nop}
+use Rattle.pws.specs.declared.Step.the-variants.{Take}
 use Rattle.pws.specs.declared.Transition.{Transition}
 use Rattle.pws.specs.Program.{Program}
 use Rattle.pws.specs.Machine.{Configuration}
@@ -70,7 +71,7 @@ cases =
     -- D: it is given twice, with 0 and with 1
     ∷ record { transitions = []; state = 1; entries = (1, []) ∷ (1, 0 ∷ []) ∷ (1, 1 ∷ []) ∷ (2, []) ∷ (2, FF ∷ []) ∷ []; verdict = safe 5 }
     -- E: with a transition
-    ∷ record { transitions = goes ∷ []; state = 1; entries = (1, []) ∷ (1, FF ∷ []) ∷ (2, []) ∷ (2, FF ∷ []) ∷ []; verdict = entered 0 }
+    ∷ record { transitions = goes ∷ []; state = 1; entries = (1, []) ∷ (1, FF ∷ []) ∷ (2, []) ∷ (2, FF ∷ []) ∷ []; verdict = entered 0 (Take 0) }
     -- F: in state 0
     ∷ record { transitions = []; state = 0; entries = (1, []) ∷ (1, FF ∷ []) ∷ (2, []) ∷ (2, FF ∷ []) ∷ []; verdict = started 0 }
     ∷ []

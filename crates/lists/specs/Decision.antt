@@ -5,12 +5,14 @@ use mathlib.Core.Option.{none, some}
 use mathlib.Core.List.{List, [], _∷_}
 use lib.ListN.{length}
 use lib.Dec.{eqb}
+use Rattle.pws.specs.declared.Step.{Step}
+use Rattle.pws.specs.declared.Step.the-variants.{Update}
 use Rattle.pws.specs.Program.{Shape, Program}
 use Rattle.pws.specs.Machine.{Configuration, allBelow, noneWaiting}
 use Rattle.pws.specs.Configurations.{inTarget}
-use Rattle.pws.specs.Entries.{FF}
+use Rattle.pws.specs.Entries.{FF, entry}
 use Rattle.lists.specs.Verdict.{ListVerdict, safe, unheld, started, entered}
-use Rattle.lists.specs.Lists.{every, anyOf, lowest}
+use Rattle.lists.specs.Lists.{every, anyOf, lowest, firstFailing}
 use Rattle.lists.specs.Values.{fills, alike}
 use Rattle.lists.specs.Matching.{matches}
 use Rattle.lists.specs.Covering.{Place, variableOf, at, split, places}
@@ -48,11 +50,15 @@ looksStarted P e =
 abbrev pub closed : Program → List Configuration → Configuration → Bool
 closed P es e = every (λ s. every (held (P .shape) es) (predecessors P e s)) (steps P)
 
+-- the lowest step of which a predecessor is not held
+abbrev pub openStep : Program → List Configuration → Configuration → Step
+openStep P es e = firstFailing (λ s. every (held (P .shape) es) (predecessors P e s)) (Update 0) (steps P)
+
 abbrev pub verdictOf : Program → List (ℕ → ℕ) → List Configuration → ListVerdict
 verdictOf P ts es = elim (lowest (targetHeld P es) ts) [
   | some k ↦ unheld k
   | none ↦ elim (lowest (λ e. not (looksStarted P e)) es) [
     | some k ↦ started k
-    | none ↦ elim (lowest (closed P es) es) [ some k ↦ entered k | none ↦ safe (length es) ]
+    | none ↦ elim (lowest (closed P es) es) [ some k ↦ entered k (openStep P es (entry es k)) | none ↦ safe (length es) ]
   ]
 ]

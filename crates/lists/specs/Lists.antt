@@ -30,3 +30,8 @@ next (some k) = some (suc k)
 abbrev pub lowest {ℓ} : {A : Type ℓ} → (A → Bool) → List A → Option ℕ
 lowest f [] = none
 lowest f (x ∷ xs) = elim (f x) [ true ↦ next (lowest f xs) | false ↦ some 0 ]
+
+-- the first that fails the test, or d if none does
+abbrev pub firstFailing {ℓ} : {A : Type ℓ} → (A → Bool) → A → List A → A
+firstFailing f d [] = d
+firstFailing f d (x ∷ xs) = elim (f x) [ true ↦ firstFailing f d xs | false ↦ x ]
