@@ -1,25 +1,28 @@
--- The walk over the steps by number reaches every one, in order.
+-- The walk over the steps by number reaches every one, in the order of steps.
 use Prim.Native.Nat.{ℕ, _+_, _*_, _-_, _/_, _%_, _<_, _≤_, min}
 use mathlib.Core.Path.{_≡_, refl, sym, ap, subst, _∙_}
-use mathlib.Core.Bool.{Bool, true, false, _&&_}
+use mathlib.Core.Logic.{inl, inr, ⊎-elim}
+use mathlib.Core.Bool.{Bool, true, false, _&&_, cond, not}
 use mathlib.Core.List.{List}
 use native.Mathlib.Omega.{arith}
 use native.Mathlib.Decide.{decLt, ℕ-discrete}
 use lib.ListN.{length}
 use lib.Dec.{T, eqb, ltb}
-use borrow.Author.Tests.{lt-ltb, le-ltb, eq-eqb, eqb-true, ltb-true}
+use borrow.Author.Tests.{lt-ltb, le-ltb, eq-eqb, ne-eqb, eqb-true, ltb-true}
 use mir.Facts.{and-yes}
 use Rattle.pws.specs.declared.Step.{Step}
 use Rattle.pws.specs.declared.Step.the-variants.{Take, Serialise, Update}
 use Rattle.pws.specs.Program as pws
 use Rattle.pws.specs.Machine.{Configuration}
 use Rattle.lists.specs.Lists.{every}
+use Rattle.lists.specs.Verdict.{StepBefore}
 use Rattle.lists.specs.Predecessors as lists
 use Rattle.lists.specs.Predecessors.{has, cube, predecessors, steps, serialised, serialiseKind, updateKind}
-use Rattle.lists.specs.Decision.{held, closed}
-use Rattle.lists.proofs.Lists.{every-yes}
+use Rattle.lists.specs.Decision.{held, closed, openStep}
+use Rattle.lists.proofs.Lists.{T-false, every-yes, every-no}
 use Rattle.lists.proofs.Cubes.{take-has, label-exists}
-use Rattle.lists.proofs.Closed.{step-in}
+use Rattle.lists.proofs.Closed.{step-in, predecessor-of}
+use Rattle.lists.proofs.StepOrder.{before-once, before-or, steps-order, first-fails, first-lower}
 use Rattle.program_part.specs.declared.program.Program.{Program}
 use Rattle.program_part.specs.ProgramPart.{programOf}
 use Rattle.whole_file.specs.declared.entry.Cube.{Cube}
@@ -27,7 +30,9 @@ use Rattle.whole_file.specs.Cube.{configurationOf}
 use Rattle.by_number.specs.Again.{entriesOf}
 use Rattle.program_part.specs.Records.{transitionAt}
 use Rattle.by_number.proofs.Tables.{table-length}
-use Rattle.closing.specs.Walk.{stepHeld, walkStep, LowestFailing, Walkable}
+use Rattle.closing.specs.declared.Opening.{Opening}
+use Rattle.closing.specs.declared.Opening.the-variants.{Shut, Through}
+use Rattle.closing.specs.Walk.{stepHeld, walkStep, openingAt, openingOf, LowestFailing, Walkable}
 use Rattle.closing.proofs.StepLaws.{same-truth, truth, is-yes, not-both, yes-every, held-kind, step-true}
 
 pub count-is : (f : List ℕ) (p : Program) → length (programOf f p .transitions) ≡ p .transitions .count
@@ -77,6 +82,52 @@ step-update m p =
     let x : m + (16 + p) - m ≡ 16 + p = omega arith in
     let y : 16 + p - 16 ≡ p = omega arith in
     rw (le-ltb (m + (16 + p)) m (omega arith)) (rw x (rw (le-ltb (16 + p) 16 (omega arith)) (rw y refl)))
+
+at-serialise : (m j : ℕ) → m ≤ j → j < m + 16 → walkStep m j ≡ Serialise ((j - m) / 4) ((j - m) % 4)
+at-serialise m j a b = let e : m + (j - m) ≡ j = omega arith in ap (walkStep m) (sym e) ∙ step-serialise m (j - m) (omega arith)
+
+at-update : (m j : ℕ) → m + 16 ≤ j → walkStep m j ≡ Update (j - m - 16)
+at-update m j a = let e : m + (16 + (j - m - 16)) ≡ j = omega arith in ap (walkStep m) (sym e) ∙ step-update m (j - m - 16)
+
+-- the walk has the order of steps
+pub walk-order : (m i j : ℕ) → i < j → StepBefore (walkStep m i) (walkStep m j)
+walk-order m i j l = elim (decLt i m) [
+  | yes a ↦ elim (decLt j m) [
+    | yes b ↦ both (step-take m i a) (step-take m j b) l
+    | no b ↦ elim (decLt j (m + 16)) [
+      | yes c ↦ both (step-take m i a) (at-serialise m j (omega arith) c) tt
+      | no c ↦ both (step-take m i a) (at-update m j (omega arith)) tt
+    ]
+  ]
+  | no a ↦ elim (decLt j (m + 16)) [
+    | yes b ↦ both (at-serialise m i (omega arith) (omega arith)) (at-serialise m j (omega arith) b)
+        (elim (decLt ((i - m) / 4) ((j - m) / 4)) [ yes c ↦ inl c | no c ↦ inr (omega arith, omega arith) ])
+    | no b ↦ elim (decLt i (m + 16)) [
+      | yes c ↦ both (at-serialise m i (omega arith) c) (at-update m j (omega arith)) tt
+      | no c ↦ both (at-update m i (omega arith)) (at-update m j (omega arith)) (omega arith)
+    ]
+  ]
+]
+  where
+    both : {s t x y : Step} → s ≡ x → t ≡ y → StepBefore x y → StepBefore s t
+    both {s} {t} {x} {y} p q b = subst (λ (z : Step). StepBefore z t) (sym p) (subst (StepBefore x) (sym q) b)
+
+-- the step of a number
+pub opening-take : (m j : ℕ) → j < m → Through (Take j) ≡ openingAt m j
+unfolding openingAt
+opening-take m j l = sym (ap (λ (b : Bool). cond b (Through (walkStep m j)) Shut) (lt-ltb j (m + 20) (omega arith)) ∙ ap Through (step-take m j l))
+
+pub opening-serialise : (m j : ℕ) → m ≤ j → j < m + 16 → Through (Serialise ((j - m) / 4) ((j - m) % 4)) ≡ openingAt m j
+unfolding openingAt
+opening-serialise m j a b = sym (ap (λ (b : Bool). cond b (Through (walkStep m j)) Shut) (lt-ltb j (m + 20) (omega arith)) ∙ ap Through (at-serialise m j a b))
+
+pub opening-update : (m j : ℕ) → m + 16 ≤ j → j < m + 20 → Through (Update (j - m - 16)) ≡ openingAt m j
+unfolding openingAt
+opening-update m j a b = sym (ap (λ (b : Bool). cond b (Through (walkStep m j)) Shut) (lt-ltb j (m + 20) b) ∙ ap Through (at-update m j a))
+
+pub opening-none : (m j : ℕ) → m + 20 ≤ j → Shut ≡ openingAt m j
+unfolding openingAt
+opening-none m j a = sym (ap (λ (b : Bool). cond b (Through (walkStep m j)) Shut) (le-ltb j (m + 20) a))
 
 -- transitions, serialises and updates together
 module _ (H : Step → Bool) (m : ℕ) where
@@ -128,7 +179,7 @@ module _ (P : pws.Program) (R : pws.ShapeInRange (P .shape)) (es : List Configur
   closed-each t s = step-true P es e s (λ k h. held-kind P es e s (truth (every-yes (λ s. every (held (P .shape) es) (predecessors P e s)) (steps P) t s (step-in P e s k (is-yes h)))) k h)
 
   -- an entry is closed exactly when no step is open
-  pub lowest-closed : {r : ℕ} → LowestFailing (λ j. stepHeld P es e (walkStep m j)) (m + 20) r → eqb r (m + 20) ≡ closed P es e
+  lowest-closed : {r : ℕ} → LowestFailing (λ j. stepHeld P es e (walkStep m j)) (m + 20) r → eqb r (m + 20) ≡ closed P es e
   lowest-closed {r} w = same-truth (eqb r (m + 20)) (closed P es e)
       (λ t. let x : r ≡ m + 20 = eqb-true r (m + 20) (truth t) in each-closed (λ j l. w .each j (omega arith)))
       (λ t. elim (ℕ-discrete r (m + 20)) [
@@ -136,11 +187,80 @@ module _ (P : pws.Program) (R : pws.ShapeInRange (P .shape)) (es : List Configur
         | no d ↦ absurd (not-both (closed-each t (walkStep m r)) (w .fails (omega (arith, w .most))))
       ])
 
-pub closed-is : (f list sum : List ℕ) (n : ℕ) (p : Program) (c : Cube) → Walkable f list sum n p c → {r : ℕ}
+  -- a step with a predecessor that is not held is a step of the program
+  failing-kind : (s : Step) → stepHeld P es e s ≡ false → (k : lists.Kind) × (has P e s k ≡ true)
+  unfolding stepHeld
+  failing-kind s f =
+      let q = every-no (held (P .shape) es) (predecessors P e s) (subst (λ (b : Bool). T (not b)) (sym f) tt) in
+      let p = predecessor-of P e s (q .0) (q .1) in
+      (p .0, truth (p .1))
+
+  open-fails : T (not (closed P es e)) → stepHeld P es e (openStep P es e) ≡ false
+  unfolding stepHeld
+  open-fails y = T-false _ (first-fails (λ s. every (held (P .shape) es) (predecessors P e s)) (Update 0) (steps P) y)
+
+  open-lower : T (not (closed P es e)) → (t : Step) → stepHeld P es e t ≡ false → StepBefore t (openStep P es e) → ⊥
+  unfolding stepHeld
+  open-lower y t f b =
+      let k = failing-kind t f in
+      not-both (truth (first-lower (λ s. every (held (P .shape) es) (predecessors P e s)) (Update 0) (steps P) (steps-order P) y t (step-in P e t (k .0) (is-yes (k .1))) b)) f
+
+  walked-lower : {r : ℕ} → LowestFailing (λ j. stepHeld P es e (walkStep m j)) (m + 20) r → (s : Step) → stepHeld P es e s ≡ false → StepBefore s (walkStep m r) → ⊥
+  walked-lower {r} w s f b =
+      let k = failing-kind s f in
+      let j = step-number s (k .0) (k .1) in
+      elim (decLt (j .0) r) [
+        | yes l ↦ not-both (w .each (j .0) l) (subst (λ (z : Step). stepHeld P es e z ≡ false) (sym (j .2)) f)
+        | no l ↦ elim (ℕ-discrete (j .0) r) [
+          | yes d ↦ let x : StepBefore s s = subst (StepBefore s) (ap (walkStep m) (sym d) ∙ j .2) b in before-once s s x x
+          | no d ↦ before-once s (walkStep m r) b (subst (StepBefore (walkStep m r)) (j .2) (walk-order m r (j .0) (omega arith)))
+        ]
+      ]
+
+  -- the lowest of the walk is the lowest of all steps
+  lowest-step : {r : ℕ} → LowestFailing (λ j. stepHeld P es e (walkStep m j)) (m + 20) r → r < m + 20 → T (not (closed P es e)) → walkStep m r ≡ openStep P es e
+  lowest-step {r} w l y = ⊎-elim (λ d. d)
+      (⊎-elim (λ b. absurd (open-lower y (walkStep m r) (w .fails l) b)) (λ b. absurd (walked-lower w (openStep P es e) (open-fails y) b)))
+      (before-or (walkStep m r) (openStep P es e))
+
+  lowest-opening : {r : ℕ} → LowestFailing (λ j. stepHeld P es e (walkStep m j)) (m + 20) r → openingAt m r ≡ openingOf P es e
+  unfolding openingAt openingOf
+  lowest-opening {r} w = elim (decLt r (m + 20)) [
+    | yes l ↦
+        let c : closed P es e ≡ false = sym (lowest-closed w) ∙ ne-eqb r (m + 20) (λ d. omega arith) in
+        ap (λ (b : Bool). cond b (Through (walkStep m r)) Shut) (lt-ltb r (m + 20) l)
+        ∙ ap Through (lowest-step w l (subst (λ (b : Bool). T (not b)) (sym c) tt))
+        ∙ sym (ap (λ (b : Bool). cond b Shut (Through (openStep P es e))) c)
+    | no l ↦
+        let c : closed P es e ≡ true = sym (lowest-closed w) ∙ eq-eqb r (m + 20) (omega (arith, w .most)) in
+        ap (λ (b : Bool). cond b (Through (walkStep m r)) Shut) (le-ltb r (m + 20) (omega arith))
+        ∙ sym (ap (λ (b : Bool). cond b Shut (Through (openStep P es e))) c)
+  ]
+
+pub opening-is : (f list sum : List ℕ) (n : ℕ) (p : Program) (c : Cube) → Walkable f list sum n p c → {r : ℕ}
     → LowestFailing (λ j. stepHeld (programOf f p) (entriesOf f list n) (configurationOf c) (walkStep (min (p .transitions .count) 256) j)) (min (p .transitions .count) 256 + 20) r
-    → eqb r (min (p .transitions .count) 256 + 20) ≡ closed (programOf f p) (entriesOf f list n) (configurationOf c)
-closed-is f list sum n p c W {r} w =
+    → openingAt (min (p .transitions .count) 256) r ≡ openingOf (programOf f p) (entriesOf f list n) (configurationOf c)
+opening-is f list sum n p c W {r} w =
     let e : min (p .transitions .count) 256 ≡ length (programOf f p .transitions) = omega (arith, count-is f p, W .transitions) in
-    ap (λ (m : ℕ). eqb r (m + 20)) e
-    ∙ lowest-closed (programOf f p) (W .stepping .program .shape) (entriesOf f list n) (configurationOf c)
+    ap (λ (m : ℕ). openingAt m r) e
+    ∙ lowest-opening (programOf f p) (W .stepping .program .shape) (entriesOf f list n) (configurationOf c)
     (subst (λ (m : ℕ). LowestFailing (λ j. stepHeld (programOf f p) (entriesOf f list n) (configurationOf c) (walkStep m j)) (m + 20) r) e w)
+
+-- what an opening says
+
+through : (b : Bool) (s t : Step) → cond b Shut (Through t) ≡ Through s → (b ≡ false) × (t ≡ s)
+through true s t e = absurd (subst T (sym (ap (λ (x : Opening). elim x [ Shut ↦ false | Through z ↦ true ]) e)) tt)
+through false s t e = (refl, ap (λ (x : Opening). elim x [ Shut ↦ t | Through z ↦ z ]) e)
+
+shut : (b : Bool) (t : Step) → cond b Shut (Through t) ≡ Shut → b ≡ true
+shut true t e = refl
+shut false t e = absurd (subst T (ap (λ (x : Opening). elim x [ Shut ↦ false | Through z ↦ true ]) e) tt)
+
+pub opening-through : (P : pws.Program) (es : List Configuration) (e : Configuration) (s : Step) → openingOf P es e ≡ Through s
+    → (closed P es e ≡ false) × (openStep P es e ≡ s)
+unfolding openingOf
+opening-through P es e s h = through (closed P es e) s (openStep P es e) h
+
+pub opening-shut : (P : pws.Program) (es : List Configuration) (e : Configuration) → openingOf P es e ≡ Shut → closed P es e ≡ true
+unfolding openingOf
+opening-shut P es e h = shut (closed P es e) (openStep P es e) h

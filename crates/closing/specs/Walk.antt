@@ -15,7 +15,7 @@ use Rattle.pws.specs.Configurations.{Fits}
 use Rattle.pws.specs.Entries.{ValueOrFF, EntryOf}
 use Rattle.lists.specs.Lists.{every}
 use Rattle.lists.specs.Predecessors.{predecessors, serialised}
-use Rattle.lists.specs.Decision.{held}
+use Rattle.lists.specs.Decision.{held, closed, openStep}
 use Rattle.program_part.specs.declared.program.Program.{Program}
 use Rattle.whole_file.specs.declared.entry.Cube.{Cube}
 use Rattle.program_part.specs.ProgramPart.{shapeOf, programOf}
@@ -23,6 +23,8 @@ use Rattle.whole_file.specs.Cube.{configurationOf}
 use Rattle.by_number.specs.Again.{cubeAt, entriesOf}
 use Rattle.summary.specs.Summary.{Summed}
 use Rattle.before.specs.Before.{Sound}
+use Rattle.closing.specs.declared.Opening.{Opening}
+use Rattle.closing.specs.declared.Opening.the-variants.{Shut, Through}
 
 -- every predecessor cube of e for the step s is held: `closed` asks it of each step
 unfoldable pub stepHeld : pws.Program → List Configuration → Configuration → Step → Bool
@@ -36,6 +38,14 @@ unfoldable pub walkStep : ℕ → ℕ → Step
 walkStep transitions j =
     cond (ltb j transitions) (Take j)
     (cond (ltb (j - transitions) 16) (Serialise ((j - transitions) / 4) ((j - transitions) % 4)) (Update (j - transitions - 16)))
+
+-- there are 20 after the transitions
+unfoldable pub openingAt : ℕ → ℕ → Opening
+openingAt transitions j = cond (ltb j (transitions + 20)) (Through (walkStep transitions j)) Shut
+
+-- what `closed` and `openStep` say of an entry
+unfoldable pub openingOf : pws.Program → List Configuration → Configuration → Opening
+openingOf P es e = cond (closed P es e) Shut (Through (openStep P es e))
 
 -- r is the lowest number below n that fails the test, or n if none does
 pub record LowestFailing (g : ℕ → Bool) (n r : ℕ) : Type 0 where

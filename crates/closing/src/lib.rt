@@ -1,14 +1,13 @@
-// Is every configuration one step before those above an entry above the list (number 11)? The predecessor cubes of the entry are made one
+// Through which step does a configuration outside the list get above an entry (number 11)? The predecessor cubes of the entry are made one
 // after another, and each is searched for (theory, section 5, T7 and T8). Steps that have none are passed over before a cube is made.
 ghost use mathlib.Core.Path.{_≡_};
 ghost use Prim.Native.Nat.{ℕ, _+_, _/_, _%_, _≤_, _<_, min};
 ghost use Rattle.pws.specs.declared.Step.the-variants.{Take, Serialise, Update};
-ghost use Rattle.lists.specs.Decision.{closed};
 ghost use Rattle.program_part.specs.ProgramPart.{programOf};
 ghost use Rattle.whole_file.specs.Cube.{configurationOf};
 ghost use Rattle.by_number.specs.Again.{cubeAt, entriesOf};
 ghost use Rattle.before.specs.Before.{LastWrites};
-ghost use Rattle.closing.specs.Walk.{stepHeld, walkStep, LowestFailing, Walkable};
+ghost use Rattle.closing.specs.Walk.{stepHeld, walkStep, LowestFailing, Walkable, openingAt, openingOf};
 use crate::serialise::serialised_held;
 use crate::take::taken_held;
 use crate::update::updated_held;
@@ -20,11 +19,18 @@ use matching::least;
 use program_part::bytes::wide;
 use program_part::program::Program;
 use program_part::program::of_four;
+use pws::Step;
 use whole_file::entry::Cube;
 
 mod serialise;
 mod take;
 mod update;
+
+// The lowest step through which a configuration outside the list gets above an entry, if there is one.
+pub enum Opening {
+    Shut,
+    Through { step: Step },
+}
 
 // The lowest transition one of whose predecessor cubes is not held, or their number.
 fn open_take(
@@ -94,7 +100,7 @@ fn open_update(
     4
 }
 
-// The number of the lowest step, in the order of `stepAt`, one of whose predecessor cubes is not held; 20 past the transitions if there is
+// The number of the lowest step, in the order of `walkStep`, one of whose predecessor cubes is not held; 20 past the transitions if there is
 // none.
 fn cube_open(file: &[u8], list: &[u8], sum: &[u8], n: usize, program: Program, cube: Cube) -> usize
     ensures { λ r. ⌜ (Walkable (now (file .entry)) (now (list .entry)) (now (sum .entry)) n program cube → LowestFailing (λ j. stepHeld (programOf (now (file .entry)) program) (entriesOf (now (file .entry)) (now (list .entry)) n) (configurationOf cube) (walkStep (min (program .transitions .count) 256) j)) (min (program .transitions .count) 256 + 20) r) ⌝ }
@@ -114,6 +120,32 @@ fn cube_open(file: &[u8], list: &[u8], sum: &[u8], n: usize, program: Program, c
     m + 16 + u
 }
 
+// The step of number j, after m transitions, in the order of `walkStep`; there is none from 20 past them on.
+fn opening_at(m: usize, j: usize) -> Opening
+    ensures { λ r. ⌜ r ≡ openingAt m j ⌝ }
+{
+    if j < m {
+        return Opening::Through {
+            step: Step::Take { transition: j },
+        };
+    }
+    let i = j - m;
+    if i < 16 {
+        return Opening::Through {
+            step: Step::Serialise {
+                process: i / 4,
+                variable: i % 4,
+            },
+        };
+    }
+    if i < 20 {
+        return Opening::Through {
+            step: Step::Update { process: i - 16 },
+        };
+    }
+    Opening::Shut
+}
+
 // Through which step does a configuration outside the list get above entry k? `sum` is the list's summary.
 pub fn open_step(
     file: &[u8],
@@ -122,25 +154,11 @@ pub fn open_step(
     n: usize,
     program: Program,
     k: usize,
-) -> usize
-    ensures { λ r. ⌜ (Walkable (now (file .entry)) (now (list .entry)) (now (sum .entry)) n program (cubeAt (now (file .entry)) (now (list .entry)) k) → LowestFailing (λ j. stepHeld (programOf (now (file .entry)) program) (entriesOf (now (file .entry)) (now (list .entry)) n) (configurationOf (cubeAt (now (file .entry)) (now (list .entry)) k)) (walkStep (min (program .transitions .count) 256) j)) (min (program .transitions .count) 256 + 20) r) ⌝ }
-{
-    let cube = entry_at(file, list, k);
-    cube_open(file, list, sum, n, program, cube)
-}
-
-// Is every configuration one step before those above entry k above the list?
-pub fn entry_closed(
-    file: &[u8],
-    list: &[u8],
-    sum: &[u8],
-    n: usize,
-    program: Program,
-    k: usize,
-) -> bool
-    ensures { λ r. ⌜ (Walkable (now (file .entry)) (now (list .entry)) (now (sum .entry)) n program (cubeAt (now (file .entry)) (now (list .entry)) k) → r ≡ closed (programOf (now (file .entry)) program) (entriesOf (now (file .entry)) (now (list .entry)) n) (configurationOf (cubeAt (now (file .entry)) (now (list .entry)) k))) ⌝ }
+) -> Opening
+    ensures { λ r. ⌜ (Walkable (now (file .entry)) (now (list .entry)) (now (sum .entry)) n program (cubeAt (now (file .entry)) (now (list .entry)) k) → r ≡ openingOf (programOf (now (file .entry)) program) (entriesOf (now (file .entry)) (now (list .entry)) n) (configurationOf (cubeAt (now (file .entry)) (now (list .entry)) k))) ⌝ }
 {
     let row = program.transitions;
     let m = least(row.count, 256);
-    open_step(file, list, sum, n, program, k) == m + 20
+    let cube = entry_at(file, list, k);
+    opening_at(m, cube_open(file, list, sum, n, program, cube))
 }
