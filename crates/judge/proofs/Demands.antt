@@ -2,16 +2,18 @@
 use Prim.Native.Nat.{ℕ, _<_, _≤_}
 use mathlib.Core.Path.{_≡_, refl, sym, ap, ap₂, subst, _∙_}
 use mathlib.Core.Logic.{_↔_, _⊎_, inl, inr, ⊎-elim}
-use mathlib.Core.Bool.{Bool, true, false, cond}
+use mathlib.Core.Bool.{Bool, true, false, cond, not, _&&_}
 use mathlib.Core.List.{List}
 use native.Mathlib.Omega.{arith}
 use native.Mathlib.Decide.{decLt, ℕ-discrete}
-use lib.ListN.{getD}
-use lib.Dec.{T, eqb, leb}
+use lib.ListN.{length, getD}
+use lib.Dec.{T, eqb, leb, ltb, ltb→lt}
 use borrow.Author.Tests.{leb-true}
+use mir.Facts.{and-yes}
 use Rattle.pws.specs.declared.Step.{Step}
-use Rattle.pws.specs.Program.{Program, ProgramInRange}
-use Rattle.pws.specs.Machine.{Configuration}
+use Rattle.pws.specs.declared.Step.the-variants.{Take, Serialise, Update}
+use Rattle.pws.specs.Program.{Program, ProgramInRange, transition}
+use Rattle.pws.specs.Machine.{Configuration, may, mayTake, isEmpty}
 use Rattle.pws.specs.Configurations.{StartingMemory}
 use Rattle.pws.specs.Ranges.{CountsOf, KeepsRanges}
 use Rattle.pws.proofs.Simulation.{simulation}
@@ -20,7 +22,7 @@ use Rattle.lists.specs.Verdict as lists
 use Rattle.lists.specs.Decision as decision
 use Rattle.lists.proofs.Verdict.{verdict-unique, verdict-judged, safe-visited}
 use Rattle.whole_file.specs.Reading as reading
-use Rattle.by_number.specs.Contents.{ListRead}
+use Rattle.by_number.specs.Contents.{ListRead, StepOf}
 use Rattle.by_number.proofs.Contents.{list-read, run-read, pso-run-read}
 use Rattle.by_number.proofs.Counts.{HasCounts, file-counts}
 use Rattle.replay.specs.declared.step.Cause.{Cause}
@@ -32,7 +34,7 @@ use Rattle.replay.specs.Answers.{runAnswer}
 use Rattle.pso.specs.declared.PsoStep.the-variants.{RemoveMark}
 use Rattle.psoreplay.specs.Answers.{psoSteps, PsoAnswered, psoRunAnswer}
 use Rattle.psoreplay.proofs.Accepted.{pso-answered, pso-only}
-use Rattle.judge.specs.Judge.{Verdict, safe, reachable, pso, refused, ofList, ofRun, ofPsoRun, FileJudged, Judged, ofFile, judged}
+use Rattle.judge.specs.Judge.{Verdict, safe, reachable, pso, refused, entered, ofList, ofRun, ofPsoRun, FileJudged, Judged, ofFile, judged}
 use Rattle.judge.specs.PsoRuns.{OfPsoRun, PsoHalts}
 use Rattle.judge.specs.Demands.{
   OfList,
@@ -75,24 +77,28 @@ kind (safe n) = 0
 kind (reachable n k) = 1
 kind (refused n k) = 2
 kind (pso n k) = 3
+kind (entered k s) = 4
 
 abbrev code : Verdict → ℕ
 code (safe n) = 15
 code (reachable n k) = 14
 code (pso n k) = 14
 code (refused n k) = n
+code (entered k s) = 11
 
 abbrev place : Verdict → ℕ
 place (safe n) = n
 place (reachable n k) = k
 place (pso n k) = k
 place (refused n k) = k
+place (entered k s) = k
 
 abbrev toList : Verdict → lists.ListVerdict
 toList (safe n) = lists.safe n
 toList (reachable n k) = lists.safe n
 toList (pso n k) = lists.safe n
-toList (refused n k) = cond (eqb n 9) (lists.unheld k) (cond (eqb n 10) (lists.started k) (lists.entered k))
+toList (refused n k) = cond (eqb n 9) (lists.unheld k) (lists.started k)
+toList (entered k s) = lists.entered k s
 
 abbrev causeBy : ℕ → Cause
 causeBy n = cond (eqb n 12) State (cond (eqb n 16) Queue (cond (eqb n 17) Pointer (cond (eqb n 15) Value Nothing)))
@@ -102,12 +108,13 @@ toRun (safe n) = Missed n
 toRun (reachable n k) = Reachable n k
 toRun (pso n k) = Reachable n k
 toRun (refused n k) = cond (eqb n 13) (Missed k) (Stopped k (causeBy n))
+toRun (entered k s) = Missed k
 
 list-back : (v : lists.ListVerdict) → toList (ofList v) ≡ v
 list-back (lists.safe n) = refl
 list-back (lists.unheld k) = refl
 list-back (lists.started k) = refl
-list-back (lists.entered k) = refl
+list-back (lists.entered k s) = refl
 
 run-back : (v : RunAnswer) → toRun (ofRun v) ≡ v
 run-back (Reachable n k) = refl
@@ -160,12 +167,13 @@ isRun (safe n) = false
 isRun (reachable n k) = true
 isRun (pso n k) = true
 isRun (refused n k) = leb 12 n
+isRun (entered k s) = false
 
 list-not : (v : lists.ListVerdict) → isRun (ofList v) ≡ false
 list-not (lists.safe n) = refl
 list-not (lists.unheld k) = refl
 list-not (lists.started k) = refl
-list-not (lists.entered k) = refl
+list-not (lists.entered k s) = refl
 
 run-is : (v : RunAnswer) → isRun (ofRun v) ≡ true
 run-is (Reachable n k) = refl
@@ -194,12 +202,13 @@ run-high (safe n) i = absurd (subst T (sym i) tt)
 run-high (reachable n k) i = omega arith
 run-high (pso n k) i = omega arith
 run-high (refused n k) i = omega (arith, leb-true 12 n i)
+run-high (entered k s) i = omega arith
 
 list-code : (v : lists.ListVerdict) → 9 ≤ code (ofList v)
 list-code (lists.safe n) = omega arith
 list-code (lists.unheld k) = omega arith
 list-code (lists.started k) = omega arith
-list-code (lists.entered k) = omega arith
+list-code (lists.entered k s) = omega arith
 
 module _ (f : List ℕ) (area : ℕ) where
   abbrev Reads : reading.FileRead → Type 0
@@ -373,7 +382,7 @@ pub refused10 : Refused10
 refused10 f area k = list-said f area (lists.started k)
 
 pub refused11 : Refused11
-refused11 f area k = list-said f area (lists.entered k)
+refused11 f area k s = list-said f area (lists.entered k s)
 
 pub refused12 : Refused12
 refused12 f area k = either-said f area (Stopped k State) (refused 12 k) refl refl
@@ -452,11 +461,11 @@ refused13 f area n = either-said f area (Missed n) (refused 13 n) refl refl
 pub no-other : NoOther
 no-other f area n k e = go (reading.readFile f area) refl
   where
-    list-most : (v : lists.ListVerdict) → ofList v ≡ refused n k → (9 ≤ n) × (n ≤ 11)
+    list-most : (v : lists.ListVerdict) → ofList v ≡ refused n k → (9 ≤ n) × (n ≤ 10)
     list-most (lists.safe m) e = absurd (let z : _≡_ {A = ℕ} _ 2 = ap kind e in omega arith)
     list-most (lists.unheld m) e = let z : 9 ≡ n = ap code e in (omega arith, omega arith)
     list-most (lists.started m) e = let z : 10 ≡ n = ap code e in (omega arith, omega arith)
-    list-most (lists.entered m) e = let z : 11 ≡ n = ap code e in (omega arith, omega arith)
+    list-most (lists.entered m s) e = absurd (let z : _≡_ {A = ℕ} 3 2 = ap kind e in omega arith)
 
     run-most : (v : RunAnswer) → ofRun v ≡ refused n k → (12 ≤ n) × (n ≤ 18) × (n ≡ 14 → ⊥)
     run-most (Reachable m j) e = absurd (let z : _≡_ {A = ℕ} _ 2 = ap kind e in omega arith)
@@ -471,20 +480,37 @@ no-other f area n k e = go (reading.readFile f area) refl
     pso-most (Stopped m cause) e = run-most (Stopped m cause) e
     pso-most (Missed m) e = run-most (Missed m) e
 
-    go : (r : reading.FileRead) → reading.readFile f area ≡ r → (1 ≤ n) × (n ≤ 18) × (n ≡ 14 → ⊥)
+    go : (r : reading.FileRead) → reading.readFile f area ≡ r → (1 ≤ n) × (n ≤ 18) × (n ≡ 11 → ⊥) × (n ≡ 14 → ⊥)
     go (reading.refused r) q =
         let w = refused-low f area r q in
         let z : r .number ≡ n = ap code (sym (judged-as f area _ q) ∙ e) in
-        (omega (arith, w .0), omega (arith, w .1), λ x. omega (arith, w .1))
+        (omega (arith, w .0), omega (arith, w .1), λ x. omega (arith, w .1), λ x. omega (arith, w .1))
     go (reading.list P ts es) q =
         let w = list-most (decision.verdictOf P ts es) (sym (judged-as f area _ q) ∙ e) in
-        (omega (arith, w .0), omega (arith, w .1), λ x. omega (arith, w .1))
+        (omega (arith, w .0), omega (arith, w .1), λ x. omega (arith, w .1), λ x. omega (arith, w .1))
     go (reading.run P ts m ss) q =
         let w = run-most (runAnswer P ts m ss) (sym (judged-as f area _ q) ∙ e) in
-        (omega (arith, w .0), w .1, w .2)
+        (omega (arith, w .0), w .1, λ x. omega (arith, w .0), w .2)
     go (reading.psoRun P ts m ss) q =
         let w = pso-most (psoRunAnswer P m ts (psoSteps ss)) (sym (judged-as f area _ q) ∙ e) in
-        (omega (arith, w .0), w .1, w .2)
+        (omega (arith, w .0), w .1, λ x. omega (arith, w .0), w .2)
+
+-- the step of 11 is one of the file's program
+step-of : (P : Program) (c : Configuration) (s : Step) → T (may P c s) → StepOf P s
+step-of P c (Take n) t = ltb→lt n (length (P .transitions)) (and-yes (ltb n (length (P .transitions))) (mayTake (P .shape) c (transition P n)) t .0)
+step-of P c (Serialise p v) t =
+    let w = and-yes (ltb p (P .shape .processes)) (ltb v (P .shape .variables)) (and-yes (ltb p (P .shape .processes) && ltb v (P .shape .variables)) (not (isEmpty (c .queue p v))) t .0) in
+    (ltb→lt p (P .shape .processes) (w .0), ltb→lt v (P .shape .variables) (w .1))
+step-of P c (Update p) t =
+    ltb→lt p (P .shape .processes) (and-yes (ltb p (P .shape .processes)) (ltb (c .memory .pointer p) (length (c .memory .channel))) t .0)
+
+pub entered-step : (f : List ℕ) (area k : ℕ) (s : Step) → judged f area ≡ entered k s
+    → (P : Program) × ProgramInRange P × (length (P .transitions) ≤ 256) × StepOf P s
+entered-step f area k s e =
+    let x = refused11 f area k s .0 e in
+    let R = list-read f area (x .reads) in
+    let w = x .holds .way .way in
+    (x .program, R .part .program, R .part .transitions, step-of (x .program) (w .configuration) s (w .permitted))
 
 -- ---- demand 2
 

@@ -1,10 +1,12 @@
 -- The tests of a list by number, and the verdict that they give.
 use Prim.Native.Nat.{ℕ, _+_, _*_, _<_, _≤_}
 use mathlib.Core.Path.{_≡_, refl, sym, ap, ap₂, subst, _∙_}
-use mathlib.Core.Bool.{Bool, not}
+use mathlib.Core.Bool.{Bool, true, not}
 use mathlib.Core.Option.{Option, none, some}
 use mathlib.Core.List.{List}
+use native.Mathlib.Omega.{arith}
 use lib.ListN.{length, getD}
+use Rattle.pws.specs.declared.Step.{Step}
 use Rattle.pws.specs.Program as pws
 use Rattle.pws.specs.Machine.{Configuration}
 use Rattle.pws.specs.Configurations.{Fits}
@@ -12,7 +14,7 @@ use Rattle.pws.specs.Entries.{ValueOrFF, EntryOf, noEntry, entry}
 use Rattle.lists.specs.Lists.{lowest}
 use Rattle.lists.specs.Verdict as lists
 use Rattle.lists.specs.Verdict.{noTarget}
-use Rattle.lists.specs.Decision.{targetHeld, looksStarted, closed}
+use Rattle.lists.specs.Decision.{targetHeld, looksStarted, closed, openStep}
 use Rattle.program_part.specs.declared.program.Program.{Program}
 use Rattle.whole_file.specs.declared.entry.Cube.{Cube}
 use Rattle.program_part.specs.Records.{stateAt}
@@ -23,30 +25,27 @@ use Rattle.by_number.proofs.Tables.{table-length, table-number}
 use Rattle.by_number.proofs.Again.{target-again}
 use Rattle.targets.specs.Sizes.{Small, startsOf}
 use Rattle.targets.specs.Walk.{Searches}
-use Rattle.closing.specs.Walk.{LowestFailing, Walkable}
+use Rattle.closing.specs.declared.Opening.{Opening}
+use Rattle.closing.specs.declared.Opening.the-variants.{Shut, Through}
+use Rattle.closing.specs.Walk.{LowestFailing, Walkable, openingOf}
 use Rattle.closing.proofs.StepLaws.{walkable}
-use Rattle.judge.specs.Judge.{Verdict, refused, safe, ofList}
-use Rattle.judge.specs.Ready.{Ready, heldTest, startTest, closedTest, listSaid}
-use Rattle.judge.proofs.LowestLaws.{lowest-some, lowest-none}
+use Rattle.closing.proofs.WalkLaws.{opening-through, opening-shut}
+use Rattle.judge.specs.Judge.{Verdict, refused, safe, entered, ofList}
+use Rattle.judge.specs.Ready.{Ready, heldTest, startTest, closedTest, enteredSaid, listSaid}
+use Rattle.judge.proofs.LowestLaws.{SoFar, so-far-fails, so-far-all, lowest-some, lowest-none}
 
--- the verdict by the three lowest numbers
-abbrev said : Option ℕ → Option ℕ → Option ℕ → ℕ → Verdict
-said x y z n = ofList (elim x [
-  | some k ↦ lists.unheld k
-  | none ↦ elim y [ some k ↦ lists.started k | none ↦ elim z [ some k ↦ lists.entered k | none ↦ lists.safe n ] ]
-])
+-- the verdict by the lowest target and the lowest started entry, and what is said if there is neither
+abbrev said : Option ℕ → Option ℕ → lists.ListVerdict → Verdict
+said x y v = ofList (elim x [ some k ↦ lists.unheld k | none ↦ elim y [ some k ↦ lists.started k | none ↦ v ] ])
 
-by-held : (x y z : Option ℕ) (n k : ℕ) → x ≡ some k → said x y z n ≡ refused 9 k
-by-held x y z n k e = ap (λ (o : Option ℕ). said o y z n) e
+by-held : (x y : Option ℕ) (v : lists.ListVerdict) (k : ℕ) → x ≡ some k → said x y v ≡ refused 9 k
+by-held x y v k e = ap (λ (o : Option ℕ). said o y v) e
 
-by-start : (x y z : Option ℕ) (n k : ℕ) → x ≡ none → y ≡ some k → said x y z n ≡ refused 10 k
-by-start x y z n k e d = ap₂ (λ (o u : Option ℕ). said o u z n) e d
+by-start : (x y : Option ℕ) (v : lists.ListVerdict) (k : ℕ) → x ≡ none → y ≡ some k → said x y v ≡ refused 10 k
+by-start x y v k e d = ap₂ (λ (o u : Option ℕ). said o u v) e d
 
-by-closed : (x y z : Option ℕ) (n k : ℕ) → x ≡ none → y ≡ none → z ≡ some k → said x y z n ≡ refused 11 k
-by-closed x y z n k e d h = ap₂ (λ (o u : Option ℕ). said o u z n) e d ∙ ap (λ (o : Option ℕ). said none none o n) h
-
-by-all : (x y z : Option ℕ) (n : ℕ) → x ≡ none → y ≡ none → z ≡ none → said x y z n ≡ safe n
-by-all x y z n e d h = ap₂ (λ (o u : Option ℕ). said o u z n) e d ∙ ap (λ (o : Option ℕ). said none none o n) h
+by-neither : (x y : Option ℕ) (v : lists.ListVerdict) → x ≡ none → y ≡ none → said x y v ≡ ofList v
+by-neither x y v e d = ap₂ (λ (o u : Option ℕ). said o u v) e d
 
 module _ (f list sum : List ℕ) (n : ℕ) (p : Program) where
   abbrev P : pws.Program
@@ -98,12 +97,13 @@ module _ (f list sum : List ℕ) (n : ℕ) (p : Program) where
   start-by R k l cube r e h =
       ap not (h (small R) ∙ ap (λ (c : Cube). looksStarted P (configurationOf c)) e ∙ ap (looksStarted P) (sym (entry-is k l)))
 
-  pub closed-by : Ready f list sum n p → (k : ℕ) → k < n → (r : Bool) → (Walkable f list sum n p (cubeAt f list k) → r ≡ closed P es (configurationOf (cubeAt f list k)))
-      → r ≡ closedTest f list n p k
-  closed-by R k l r h =
-      h (walkable f list sum n p (cubeAt f list k) (R .count) (R .sizes .transitions) (R .part .program) (searches R .entries)
-      (subst (EntryOf P) (entry-is k l) (R .entries k l .of)) (R .cubes k l) (R .summed))
-      ∙ ap (closed P es) (sym (entry-is k l))
+  opening-by : Ready f list sum n p → (k : ℕ) → k < n → (r : Opening)
+      → (Walkable f list sum n p (cubeAt f list k) → r ≡ openingOf P es (configurationOf (cubeAt f list k)))
+      → openingOf P es (entry es k) ≡ r
+  opening-by R k l r h =
+      ap (openingOf P es) (entry-is k l)
+      ∙ sym (h (walkable f list sum n p (cubeAt f list k) (R .count) (R .sizes .transitions) (R .part .program) (searches R .entries)
+      (subst (EntryOf P) (entry-is k l) (R .entries k l .of)) (R .cubes k l) (R .summed)))
 
   -- ---- the verdict
 
@@ -116,24 +116,53 @@ module _ (f list sum : List ℕ) (n : ℕ) (p : Program) where
   abbrev z : Option ℕ
   z = lowest (closed P es) es
 
+  abbrev way : ℕ → Step
+  way k = openStep P es (entry es k)
+
+  abbrev last : lists.ListVerdict
+  last = elim z [ some k ↦ lists.entered k (way k) | none ↦ lists.safe (length es) ]
+
+  last-said : enteredSaid f list n p ≡ ofList last
+  last-said = go z
+    where
+      go : (o : Option ℕ) → elim o [ some k ↦ entered k (way k) | none ↦ safe n ] ≡ ofList (elim o [ some k ↦ lists.entered k (way k) | none ↦ lists.safe (length es) ])
+      go (some k) = refl
+      go none = ap safe (sym entries-length)
+
+  -- ---- the entries in turn
+
+  -- entry k is closed
+  pub closed-here : Ready f list sum n p → (k : ℕ) → k < n → (r : Opening)
+      → (Walkable f list sum n p (cubeAt f list k) → r ≡ openingOf P es (configurationOf (cubeAt f list k)))
+      → r ≡ Shut → closedTest f list n p k ≡ true
+  closed-here R k l r h e = opening-shut P es (entry es k) (opening-by R k l r h ∙ e)
+
+  -- it is the first that is not, and s is its lowest step
+  pub entered-here : Ready f list sum n p → (k : ℕ) → k < n → (r : Opening)
+      → (Walkable f list sum n p (cubeAt f list k) → r ≡ openingOf P es (configurationOf (cubeAt f list k)))
+      → (s : Step) → r ≡ Through s → SoFar (closedTest f list n p) n k → entered k s ≡ enteredSaid f list n p
+  entered-here R k l r h s e w =
+      let o = opening-through P es (entry es k) s (opening-by R k l r h ∙ e) in
+      sym (ap (λ (z : Option ℕ). elim z [ some k ↦ entered k (way k) | none ↦ safe n ])
+      (lowest-some (closed P es) noEntry es n k entries-length (so-far-fails w l (o .0)) l) ∙ ap (entered k) (o .1))
+
+  -- all are
+  pub safe-here : (k : ℕ) → SoFar (closedTest f list n p) n k → n ≤ k → safe n ≡ enteredSaid f list n p
+  safe-here k w l =
+      sym (ap (λ (z : Option ℕ). elim z [ some k ↦ entered k (way k) | none ↦ safe n ])
+      (lowest-none (closed P es) noEntry es n n entries-length (so-far-all w l) (omega arith)))
+
   module _ (a : ℕ) (A : LowestFailing (heldTest f list n p) (p .targets .count) a) where
     pub said-unheld : a < p .targets .count → refused 9 a ≡ listSaid f list n p
-    said-unheld l = sym (by-held x y z (length es) a (lowest-some (targetHeld P es) noTarget ts (p .targets .count) a targets-length A l))
+    said-unheld l = sym (by-held x y last a (lowest-some (targetHeld P es) noTarget ts (p .targets .count) a targets-length A l))
 
     module _ (b : ℕ) (B : LowestFailing (startTest f list n p) n b) (l : p .targets .count ≤ a) where
       all-held : x ≡ none
       all-held = lowest-none (targetHeld P es) noTarget ts (p .targets .count) a targets-length A l
 
       pub said-started : b < n → refused 10 b ≡ listSaid f list n p
-      said-started m = sym (by-start x y z (length es) b all-held (lowest-some (λ e. not (looksStarted P e)) noEntry es n b entries-length B m))
+      said-started m = sym (by-start x y last b all-held (lowest-some (λ e. not (looksStarted P e)) noEntry es n b entries-length B m))
 
-      module _ (c : ℕ) (C : LowestFailing (closedTest f list n p) n c) (m : n ≤ b) where
-        none-started : y ≡ none
-        none-started = lowest-none (λ e. not (looksStarted P e)) noEntry es n b entries-length B m
-
-        pub said-entered : c < n → refused 11 c ≡ listSaid f list n p
-        said-entered h = sym (by-closed x y z (length es) c all-held none-started (lowest-some (closed P es) noEntry es n c entries-length C h))
-
-        pub said-safe : n ≤ c → safe n ≡ listSaid f list n p
-        said-safe h =
-            sym (by-all x y z (length es) all-held none-started (lowest-none (closed P es) noEntry es n c entries-length C h) ∙ ap safe entries-length)
+      pub said-last : n ≤ b → enteredSaid f list n p ≡ listSaid f list n p
+      said-last m =
+          last-said ∙ sym (by-neither x y last all-held (lowest-none (λ e. not (looksStarted P e)) noEntry es n b entries-length B m))

@@ -1,11 +1,12 @@
--- The worked cases A to K of document 01 ("Judged files"), with the causes, starting memories and shapes of document 02 (N1, N3, N5), runs of the
--- PSO machine (N7), and small examples of the refusal table, as one table with one statement. Files are rows of bytes, K is two facts about queues. Bytes are in
+-- The worked cases A to K of document 01 ("Judged files"), with the causes, starting memories, shapes and steps of document 02 (N1, N3, N5, N13),
+-- runs of the PSO machine (N7), and small examples of the refusal table, as one table with one statement. Files are rows of bytes, K is two facts about queues. Bytes are in
 -- decimal: 15 is 0F, 16 to 18 are 10 to 12, 31 is 1F, 32 to 34 are 20 to 22, 255 is FF.
 use Prim.Native.Nat.{ℕ, zero, suc, _≤_}
 use mathlib.Core.Path.{_≡_}
 use mathlib.Core.List.{List, [], _∷_, _++_}
 use Rattle.pws.specs.Order.{QueueBelow}
-use Rattle.judge.specs.Judge.{Verdict, safe, reachable, pso, refused, judged}
+use Rattle.pws.specs.declared.Step.the-variants.{Take, Serialise, Update}
+use Rattle.judge.specs.Judge.{Verdict, safe, reachable, pso, refused, entered, judged}
 
 -- ---- rows and what they say
 
@@ -172,8 +173,14 @@ cases =
     -- D: the second entry twice, with 0 and with 1
     ∷ file (small ++ target 1 0 ++ claim 0 ++ first 1 ++ second 1 0 ++ second 1 1 ++ others 1) (safe 5)
     -- E: with a transition; and as a run
-    ∷ file (small ++ nop ++ target 1 0 ++ claim 0 ++ four 1) (refused 11 0)
+    ∷ file (small ++ nop ++ target 1 0 ++ claim 0 ++ four 1) (entered 0 (Take 0))
     ∷ file (small ++ nop ++ target 1 0 ++ fromZeros ++ takeStep 0) (reachable 1 0)
+    -- the lowest of three transitions that leads into state 1
+    ∷ file (small ++ goes 0 1 0 0 0 0 ++ nop ++ nop ++ target 1 0 ++ claim 0 ++ four 1) (entered 0 (Take 1))
+    -- A with an entry in state 0: the second of its messages was a value that waited, or the process pointed at an older one; in state 0 with a
+    -- value that waits and one message, only the latter
+    ∷ file (small ++ target 1 0 ++ claim 0 ++ four 1 ++ entry 0 ++ message ++ message) (entered 4 (Serialise 0 0))
+    ∷ file (small ++ target 1 0 ++ claim 0 ++ four 1 ++ entry 0 ++ message ++ waiting 255) (entered 4 (Update 0))
     -- F: target and entries in state 0; and as a run
     ∷ file (small ++ target 0 0 ++ claim 0 ++ four 0) (refused 10 0)
     ∷ file (small ++ target 0 0 ++ fromZeros) (reachable 0 0)

@@ -23,7 +23,7 @@ use Rattle.program_part.specs.Bytes.{byte}
 use Rattle.whole_file.specs.Reading as reading
 use Rattle.replay.specs.declared.step.Cause.the-variants.{State, Queue, Value, Nothing}
 use Rattle.psoreplay.specs.Answers.{PsoReached, PsoStopped, PsoMissed}
-use Rattle.judge.specs.Judge.{Verdict, safe, reachable, pso, refused, Judged, judged}
+use Rattle.judge.specs.Judge.{Verdict, safe, reachable, pso, refused, entered, Judged, judged}
 use Rattle.judge.specs.PsoRuns.{OfPsoRun, PsoHalts}
 
 -- ---- what the bytes of a file give
@@ -176,10 +176,11 @@ Refused9 = (f : List ℕ) (area k : ℕ) → (judged f area ≡ refused 9 k) ↔
 abbrev pub Refused10 : Type 0
 Refused10 = (f : List ℕ) (area k : ℕ) → (judged f area ≡ refused 10 k) ↔ OfList f area (λ P ts es. Started P ts es k)
 
--- 11: k is the lowest entry with a configuration and a step, in hand, that lead above it from outside the list; every target is held and
--- no start is above an entry
+-- 11: k is the lowest entry above which some step leads from outside the list, and s the lowest such step (document 02, N13): a
+-- configuration outside, in hand, gets above entry k through s, and none does through a lower step. Every target is held and no start is
+-- above an entry.
 abbrev pub Refused11 : Type 0
-Refused11 = (f : List ℕ) (area k : ℕ) → (judged f area ≡ refused 11 k) ↔ OfList f area (λ P ts es. Entered P ts es k)
+Refused11 = (f : List ℕ) (area k : ℕ) (s : Step) → (judged f area ≡ entered k s) ↔ OfList f area (λ P ts es. Entered P ts es k s)
 
 -- 12, 16, 17, 15 and 18: the machine takes the steps before number k, and step k fails for this reason first. A run of either machine gets
 -- them, but for 17, of which the PSO machine knows nothing.
@@ -223,9 +224,9 @@ Refused13 =
     (f : List ℕ) (area n : ℕ) → (judged f area ≡ refused 13 n)
     ↔ (OfRun f area (λ P ts m ss. Misses P ts m ss n) ⊎ OfPsoRun f area (λ P ts m us. PsoMissed P m ts us n))
 
--- and there is no other number
+-- and there is no other number; 11 is said with its step
 abbrev pub NoOther : Type 0
-NoOther = (f : List ℕ) (area n k : ℕ) → judged f area ≡ refused n k → (1 ≤ n) × (n ≤ 18) × (n ≡ 14 → ⊥)
+NoOther = (f : List ℕ) (area n k : ℕ) → judged f area ≡ refused n k → (1 ≤ n) × (n ≤ 18) × (n ≡ 11 → ⊥) × (n ≡ 14 → ⊥)
 
 -- ---- demand 2: what is accepted
 

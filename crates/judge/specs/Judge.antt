@@ -4,6 +4,7 @@ use mathlib.Core.Path.{_≡_}
 use mathlib.Core.List.{List, _++_}
 use lib.ListN.{length, drop, replicate}
 use lib.Dec.{ltb}
+use Rattle.pws.specs.declared.Step.{Step}
 use Rattle.lists.specs.Verdict as lists
 use Rattle.lists.specs.Decision as decision
 use Rattle.program_part.specs.Bytes.{choose}
@@ -22,8 +23,10 @@ pub data Verdict : Type 0 where
   reachable : ℕ → ℕ → Verdict
   -- the same, of a run of the PSO machine (document 02, N7)
   pso : ℕ → ℕ → Verdict
-  -- number and place
+  -- number and place; 11 has its own
   refused : ℕ → ℕ → Verdict
+  -- refused with 11: the entry, and the lowest step through which a configuration outside the list gets above it (document 02, N13)
+  entered : ℕ → Step → Verdict
 
 -- ---- the refusal table's numbers of what is said of a list, and of a run
 
@@ -31,7 +34,7 @@ abbrev pub ofList : lists.ListVerdict → Verdict
 ofList (lists.safe n) = safe n
 ofList (lists.unheld k) = refused 9 k
 ofList (lists.started k) = refused 10 k
-ofList (lists.entered k) = refused 11 k
+ofList (lists.entered k s) = entered k s
 
 abbrev pub ofRun : RunAnswer → Verdict
 ofRun (Reachable n k) = reachable n k

@@ -2,17 +2,19 @@
 use Prim.Native.Nat.{ℕ, _+_, _*_, _-_, _<_, _≤_}
 use mathlib.Core.Path.{_≡_}
 use mathlib.Core.Bool.{Bool, not}
+use mathlib.Core.Option.{none, some}
 use mathlib.Core.List.{List, _++_}
 use lib.ListN.{length, take, drop, replicate}
 use Rattle.pws.specs.Entries.{entry}
+use Rattle.lists.specs.Lists.{lowest}
 use Rattle.lists.specs.Verdict.{target}
-use Rattle.lists.specs.Decision.{targetHeld, looksStarted, closed, verdictOf}
+use Rattle.lists.specs.Decision.{targetHeld, looksStarted, closed, openStep, verdictOf}
 use Rattle.program_part.specs.declared.program.Program.{Program}
 use Rattle.program_part.specs.ProgramPart.{programOf, targetsOf}
 use Rattle.by_number.specs.Again.{cubeAt, entriesOf}
 use Rattle.by_number.specs.Contents.{ProgramPartRead, EntryRange, ProgramSizes, CubeRange}
 use Rattle.summary.specs.Summary.{Summed}
-use Rattle.judge.specs.Judge.{Verdict, ofList}
+use Rattle.judge.specs.Judge.{Verdict, safe, entered, ofList}
 
 -- a list of n entries, as it was read
 pub record Listed (f list : List ℕ) (n : ℕ) (p : Program) : Type 0 where
@@ -52,6 +54,13 @@ startTest f list n p k = not (looksStarted (programOf f p) (entry (entriesOf f l
 
 abbrev pub closedTest : List ℕ → List ℕ → ℕ → Program → ℕ → Bool
 closedTest f list n p k = closed (programOf f p) (entriesOf f list n) (entry (entriesOf f list n) k)
+
+-- the verdict of a list all of whose targets are held, and none of whose entries a start is above
+abbrev pub enteredSaid : List ℕ → List ℕ → ℕ → Program → Verdict
+enteredSaid f list n p = elim (lowest (closed (programOf f p) (entriesOf f list n)) (entriesOf f list n)) [
+  | some k ↦ entered k (openStep (programOf f p) (entriesOf f list n) (entry (entriesOf f list n) k))
+  | none ↦ safe n
+]
 
 -- the verdict of the list
 abbrev pub listSaid : List ℕ → List ℕ → ℕ → Program → Verdict

@@ -3,11 +3,12 @@
 ghost use mathlib.Core.Path.{_≡_};
 ghost use Rattle.closing.specs.Walk.{LowestFailing};
 ghost use Rattle.judge.specs.Answers.{verdictIn};
-ghost use Rattle.judge.specs.Ready.{Ready, heldTest, startTest, closedTest, listSaid};
+ghost use Rattle.judge.specs.Ready.{Ready, heldTest, startTest, enteredSaid, listSaid};
 use crate::answer::Answer;
 use by_number::entry_at;
 use by_number::target_of;
-use closing::entry_closed;
+use closing::Opening;
+use closing::open_step;
 use program_part::program::Program;
 use targets::looks_started;
 use targets::target_held;
@@ -45,17 +46,21 @@ fn lowest_started(file: &[u8], list: &[u8], sum: &[u8], n: usize, program: Progr
     n
 }
 
-// The lowest entry with a way in from outside the list, or the number of entries.
-fn lowest_entered(file: &[u8], list: &[u8], sum: &[u8], n: usize, program: Program) -> usize
+// The lowest entry with a way in from outside the list, and the lowest step of it; safe if there is none.
+fn lowest_entered(file: &[u8], list: &[u8], sum: &[u8], n: usize, program: Program) -> Answer
     requires { ⌜ Ready (now file) (now list) (now sum) n program ⌝ }
-    ensures { λ r. ⌜ LowestFailing (closedTest (now (file .entry)) (now (list .entry)) n program) n r ⌝ }
+    ensures { λ r. ⌜ verdictIn r ≡ enteredSaid (now (file .entry)) (now (list .entry)) n program ⌝ }
 {
     for k in 0..n {
-        if !entry_closed(file, list, sum, n, program, k) {
-            return k;
+        let opening = open_step(file, list, sum, n, program, k);
+        if let Opening::Through { step } = opening {
+            return Answer::Entered {
+                entry: k,
+                step: step,
+            };
         }
     }
-    n
+    Answer::Safe { entries: n }
 }
 
 // The numbers are tested in this order.
@@ -78,9 +83,5 @@ pub(crate) fn list_answer(
     if started < n {
         return Answer::Started { entry: started };
     }
-    let entered = lowest_entered(file, list, sum, n, program);
-    if entered < n {
-        return Answer::Entered { entry: entered };
-    }
-    Answer::Safe { entries: n }
+    lowest_entered(file, list, sum, n, program)
 }

@@ -1,11 +1,9 @@
 use Prim.Native.Nat.{_-_}
-use mathlib.Core.Path.{sym, _∙_}
 use native.Mathlib.Omega.{arith}
 use borrow.Author.Needs.{needs}
-use borrow.Author.Tests.{not-true, not-false}
 use Rattle.judge.specs.Ready.{closedTest}
-use Rattle.judge.proofs.LowestLaws.{SoFar, so-far-begin, so-far-next, so-far-fails, so-far-all}
-use Rattle.judge.proofs.ListLaws.{closed-by}
+use Rattle.judge.proofs.LowestLaws.{SoFar, so-far-begin, so-far-next}
+use Rattle.judge.proofs.ListLaws.{closed-here, entered-here, safe-here}
 use Rattle.judge.proofs.list.lowest_entered.Statement.{statement}
 use Rattle.judge.proofs.list.lowest_entered.Tie as tie
 
@@ -19,17 +17,21 @@ pub lowest-entered-spec : {M : Type 1} → statement M
 lowest-entered-spec = tie.close (tie.spec
     Inv-loop
     μ-loop
-    -- loop-holds 54:5
+    -- loop-holds
     (λ c. so-far-begin _ _)
-    -- entry-closed-requires 55:13
+    -- open-step-requires
     (λ c κs. search needs)
+    -- enum-known-opening
+    (λ c. search needs)
     -- returns
-    (λ c. so-far-fails (c .before .before .before .loop .inv) (c .before .before .loop-test .taken) (sym (closed-by (c .before .before .before .before .before .before .before .args .file .now) (c .before .before .before .before .before .before .before .args .list .now) (c .before .before .before .before .before .before .before .args .sum .now) (c .before .before .before .before .before .before .before .args .n) (c .before .before .before .before .before .before .before .args .program) (c .before .before .before .before .before .before .before .pre) (c .before .before .before .loop .k) (c .before .before .loop-test .taken) _ (c .before .entry-closed .ensures)) ∙ not-true _ (c .if1 .taken)))
+    (λ c. entered-here (c .before .before .before .before .before .before .before .before .before .args .file .now) (c .before .before .before .before .before .before .before .before .before .args .list .now) (c .before .before .before .before .before .before .before .before .before .args .sum .now) (c .before .before .before .before .before .before .before .before .before .args .n) (c .before .before .before .before .before .before .before .before .before .args .program) (c .before .before .before .before .before .before .before .before .before .pre) (c .before .before .before .before .before .loop .k) (c .before .before .before .before .loop-test .taken) _ (c .before .before .before .open-step .ensures) _ (c .before .opening .given .1) (c .before .before .before .before .before .loop .inv))
+    -- enum-told
+    (λ c. search needs)
     -- add-k
     (λ c. search needs)
     -- loop-less
     (λ c. search needs)
     -- loop-again
-    (λ c. so-far-next (c .before .before .before .loop .inv) (c .before .before .loop-test .taken) (sym (closed-by (c .before .before .before .before .before .before .before .args .file .now) (c .before .before .before .before .before .before .before .args .list .now) (c .before .before .before .before .before .before .before .args .sum .now) (c .before .before .before .before .before .before .before .args .n) (c .before .before .before .before .before .before .before .args .program) (c .before .before .before .before .before .before .before .pre) (c .before .before .before .loop .k) (c .before .before .loop-test .taken) _ (c .before .entry-closed .ensures)) ∙ not-false _ (c .if1 .left)))
+    (λ c. so-far-next (c .before .before .before .before .loop .inv) (c .before .before .before .loop-test .taken) (closed-here (c .before .before .before .before .before .before .before .before .args .file .now) (c .before .before .before .before .before .before .before .before .args .list .now) (c .before .before .before .before .before .before .before .before .args .sum .now) (c .before .before .before .before .before .before .before .before .args .n) (c .before .before .before .before .before .before .before .before .args .program) (c .before .before .before .before .before .before .before .before .pre) (c .before .before .before .before .loop .k) (c .before .before .before .loop-test .taken) _ (c .before .before .open-step .ensures) (c .enum-told .given .1)))
     -- returns-2
-    (λ c. so-far-all (c .before .loop .inv) (omega (arith, c .loop-test .left))))
+    (λ c. safe-here (c .before .before .before .before .before .args .file .now) (c .before .before .before .before .before .args .list .now) (c .before .before .before .before .before .args .sum .now) (c .before .before .before .before .before .args .n) (c .before .before .before .before .before .args .program) (c .before .loop .k) (c .before .loop .inv) (omega (arith, c .loop-test .left))))
