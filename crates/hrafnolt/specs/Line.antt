@@ -1,4 +1,4 @@
--- The line printed (document 01, "Verdicts and refusal table"), in ASCII.
+-- The line printed (document 01, "Verdicts and refusal table"; document 02, N13), in ASCII.
 use Prim.Native.Nat.{ℕ}
 use mathlib.Core.Path.{_≡_}
 use mathlib.Core.Bool.{cond}
@@ -6,8 +6,13 @@ use mathlib.Core.List.{List, [], _∷_, _++_}
 use lib.ListN.{length}
 use lib.Dec.{eqb, ltb}
 use Rattle.io.specs.Digits.{digits, Fewest}
+use Rattle.pws.specs.declared.Step.{Step}
+use Rattle.pws.specs.declared.Step.the-variants.{Take, Serialise, Update}
 use Rattle.program_part.specs.Bytes.{choose}
-use Rattle.judge.specs.Judge.{Verdict, safe, reachable, pso, refused, judged}
+use Rattle.drawing.specs.Text.{letters}
+use Rattle.drawing.specs.Runs.{StepInRange}
+use Rattle.judge.specs.declared.answer.Verdict as declared
+use Rattle.judge.specs.Judge.{Verdict, safe, reachable, pso, refused, entered, judged}
 
 -- `safe`, `reachable`, `pso` and `refused`
 abbrev pub wordSafe : List ℕ
@@ -41,15 +46,37 @@ pub record TwoNumbers (word : List ℕ) (n k : ℕ) (r : List ℕ) : Type 0 wher
   pub second : Numbered text k more
   pub same : r ≡ more ++ (10 ∷ [])
 
+-- two numbers, and a step in its letters
+pub record NumbersAndStep (word : List ℕ) (n k : ℕ) (s : Step) (r : List ℕ) : Type 0 where
+  pub text : List ℕ
+  pub first : Numbered word n text
+  pub more : List ℕ
+  pub second : Numbered text k more
+  pub same : r ≡ more ++ (32 ∷ letters s) ++ (10 ∷ [])
+
 abbrev pub LineOf : Verdict → List ℕ → Type 0
 LineOf (safe n) r = OneNumber wordSafe n r
 LineOf (reachable n k) r = TwoNumbers wordReachable n k r
 LineOf (pso n k) r = TwoNumbers wordPso n k r
 LineOf (refused n k) r = TwoNumbers wordRefused n k r
+LineOf (entered k s) r = NumbersAndStep wordRefused 11 k s r
 
 -- the word of each kind of verdict, as C has it
 unfoldable pub wordOf : ℕ → List ℕ
 wordOf kind = cond (eqb kind 0) wordSafe (cond (eqb kind 1) wordReachable (cond (eqb kind 3) wordPso wordRefused))
+
+-- the step of 11, as C has it
+unfoldable pub stepIn : declared.Verdict → Step
+stepIn v = cond (eqb (v .«step_kind») 32) (Take (v .«step_first»))
+    (cond (eqb (v .«step_kind») 33) (Serialise (v .«step_first») (v .«step_second»)) (Update (v .«step_first»)))
+
+-- The step is one of 256 transitions, four processes and four variables. The verdict of every file is so (`judged-known`).
+abbrev pub StepKnown : Verdict → Type 0
+StepKnown (safe n) = Unit {0}
+StepKnown (reachable n k) = Unit {0}
+StepKnown (pso n k) = Unit {0}
+StepKnown (refused n k) = Unit {0}
+StepKnown (entered k s) = StepInRange s
 
 -- ---- what the program says of its input
 

@@ -1,16 +1,21 @@
 // Reads a file from standard input to its end, judges it, and prints one line (document 01).
 ghost use mathlib.Core.Path.{_≡_};
 ghost use mathlib.Core.List.{_++_};
+ghost use mathlib.Core.List.{_∷_};
 ghost use Prim.Native.Nat.{_+_, _≤_};
 ghost use lib.ListN.{length, take};
 ghost use Rattle.io.specs.Counts.{Counts};
 ghost use Rattle.judge.specs.Judge.{Verdict as Judge·Verdict};
 ghost use Rattle.judge.specs.Answers.{inC};
-ghost use Rattle.hrafnolt.specs.Line.{Numbered, LineOf, wordOf, said};
+ghost use Rattle.drawing.specs.Text.{letters};
+ghost use Rattle.drawing.specs.Runs.{StepInRange};
+ghost use Rattle.hrafnolt.specs.Line.{Numbered, LineOf, wordOf, stepIn, StepKnown, said};
+use drawing::step_letters;
 use judge::answer::Verdict;
 use judge::judge;
 use libc::STDIN_FILENO;
 use libc::STDOUT_FILENO;
+use pws::Step;
 
 // Room for the longest input that is judged, and one byte more.
 fn input_buffer() -> [u8; 65537]
@@ -74,11 +79,42 @@ fn put_word(line: &mut [u8], kind: u64) -> usize
     put(line, 0, &[b'r', b'e', b'f', b'u', b's', b'e', b'd'])
 }
 
+fn step_of(verdict: Verdict) -> Step
+    ensures { λ r. ⌜ r ≡ stepIn verdict ⌝ }
+{
+    if verdict.step_kind == 0x20 {
+        return Step::Take {
+            transition: verdict.step_first as usize,
+        };
+    }
+    if verdict.step_kind == 0x21 {
+        return Step::Serialise {
+            process: verdict.step_first as usize,
+            variable: verdict.step_second as usize,
+        };
+    }
+    Step::Update {
+        process: verdict.step_first as usize,
+    }
+}
+
+// A space, and a step in its letters.
+fn put_step(line: &mut [u8], at: usize, step: Step) -> usize
+    requires { ⌜ at + 6 ≤ length (now line) ⌝ }
+    ensures { λ r. ⌜ r ≤ at + 6 ⌝ }
+    ensures { λ r. ⌜ (StepInRange step → take r (now (line .exit)) ≡ take at (now (line .entry)) ++ (32 ∷ letters step)) ⌝ }
+{
+    let letters_at = put(line, at, &[b' ']);
+    let mut text = [0u8; 5];
+    let k = step_letters(step, &mut text);
+    put(line, letters_at, &text[..k])
+}
+
 // The line of a verdict stands at the start, and its length is handed back.
 fn put_line(line: &mut [u8], verdict: Verdict) -> usize
     requires { ⌜ 64 ≤ length (now line) ⌝ }
     ensures { λ r. ⌜ Counts r (now (line .exit)) ⌝ }
-    ensures { λ r. ⌜ ((v : Judge·Verdict) → verdict ≡ inC v → LineOf v (take r (now (line .exit)))) ⌝ }
+    ensures { λ r. ⌜ ((v : Judge·Verdict) → verdict ≡ inC v → StepKnown v → LineOf v (take r (now (line .exit)))) ⌝ }
 {
     let word = put_word(line, verdict.kind);
     let first = put_number(line, word, verdict.first);
@@ -86,7 +122,11 @@ fn put_line(line: &mut [u8], verdict: Verdict) -> usize
         return put(line, first, &[b'\n']);
     }
     let second = put_number(line, first, verdict.second);
-    put(line, second, &[b'\n'])
+    if verdict.step_kind == 0 {
+        return put(line, second, &[b'\n']);
+    }
+    let third = put_step(line, second, step_of(verdict));
+    put(line, third, &[b'\n'])
 }
 
 // The line for an input, of which there may be any number of bytes.
@@ -102,6 +142,9 @@ fn line_for(input: &[u8], line: &mut [u8]) -> usize
                 kind: 2,
                 first: 14,
                 second: 65536,
+                step_kind: 0,
+                step_first: 0,
+                step_second: 0,
             },
         );
     }

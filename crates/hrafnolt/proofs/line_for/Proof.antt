@@ -2,7 +2,7 @@ use mathlib.Core.Path.{refl, sym}
 use lib.ListN.{length}
 use borrow.Author.Needs.{needs}
 use Rattle.judge.specs.Judge.{refused, judged}
-use Rattle.hrafnolt.proofs.LineLaws.{over-said, judged-said}
+use Rattle.hrafnolt.proofs.LineLaws.{judged-known, over-said, judged-said}
 use Rattle.hrafnolt.proofs.line_for.Statement.{statement}
 use Rattle.hrafnolt.proofs.line_for.Tie as tie
 
@@ -13,7 +13,7 @@ line-for-spec = tie.close (tie.spec
     -- same-length 96:9
     (λ c. search needs)
     -- returns 96:9
-    (λ c. (c .before .before .put-line .ensures .0, over-said (c .before .before .before .before .before .before .before .args .input .now) _ (c .before .before .before .before .if1 .taken) (c .before .before .put-line .ensures .1 (refused 14 65536) refl)))
+    (λ c. (c .before .before .put-line .ensures .0, over-said (c .before .before .before .before .before .before .before .args .input .now) _ (c .before .before .before .before .if1 .taken) (c .before .before .put-line .ensures .1 (refused 14 65536) refl tt)))
     -- work-area-requires 105:20
     (λ c κs. search needs)
     -- slice-aggregate-judge 106:41
@@ -25,4 +25,4 @@ line-for-spec = tie.close (tie.spec
     -- same-length-2 90:1
     (λ c. search needs)
     -- returns-2 90:1
-    (λ c. (c .before .before .put-line2 .ensures .0, judged-said (c .before .before .before .before .before .before .before .before .before .before .before .args .input .now) _ (length (c .before .before .before .before .before .before .before .work-area .result)) (sym (c .before .before .before .before .before .before .before .work-area .ensures)) (c .before .before .before .before .before .before .before .before .if1 .left) (c .before .before .put-line2 .ensures .1 (judged (c .before .before .before .before .before .before .before .before .before .before .before .args .input .now) (length (c .before .before .before .before .before .before .before .work-area .result))) (c .before .before .before .before .before .judge .ensures .1 .0)))))
+    (λ c. (c .before .before .put-line2 .ensures .0, judged-said (c .before .before .before .before .before .before .before .before .before .before .before .args .input .now) _ (length (c .before .before .before .before .before .before .before .work-area .result)) (sym (c .before .before .before .before .before .before .before .work-area .ensures)) (c .before .before .before .before .before .before .before .before .if1 .left) (c .before .before .put-line2 .ensures .1 (judged (c .before .before .before .before .before .before .before .before .before .before .before .args .input .now) (length (c .before .before .before .before .before .before .before .work-area .result))) (c .before .before .before .before .before .judge .ensures .1 .0) (judged-known (c .before .before .before .before .before .before .before .before .before .before .before .args .input .now) (length (c .before .before .before .before .before .before .before .work-area .result)))))))
