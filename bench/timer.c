@@ -4,6 +4,8 @@
 #define _GNU_SOURCE
 #include "hrafnolt.h"
 
+#include "../c/line.h"
+
 #include <inttypes.h>
 #include <stdio.h>
 #include <stdlib.h>
@@ -32,7 +34,7 @@ int main(int count, char **words)
         return 2;
     memset(work, 1, room); /* so that the pages are there before the first call */
     uint64_t least = UINT64_MAX, all = 0, enough = strtoull(words[3], NULL, 10) * 1000000u;
-    struct hrafnolt_verdict v = {0, 0, 0};
+    struct hrafnolt_verdict v;
     do {
         uint64_t start = used();
         v = hrafnolt_judge(file, length, work, room);
@@ -41,10 +43,8 @@ int main(int count, char **words)
         if (taken < least)
             least = taken;
     } while (all < enough);
-    static const char *const kinds[] = {"safe", "reachable", "refused", "pso"};
-    printf("%" PRIu64 " %s %" PRIu64, least, kinds[v.kind], v.first);
-    if (v.kind != HRAFNOLT_SAFE)
-        printf(" %" PRIu64, v.second);
+    printf("%" PRIu64 " ", least);
+    print_line(stdout, v);
     printf("\n");
     return 0;
 }

@@ -1,8 +1,12 @@
-/* hrafnolt-files [-s] FILE..: judges each file, of any size, and prints `NAME: LINE`.
+/* hrafnolt-files [-s] [-w] FILE..: judges each file, of any size, and prints `NAME: LINE`.
+ * With -w a refusal 9 or 11 is followed by `NAME: outside: ..`, one configuration that the list lacks, in words (see outside.h).
  * With -s it prints at the end, over the files that it judged, the mean and the variance of entries per safe file and the share of safe
  * among all, as `mean 5/2 (2.500000)`, or as `mean refused 24`; beyond 4,096 files all three are `refused 25`.
  * Exit status: 0 if all were accepted (safe, reachable or pso), 1 if any was refused, 2 if a file can't be read. */
 #include "hrafnolt.h"
+
+#include "line.h"
+#include "outside.h"
 
 #include <errno.h>
 #include <fcntl.h>
@@ -66,17 +70,31 @@ static void print_figure(const char *name, struct hrafnolt_fraction f)
         printf("%s %" PRIu64 "/%" PRIu64 " (%.6f)\n", name, f.numerator, f.denominator, (double)f.numerator / (double)f.denominator);
 }
 
+/* `NAME: outside: ..` under a refusal that says that the list lacks something. */
+static int print_lack(const char *name, const uint8_t *file, size_t length, struct hrafnolt_verdict v)
+{
+    if (v.kind != HRAFNOLT_REFUSED || (v.first != 9 && v.first != 11))
+        return 0;
+    printf("%s: outside: ", name);
+    int failed = print_outside(stdout, file, length, v);
+    printf("\n");
+    return failed;
+}
+
 int main(int count, char **names)
 {
-    int refused = 0, unread = 0;
-    int figures = count > 1 && strcmp(names[1], "-s") == 0;
+    int refused = 0, unread = 0, figures = 0, words = 0, first = 1;
     uint8_t *work = NULL;
     size_t room = 0;
-    if (count < 2 + figures) {
-        fprintf(stderr, "usage: hrafnolt-files [-s] FILE..\n");
+    for (; first < count && (strcmp(names[first], "-s") == 0 || strcmp(names[first], "-w") == 0); first++)
+        *(names[first][1] == 's' ? &figures : &words) = 1;
+    if (first == count) {
+        fprintf(stderr, "usage: hrafnolt-files [-s] [-w] FILE..\n"
+                        "  -s  at the end the mean and variance of entries per safe file, and the share of safe files\n"
+                        "  -w  after a refusal 9 or 11 a configuration that the list lacks, in words\n");
         return 2;
     }
-    for (int i = 1 + figures; i < count; i++) {
+    for (int i = first; i < count; i++) {
         size_t length;
         const uint8_t *file = map_file(names[i], &length);
         if (file == NULL) {
@@ -97,19 +115,13 @@ int main(int count, char **names)
         }
         struct hrafnolt_verdict v = hrafnolt_judge(file, length, work, needed);
         add_result(v);
-        switch (v.kind) {
-        case HRAFNOLT_SAFE:
-            printf("%s: safe %" PRIu64 "\n", names[i], v.first);
-            break;
-        case HRAFNOLT_REACHABLE:
-            printf("%s: reachable %" PRIu64 " %" PRIu64 "\n", names[i], v.first, v.second);
-            break;
-        case HRAFNOLT_PSO:
-            printf("%s: pso %" PRIu64 " %" PRIu64 "\n", names[i], v.first, v.second);
-            break;
-        default:
-            printf("%s: refused %" PRIu64 " %" PRIu64 "\n", names[i], v.first, v.second);
-            refused = 1;
+        printf("%s: ", names[i]);
+        print_line(stdout, v);
+        printf("\n");
+        refused |= v.kind == HRAFNOLT_REFUSED;
+        if (words && print_lack(names[i], file, length, v) != 0) {
+            fprintf(stderr, "%s: no memory to look for what it lacks\n", names[i]);
+            return 2;
         }
         if (file != nothing)
             munmap((void *)file, length);

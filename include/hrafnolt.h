@@ -19,12 +19,20 @@ extern "C" {
  * kind HRAFNOLT_PSO:       the same of a run of the PSO machine, claim 2; line `pso FIRST SECOND`
  *     A safe list is about every starting memory, a run about the one that its file gives after the claim.
  * kind HRAFNOLT_REFUSED:   first = number of the refusal table, second = place; line `refused FIRST SECOND`.
- *     A step that the machine can't take is 12, 15, 16, 17 or 18 by its cause, and the place is the step's number. */
+ *     A step that the machine can't take is 12, 15, 16, 17 or 18 by its cause, and the place is the step's number.
+ *     11 has a step too, the lowest through which a configuration outside the list gets above the entry: transitions by number, serialise
+ *     by process then variable, update by process. Its line is `refused 11 SECOND STEP`, the step as t0, s01 or u0.
+ * step_kind, step_first and step_second are that step, and 0 for every other answer:
+ *     HRAFNOLT_TRANSITION number 0, HRAFNOLT_SERIALISE process variable, HRAFNOLT_UPDATE process 0. */
 struct hrafnolt_verdict {
     uint64_t kind, first, second;
+    uint64_t step_kind, step_first, step_second;
 };
 
 enum { HRAFNOLT_SAFE = 0, HRAFNOLT_REACHABLE = 1, HRAFNOLT_REFUSED = 2, HRAFNOLT_PSO = 3 };
+
+/* The kinds of a step, as in its record. */
+enum { HRAFNOLT_TRANSITION = 0x20, HRAFNOLT_SERIALISE = 0x21, HRAFNOLT_UPDATE = 0x22 };
 
 /* Bytes of a work area: the least that is not refused with 8, and the most that is ever used (524,288 entries). */
 #define HRAFNOLT_WORK_LEAST ((size_t)65536)

@@ -7,6 +7,8 @@
 #define _GNU_SOURCE
 #include "hrafnolt.h"
 
+#include "../../c/line.h"
+
 #include <inttypes.h>
 #include <stdio.h>
 #include <stdlib.h>
@@ -68,6 +70,14 @@ static size_t entries_allowed(size_t work_len)
     return entries > 524288 ? 524288 : entries;
 }
 
+/* 11 has a step of one of the three kinds, with 0 where that has no second number; every other answer has none. */
+static int step_right(struct hrafnolt_verdict v)
+{
+    if (v.kind != HRAFNOLT_REFUSED || v.first != 11)
+        return v.step_kind == 0 && v.step_first == 0 && v.step_second == 0;
+    return v.step_kind == HRAFNOLT_SERIALISE || ((v.step_kind == HRAFNOLT_TRANSITION || v.step_kind == HRAFNOLT_UPDATE) && v.step_second == 0);
+}
+
 static int get(void *to, size_t length)
 {
     return fread(to, 1, length, stdin) == length;
@@ -115,18 +125,18 @@ int main(void)
             fault = "the work area is not 0 where it must be";
         else if (memcmp(work + zeroed, pattern + zeroed, work_len - zeroed) != 0)
             fault = "the work area was touched where it must not be";
+        if (v.kind > HRAFNOLT_PSO)
+            fault = "no such kind of verdict";
+        else if (v.kind == HRAFNOLT_SAFE && v.second != 0)
+            fault = "safe has one number only";
+        else if (!step_right(v))
+            fault = "the step is not one, or there is one beside another answer than 11";
         if (fault != NULL)
             printf("fault: %s\n", fault);
-        else if (v.kind == HRAFNOLT_SAFE)
-            printf("safe %" PRIu64 "\n", v.first);
-        else if (v.kind == HRAFNOLT_REACHABLE)
-            printf("reachable %" PRIu64 " %" PRIu64 "\n", v.first, v.second);
-        else if (v.kind == HRAFNOLT_PSO)
-            printf("pso %" PRIu64 " %" PRIu64 "\n", v.first, v.second);
-        else if (v.kind == HRAFNOLT_REFUSED)
-            printf("refused %" PRIu64 " %" PRIu64 "\n", v.first, v.second);
-        else
-            printf("fault: no verdict: %" PRIu64 " %" PRIu64 " %" PRIu64 "\n", v.kind, v.first, v.second);
+        else {
+            print_line(stdout, v);
+            printf("\n");
+        }
         fflush(stdout);
     }
     return 0;

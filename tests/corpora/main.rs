@@ -2,12 +2,14 @@
 //! compare brute SEED COUNT        the separate judge's two algorithms against each other
 //! compare reach SEED [JUDGES]     small programs without loops: a forward search finds a run, or else a backward search a safe list
 //! compare corpora SEED [JUDGES]   the corpora
-//! JUDGES: --caller PROGRAM (the exported function through C), --program PROGRAM (standard input to one line).
+//! JUDGES: --caller PROGRAM (the exported function through C), --program PROGRAM (standard input to one line), --files PROGRAM
+//! (hrafnolt-files: what its -w prints under each refusal 9 and 11 is held to the machine and the order).
 //! --first: stop at the first difference.
 //! Every line is compared with the separate judge's. Exit status 0 if all agree.
 
 mod fixed;
 mod groups;
+mod outside;
 mod random;
 mod search;
 mod seeded;
@@ -65,6 +67,7 @@ struct Judges {
     /// Stop at the first difference.
     first: bool,
     program: Option<String>,
+    files: Option<outside::Files>,
     judged: usize,
     by_caller: usize,
     by_program: usize,
@@ -86,14 +89,26 @@ impl Judges {
         }
     }
 
+    /// Faults in what hrafnolt-files says of a configuration outside.
+    fn unshown(&mut self, faults: Vec<outside::Fault>) {
+        for outside::Fault { what, file, said, fault } in faults {
+            self.fail(&what, "hrafnolt-files -w", &fault, &said, &file, AREA_MOST);
+        }
+    }
+
     /// Judges one file everywhere and compares with the wanted line.
     fn compare(&mut self, what: &str, file: &[u8], area: usize, wanted: Verdict, program_too: bool) {
         self.judged += 1;
+        if let (Some(files), Verdict::Refused(9, _) | Verdict::Open(..)) = (&mut self.files, wanted) {
+            let faults = files.add(what, file, wanted);
+            self.unshown(faults);
+        }
         let kind = match wanted {
             Verdict::Safe(_) => "safe".to_string(),
             Verdict::Reachable(..) => "reachable".to_string(),
             Verdict::Pso(..) => "pso".to_string(),
             Verdict::Refused(number, _) => format!("{:>2}", number),
+            Verdict::Open(..) => "11".to_string(),
         };
         *self.lines.entry(kind).or_default() += 1;
         let wanted = wanted.to_string();
@@ -138,11 +153,16 @@ impl Judges {
         file
     }
 
-    fn end(&self, what: &str) -> i32 {
+    fn end(&mut self, what: &str) -> i32 {
+        let faults = self.files.as_mut().map(|files| files.end());
+        self.unshown(faults.unwrap_or_default());
         let spread: Vec<String> = self.lines.iter().map(|(kind, n)| format!("{}: {}", kind.trim(), n)).collect();
         println!("{}: {} files, {} differ ({})", what, self.judged, self.failed, spread.join(", "));
         if self.caller.is_some() || self.program.is_some() {
             println!("{}: {} through C, {} through the program", what, self.by_caller, self.by_program);
+        }
+        if let Some(files) = &self.files {
+            println!("{}: {} configurations outside a list, as hrafnolt-files says them", what, files.checked);
         }
         (self.failed > 0) as i32
     }
@@ -383,6 +403,70 @@ fn refused_steps(r: &mut Random, machine: Machine, judges: &mut Judges) {
     }
 }
 
+/// The lowest entry and its lowest step that some filling of `lost`, being outside the list, leads above by one step of the machine.
+fn way_in(program: &Program, entries: &[Configuration], lost: &Configuration) -> Option<(usize, usize)> {
+    let above = |c: &Configuration, entry: &Configuration| entry.states == c.states && brute::below(program, entry, c);
+    let steps = program.all_steps();
+    let mut lowest = None;
+    for c in brute::fillings(program, lost, 256)?.iter().filter(|c| !entries.iter().any(|entry| above(c, entry))) {
+        for (number, step) in steps.iter().enumerate() {
+            let mut next = c.clone();
+            if next.take(program, *step) {
+                let found = entries.iter().position(|entry| above(&next, entry)).map(|entry| (entry, number));
+                lowest = [lowest, found].into_iter().flatten().min();
+            }
+        }
+    }
+    lowest
+}
+
+/// Closed lists with one entry left out: 11 names an entry and a step that it led to, the lowest, or one that is lower still through what
+/// is above it. Mostly the entries are those that the targets do not need.
+fn left_out(r: &mut Random, judges: &mut Judges) {
+    let mut met: BTreeMap<&str, (usize, usize)> = BTreeMap::new();
+    for number in 0..60 {
+        let (processes, variables) = *r.pick(&[(1, 1), (1, 1), (1, 2), (2, 1), (2, 1)]);
+        let values = random::values(r, variables, 3);
+        let (program, entries) = random::list(r, processes, variables, values, 500, number % 2 == 0);
+        let steps = program.all_steps();
+        let further: Vec<usize> = (0..entries.len()).filter(|n| !program.targets.contains(&entries[*n].states)).collect();
+        for _ in 0..10 {
+            let at = if further.is_empty() || r.one_in(10) { r.below(entries.len()) } else { *r.pick(&further) };
+            let mut fewer = entries.clone();
+            let lost = fewer.remove(at);
+            if r.one_in(2) {
+                r.shuffle(&mut fewer);
+            }
+            let file = writing::list_file(&program, &fewer);
+            let line = judge(&file, AREA_LEAST);
+            judges.compare("an entry left out", &file, AREA_LEAST, line, false);
+            let Some((entry, step)) = way_in(&program, &fewer, &lost) else { continue };
+            let lowest = Verdict::Open(entry as u64, steps[step]);
+            let (named, kind) = match line {
+                Verdict::Refused(9 | 10, _) => continue,
+                Verdict::Open(number, by) => {
+                    let kind = match by {
+                        Step::Transition(_) => "t",
+                        Step::Serialise(..) => "s",
+                        Step::Update(_) => "u",
+                    };
+                    (Some((number as usize, steps.iter().position(|s| *s == by).unwrap())), kind)
+                }
+                _ => (None, "none"),
+            };
+            if named.is_none() || named > Some((entry, step)) {
+                judges.fail("an entry left out", "the separate judge", &lowest.to_string(), &line.to_string(), &file, AREA_LEAST);
+            }
+            let (same, all) = met.entry(kind).or_default();
+            *same += (named == Some((entry, step))) as usize;
+            *all += 1;
+        }
+    }
+    for kind in ["t", "s", "u"] {
+        assert!(met.get(kind).is_some_and(|(same, all)| *same >= 10 && same * 2 >= *all), "steps of kind {} are met too seldom: {:?}", kind, met);
+    }
+}
+
 fn corpora(seed: u64, judges: &mut Judges) {
     let mut r = Random(seed);
     let areas = [65_536, 65_536, 65_536, 65_536, 65_537, 65_547, 65_548, 66_000, 100_001, 150_000];
@@ -453,6 +537,7 @@ fn corpora(seed: u64, judges: &mut Judges) {
     groups::lists(&mut r, &mut |what, program, entries| {
         judges.in_any_order(what, program, entries, enough(entries.len()), &mut s, sample());
     });
+    left_out(&mut Random(seed ^ 0x1eff), judges);
 }
 
 /// The least area that so many entries fit into.
@@ -460,11 +545,11 @@ fn enough(entries: usize) -> usize {
     AREA_LEAST.max(16_384 + 12 * entries)
 }
 
-/// The order of a list decides only which entry is the lowest, in numbers 10 and 11, and what is read first of a list that is refused in
-/// its records.
+/// The order of a list decides only which entry is the lowest, in numbers 10 and 11, with its step, and what is read first of a list that
+/// is refused in its records.
 fn same_in_any_order(one: Verdict, other: Verdict) -> bool {
     match (one, other) {
-        (Verdict::Refused(10 | 11, _), _) => matches!((one, other), (Verdict::Refused(a, _), Verdict::Refused(b, _)) if a == b),
+        (Verdict::Refused(10, _), Verdict::Refused(10, _)) | (Verdict::Open(..), Verdict::Open(..)) => true,
         (Verdict::Refused(1..=8, _), Verdict::Refused(1..=8, _)) => true,
         _ => one == other,
     }
@@ -476,6 +561,7 @@ fn main() {
     let mut judges = Judges {
         caller: after("--caller").map(|name| Caller::new(&name)),
         program: after("--program"),
+        files: after("--files").map(outside::Files::new),
         first: words.iter().any(|w| w == "--first"),
         judged: 0,
         by_caller: 0,

@@ -5,23 +5,36 @@
 use crate::machine::{Configuration, Message, Program};
 use crate::{Verdict, FF};
 
+/// Equal, or filled in so that they are.
+fn fits(low: u8, high: u8) -> bool {
+    low == high || low == FF
+}
+
+fn message_fits(low: &Message, high: &Message) -> bool {
+    (low.process, low.variable) == (high.process, high.variable) && low.snapshot.iter().zip(high.snapshot).all(|(low, high)| fits(*low, high))
+}
+
 /// Each queue of c is a subsequence of d's, and both are empty or both end in the same value.
 fn queue_below(low: &[u8], high: &[u8]) -> bool {
     fn subsequence(low: &[u8], high: &[u8]) -> bool {
         match (low, high) {
             ([], _) => true,
             (_, []) => false,
-            ([a, more @ ..], [b, rest @ ..]) => (a == b && subsequence(more, rest)) || subsequence(low, rest),
+            ([a, more @ ..], [b, rest @ ..]) => (fits(*a, *b) && subsequence(more, rest)) || subsequence(low, rest),
         }
     }
-    subsequence(low, high) && low.last() == high.last()
+    match (low, high) {
+        ([], []) => true,
+        ([more @ .., a], [rest @ .., b]) => fits(*a, *b) && subsequence(more, rest),
+        _ => false,
+    }
 }
 
 fn lowest(program: &Program, c: &Configuration) -> usize {
     c.pointers[..program.processes].iter().copied().min().unwrap()
 }
 
-/// c below d, document 01 "Above".
+/// c below d, document 01 "Above"; c may be an entry: each of its values goes to one value of d, which fills it in if it is FF.
 pub fn below(program: &Program, c: &Configuration, d: &Configuration) -> bool {
     /// Maps the messages of c from number `from` on to messages of d above all of `to`; to[i] is where message first + i goes.
     fn map(program: &Program, c: &Configuration, d: &Configuration, first: usize, to: &mut Vec<usize>, next: usize) -> bool {
@@ -34,7 +47,7 @@ pub fn below(program: &Program, c: &Configuration, d: &Configuration) -> bool {
             });
         }
         for other in next..=d.channel.len() {
-            if c.channel[number - 1] == d.channel[other - 1] {
+            if message_fits(&c.channel[number - 1], &d.channel[other - 1]) {
                 to.push(other);
                 if map(program, c, d, first, to, other + 1) {
                     return true;
@@ -178,7 +191,8 @@ pub fn judge_list(program: &Program, entries: &[Configuration], bounds: &Bounds)
 
     let steps = program.all_steps();
     let mut target_missed: Option<usize> = None;
-    let mut not_closed: Option<usize> = None;
+    // The lowest entry, and the lowest step that leads above it from outside the list.
+    let mut not_closed: Option<(usize, usize)> = None;
     for channel in &channels {
         let mut all_pointers = vec![[0usize; 4]];
         for p in 0..program.processes {
@@ -202,12 +216,12 @@ pub fn judge_list(program: &Program, entries: &[Configuration], bounds: &Bounds)
                     }
                     let target = program.targets.iter().position(|t| t == states);
                     target_missed = lower(target_missed, target);
-                    for step in &steps {
+                    for (number, step) in steps.iter().enumerate() {
                         let mut next = c.clone();
                         if next.take(program, *step) {
-                            let until = not_closed.unwrap_or(entries.len());
+                            let until = not_closed.map_or(entries.len(), |(entry, _)| entry + 1);
                             let entry = (0..until).find(|n| entries[*n].states == next.states && above_entry(&next, *n));
-                            not_closed = lower(not_closed, entry);
+                            not_closed = lower(not_closed, entry.map(|entry| (entry, number)));
                         }
                     }
                 }
@@ -230,13 +244,13 @@ pub fn judge_list(program: &Program, entries: &[Configuration], bounds: &Bounds)
             return Some(Verdict::Refused(10, number as u64));
         }
     }
-    if let Some(entry) = not_closed {
-        return Some(Verdict::Refused(11, entry as u64));
+    if let Some((entry, step)) = not_closed {
+        return Some(Verdict::Open(entry as u64, steps[step]));
     }
     Some(Verdict::Safe(entries.len() as u64))
 }
 
-fn lower(a: Option<usize>, b: Option<usize>) -> Option<usize> {
+fn lower<T: Ord>(a: Option<T>, b: Option<T>) -> Option<T> {
     match (a, b) {
         (Some(a), Some(b)) => Some(a.min(b)),
         (a, b) => a.or(b),

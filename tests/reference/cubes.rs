@@ -297,8 +297,8 @@ pub fn judge_list(program: &Program, list: &List) -> Verdict {
     let steps = program.all_steps();
     for number in 0..list.len() {
         let entry = list.entry(number);
-        if !steps.iter().all(|step| predecessors(program, &entry, *step, |cube| index.holds(cube))) {
-            return Verdict::Refused(11, number as u64);
+        if let Some(step) = steps.iter().find(|step| !predecessors(program, &entry, **step, |cube| index.holds(cube))) {
+            return Verdict::Open(number as u64, *step);
         }
     }
     Verdict::Safe(list.len() as u64)

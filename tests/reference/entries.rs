@@ -157,6 +157,10 @@ impl List {
         }
     }
 
+    pub fn states(&self, number: usize) -> [u8; 4] {
+        self.heads[number].states
+    }
+
     pub fn entry(&self, number: usize) -> Cube {
         let head = &self.heads[number];
         let mut entry = Cube::new(head.states, head.pointers);

@@ -27,6 +27,8 @@ pub enum Verdict {
     /// Claim 2.
     Pso(u64, u64),
     Refused(u64, u64),
+    /// Number 11: the lowest entry, and the lowest step through which a configuration outside the list gets above it.
+    Open(u64, Step),
 }
 
 impl std::fmt::Display for Verdict {
@@ -36,6 +38,7 @@ impl std::fmt::Display for Verdict {
             Verdict::Reachable(steps, target) => write!(f, "reachable {} {}", steps, target),
             Verdict::Pso(steps, target) => write!(f, "pso {} {}", steps, target),
             Verdict::Refused(number, place) => write!(f, "refused {} {}", number, place),
+            Verdict::Open(entry, step) => write!(f, "refused 11 {} {}", entry, step),
         }
     }
 }

@@ -25,6 +25,17 @@ pub enum Step {
     Update(usize),
 }
 
+/// As runs are drawn (document 02, N12).
+impl std::fmt::Display for Step {
+    fn fmt(&self, f: &mut std::fmt::Formatter) -> std::fmt::Result {
+        match self {
+            Step::Transition(number) => write!(f, "t{}", number),
+            Step::Serialise(p, v) => write!(f, "s{}{}", p, v),
+            Step::Update(p) => write!(f, "u{}", p),
+        }
+    }
+}
+
 /// The machine that a run is said to be of: claim 1 or claim 2.
 #[derive(Clone, Copy, PartialEq, Eq, Debug)]
 pub enum Machine {
@@ -104,7 +115,8 @@ impl Program {
         all
     }
 
-    /// Every step that the shape has, permitted or not: transitions, serialise, update.
+    /// Every step that the shape has, permitted or not, in the order of document 02, N13: transitions by number, serialise by process then
+    /// variable, update by process.
     pub fn all_steps(&self) -> Vec<Step> {
         let mut steps: Vec<Step> = (0..self.transitions.len()).map(Step::Transition).collect();
         for p in 0..self.processes {
