@@ -465,7 +465,7 @@ no-other f area n k e = go (reading.readFile f area) refl
     list-most (lists.safe m) e = absurd (let z : _≡_ {A = ℕ} _ 2 = ap kind e in omega arith)
     list-most (lists.unheld m) e = let z : 9 ≡ n = ap code e in (omega arith, omega arith)
     list-most (lists.started m) e = let z : 10 ≡ n = ap code e in (omega arith, omega arith)
-    list-most (lists.entered m s) e = absurd (let z : _≡_ {A = ℕ} 3 2 = ap kind e in omega arith)
+    list-most (lists.entered m s) e = absurd (let z : _≡_ {A = ℕ} 4 2 = ap kind e in omega arith)
 
     run-most : (v : RunAnswer) → ofRun v ≡ refused n k → (12 ≤ n) × (n ≤ 18) × (n ≡ 14 → ⊥)
     run-most (Reachable m j) e = absurd (let z : _≡_ {A = ℕ} _ 2 = ap kind e in omega arith)
