@@ -1,4 +1,4 @@
--- How a text is read, byte stepThen byte. That this means what Accepted.antt says is proved (ReadLaws).
+-- How a text is read, byte after byte. That this means what Accepted.antt says is proved (ReadLaws).
 use Prim.Native.Nat.{ℕ, zero, suc, _+_, _*_, _-_, _≤_}
 use mathlib.Core.Path.{_≡_}
 use mathlib.Core.Bool.{Bool, _&&_, not}
@@ -26,7 +26,7 @@ use Rattle.drawing.specs.Accepted.{Reading, run, place}
 unfoldable pub hasByte : List ℕ → ℕ → ℕ → Bool
 hasByte t at c = ltb at (length t) && eqb (byte t at) c
 
--- the word stands at `at`: the place stepThen it, or that of the first byte that differs or is missing
+-- the word stands at `at`: the place after it, or that of the first byte that differs or is missing
 unfoldable pub expectAt : List ℕ → ℕ → List ℕ → Way
 expectAt t at [] = On at
 expectAt t at (c ∷ w) = choose (hasByte t at c) (λ _. expectAt t (at + 1) w) (λ _. Stuck at)
@@ -78,7 +78,7 @@ abbrev pub labelThen : EdgeRead → (Step → ℕ → EdgeRead) → EdgeRead
 labelThen (Edge s a) g = g s a
 labelThen (NoEdge p) g = NoEdge p
 
--- the rest of an edge's line, stepThen its step
+-- the rest of an edge's line, after its step
 unfoldable pub edgeEnd : List ℕ → ℕ → Step → EdgeRead
 edgeEnd t at s = wayThen (expectAt t at edgeTail) (λ a. Edge s a)
 
@@ -116,7 +116,7 @@ nodesAt (suc left) t at n =
     (λ _. choose (hasByte t (at + 1) 48) (λ _. Nodes n at) (λ _. nodesThen (expectAt t at (nodeLine (n + 1))) (λ a. nodesAt left t a (n + 1))))
     (λ _. NoNodes at)
 
--- stepThen node 0: `}`, or node 1
+-- after node 0: `}`, or node 1
 unfoldable pub moreAt : List ℕ → ℕ → NodesRead
 moreAt t at = choose (hasByte t at 125) (λ _. Nodes 0 at) (λ _. nodesThen (expectAt t at (nodeLine 1)) (λ a. nodesAt 1023 t a 1))
 
@@ -140,7 +140,7 @@ ofReading (place p) = refused 27 p
 unfoldable pub recordsIn : List ℕ → Made
 recordsIn t = ofReading (readingOf t)
 
--- how many bytes they take, stepThen those of the steps before
+-- how many bytes they take, after those of the steps before
 abbrev pub sizeAfter : ℕ → Reading → Size
 sizeAfter n (run ss) = Bytes (n + length (recordsOf ss))
 sizeAfter n (place p) = Outside p

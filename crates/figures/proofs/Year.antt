@@ -174,7 +174,7 @@ small (addedOther y) =
 small (joined y z) =
     small-kept (withinLimits (results y ++ results z)) (results y) (results y ++ results z) (small y) (λ e. small-append (results y) (results z) (small y) (small z))
 
--- the first of several more is withinLimits
+-- the first of several more is within the limits
 allowed-first : (rs : List Result) (r : Result) (ss : List Result) → withinLimits (rs ++ (r ∷ ss)) ≡ true → withinLimits (rs ++ (r ∷ [])) ≡ true
 allowed-first rs r ss e =
     let l : length (rs ++ (r ∷ ss)) ≤ 4096 = leb-true _ _ e in

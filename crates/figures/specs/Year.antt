@@ -43,7 +43,7 @@ collection (joined y z) = join (collection y) (collection z) .collection
 abbrev pub withinLimits : List Result → Bool
 withinLimits rs = leb (length rs) mostResults
 
--- the second list if that is withinLimits; a refusal leaves the first
+-- the second list if that is within the limits; a refusal leaves the first
 abbrev pub unlessRefused : Bool → List Result → List Result → List Result
 unlessRefused fine rs next = cond fine next rs
 

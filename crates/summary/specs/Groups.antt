@@ -31,7 +31,7 @@ module _ (f list : List ℕ) (s : Shape) where
   inGroup zero states = 0
   inGroup (suc m) states = inGroup m states + cond (sameStates s (statesAt m) states) 1 0
 
-  -- ---- the first entry with these local states, putCount from 1, or 0: on the chain of their number, one that leads a group
+  -- ---- the first entry with these local states, counted from 1, or 0: on the chain of their number, one that leads a group
 
   unfoldable pub leaderFrom : List ℕ → List ℕ → ℕ → ℕ → ℕ → ℕ
   leaderFrom sum states zero below link = 0
@@ -53,7 +53,7 @@ module _ (f list : List ℕ) (s : Shape) where
       (λ _. let j : ℕ = leaderOf sum n (statesAt k) - 1 in
       hung (putCount sum j (countAt sum j + 1)) (homeOf (numberOf s (cubeAt f list k)) n) k (markIn (numberOf s (cubeAt f list k))))
 
-  -- the first entry of its group, putCount from 1, or 0; and the number of the chain where it joins
+  -- the first entry of its group, counted from 1, or 0; and the number of the chain where it joins
   pub record Joins (sum : List ℕ) (n k leader number : ℕ) : Type 0 where
     pub leading : leader ≡ leaderOf sum n (statesAt k)
     pub small : leader < 1048576

@@ -18,7 +18,7 @@ word sum i = cond (ltb i (length sum / 4)) (le32 sum (4 * i)) 0
 unfoldable pub putWord : List ℕ → ℕ → ℕ → List ℕ
 putWord sum i x = choose (ltb i (length sum / 4)) (λ _. put32 sum (4 * i) x) (λ _. sum)
 
--- ---- links: an entry, putCount from 1, or 0 for none, in 20 bits; and a mark in two
+-- ---- links: an entry, counted from 1, or 0 for none, in 20 bits; and a mark in two
 
 abbrev pub linked : ℕ → ℕ
 linked link = link % 1048576
