@@ -30,15 +30,15 @@ use Rattle.closing.specs.Walk.{stepHeld, LowestFailing, Walkable, Serial
 use Rattle.closing.proofs.WalkLaws.{lowest-at}
 use Rattle.closing.proofs.StepLaws.{truth, is-yes, not-both, decided, cond-same, step-true, step-false, searched}
 
-module _ (f list sum : List ℕ) (n : ℕ) (s : Program) (c : Cube) where
+module _ (g f list sum : List ℕ) (n : ℕ) (s : Program) (c : Cube) where
   abbrev pub madeBySerialise : Bool
   madeBySerialise =
       ltb 1 (length (configurationOf c .memory .channel)) && allBelow (s .shape .processes) (λ q. not (atNewest (configurationOf c .memory) q))
 
   abbrev stepOf : ℕ → ℕ → Bool
-  stepOf p v = stepHeld (programOf f s) (entriesOf f list n) (configurationOf c) (Serialise p v)
+  stepOf p v = stepHeld (programOf g s) (entriesOf f list n) (configurationOf c) (Serialise p v)
 
-  has-parts : (p v : ℕ) (k : lists.Kind) → has (programOf f s) (configurationOf c) (Serialise p v) k ≡ true
+  has-parts : (p v : ℕ) (k : lists.Kind) → has (programOf g s) (configurationOf c) (Serialise p v) k ≡ true
       → (ltb p (s .shape .processes) && ltb v (s .shape .variables) ≡ true) × (serialised (shapeOf (s .shape)) (configurationOf c .memory) p v ≡ true)
       × (serialiseKind (configurationOf c .memory) p v k ≡ true)
   has-parts p v k h =
@@ -64,37 +64,37 @@ module _ (f list sum : List ℕ) (n : ℕ) (s : Program) (c : Cube) where
   -- the steps of all other labels have no cubes
   serialise-other : (p v : ℕ) → labelled (topmost (configurationOf c .memory .channel)) p v ≡ false → stepOf p v ≡ true
   serialise-other p v e =
-      step-true (programOf f s) (entriesOf f list n) (configurationOf c) (Serialise p v) (λ k h. absurd (not-both (serialised-parts p v (has-parts p v k h .1) .0) e))
+      step-true (programOf g s) (entriesOf f list n) (configurationOf c) (Serialise p v) (λ k h. absurd (not-both (serialised-parts p v (has-parts p v k h .1) .0) e))
 
   -- and none has any if the newest message was not made so
   pub serialise-none : madeBySerialise ≡ false → (p v : ℕ) → stepOf p v ≡ cond (labelled (topmost (configurationOf c .memory .channel)) p v) true true
   serialise-none e p v =
-      step-true (programOf f s) (entriesOf f list n) (configurationOf c) (Serialise p v) (λ k h. absurd (not-both (serialised-parts p v (has-parts p v k h .1) .1) e))
+      step-true (programOf g s) (entriesOf f list n) (configurationOf c) (Serialise p v) (λ k h. absurd (not-both (serialised-parts p v (has-parts p v k h .1) .1) e))
       ∙ cond-same (labelled (topmost (configurationOf c .memory .channel)) p v)
 
   pub serialise-each : (μ : Message) → μ ≡ topmost (configurationOf c .memory .channel) → {h : Bool} → stepOf (μ .process) (μ .variable) ≡ h
       → (p v : ℕ) → stepOf p v ≡ cond (labelled (topmost (configurationOf c .memory .channel)) p v) h true
-  serialise-each μ i {h} g p v = at (labelled (topmost (configurationOf c .memory .channel)) p v) refl
+  serialise-each μ i {h} d p v = at (labelled (topmost (configurationOf c .memory .channel)) p v) refl
     where
       at : (b : Bool) → labelled (topmost (configurationOf c .memory .channel)) p v ≡ b → stepOf p v ≡ cond b h true
       at true e =
           let a = and-true (eqb (topmost (configurationOf c .memory .channel) .process) p) (eqb (topmost (configurationOf c .memory .channel) .variable) v) e in
           ap₂ stepOf
           (sym (ap (λ (m : Message). m .process) i ∙ eqb-true (topmost (configurationOf c .memory .channel) .process) p (a .0)))
-          (sym (ap (λ (m : Message). m .variable) i ∙ eqb-true (topmost (configurationOf c .memory .channel) .variable) v (a .1))) ∙ g
+          (sym (ap (λ (m : Message). m .variable) i ∙ eqb-true (topmost (configurationOf c .memory .channel) .variable) v (a .1))) ∙ d
       at false e = serialise-other p v e
 
   pub serialise-absent : (p v : ℕ) → ltb p (s .shape .processes) && ltb v (s .shape .variables) ≡ false → stepOf p v ≡ true
-  serialise-absent p v e = step-true (programOf f s) (entriesOf f list n) (configurationOf c) (Serialise p v) (λ k h. absurd (not-both (has-parts p v k h .0) e))
+  serialise-absent p v e = step-true (programOf g s) (entriesOf f list n) (configurationOf c) (Serialise p v) (λ k h. absurd (not-both (has-parts p v k h .0) e))
 
   -- if its own label's step is open, it is the lowest of these
-  pub serialise-lowest : Walkable f list sum n s c → (μ : Message) → μ ≡ topmost (configurationOf c .memory .channel)
+  pub serialise-lowest : Walkable g f list sum n s c → (μ : Message) → μ ≡ topmost (configurationOf c .memory .channel)
       → ((p v : ℕ) → stepOf p v ≡ cond (labelled (topmost (configurationOf c .memory .channel)) p v) false true) → LowestFailing (λ i. stepOf (i / 4) (i % 4)) 16 (4 * μ .process + μ .variable)
-  serialise-lowest W μ i g = at (ltb (μ .process) (s .shape .processes) && ltb (μ .variable) (s .shape .variables)) refl
+  serialise-lowest W μ i d = at (ltb (μ .process) (s .shape .processes) && ltb (μ .variable) (s .shape .variables)) refl
     where
       open-step : stepOf (μ .process) (μ .variable) ≡ false
       open-step =
-          g (μ .process) (μ .variable)
+          d (μ .process) (μ .variable)
           ∙ ap (λ (b : Bool). cond b false true)
           (subst (λ (t : Message). labelled t (μ .process) (μ .variable) ≡ true) i (ap₂ _&&_ (eq-eqb (μ .process) (μ .process) refl) (eq-eqb (μ .variable) (μ .variable) refl)))
 
@@ -120,8 +120,8 @@ module _ (f list sum : List ℕ) (n : ℕ) (s : Program) (c : Cube) where
 
   -- ---- the newest message was made so, and its label exists
 
-  pub serialising : Walkable f list sum n s c → (μ : Message) → μ ≡ topmost (configurationOf c .memory .channel) → madeBySerialise ≡ true
-      → ltb (μ .process) (s .shape .processes) && ltb (μ .variable) (s .shape .variables) ≡ true → Serialising f list sum n s c (μ .process) (μ .variable)
+  pub serialising : Walkable g f list sum n s c → (μ : Message) → μ ≡ topmost (configurationOf c .memory .channel) → madeBySerialise ≡ true
+      → ltb (μ .process) (s .shape .processes) && ltb (μ .variable) (s .shape .variables) ≡ true → Serialising g f list sum n s c (μ .process) (μ .variable)
   serialising W μ i m e =
       let a = and-true (ltb (μ .process) (s .shape .processes)) (ltb (μ .variable) (s .shape .variables)) e in
       record {
@@ -132,39 +132,39 @@ module _ (f list sum : List ℕ) (n : ℕ) (s : Program) (c : Cube) where
             (subst (λ (t : Message). labelled t (μ .process) (μ .variable) ≡ true) i (ap₂ _&&_ (eq-eqb (μ .process) (μ .process) refl) (eq-eqb (μ .variable) (μ .variable) refl))) m;
       }
 
-  module _ (p v : ℕ) (Z : Serialising f list sum n s c p v) where
+  module _ (p v : ℕ) (Z : Serialising g f list sum n s c p v) where
     abbrev pub heldSerialise : lists.Kind → Bool
     heldSerialise k = held (shapeOf (s .shape)) (entriesOf f list n) (serialiseBefore (shapeOf (s .shape)) (configurationOf c) p v k)
 
-    serialise-has : (k : lists.Kind) → serialiseKind (configurationOf c .memory) p v k ≡ true → has (programOf f s) (configurationOf c) (Serialise p v) k ≡ true
+    serialise-has : (k : lists.Kind) → serialiseKind (configurationOf c .memory) p v k ≡ true → has (programOf g s) (configurationOf c) (Serialise p v) k ≡ true
     serialise-has k e = ap₂ _&&_ (ap₂ _&&_ (lt-ltb p (s .shape .processes) (Z .process)) (lt-ltb v (s .shape .variables) (Z .variable))) (ap₂ _&&_ (Z .made) e)
 
     pub serialise-searched : (k : lists.Kind) → serialiseKind (configurationOf c .memory) p v k ≡ true
         → {r : Cube} {h : Bool} → CubeFor r (serialiseBefore (shapeOf (s .shape)) (configurationOf c) p v k)
         → (Searchable f list sum n (s .shape) r → h ≡ held (shapeOf (s .shape)) (entriesOf f list n) (configurationOf r)) → h ≡ heldSerialise k
-    serialise-searched k i d y = searched f list sum n s c (Z .walkable) (Serialise p v) k (serialise-has k i) d y
+    serialise-searched k i d y = searched g f list sum n s c (Z .walkable) (Serialise p v) k (serialise-has k i) d y
 
     pub serialise-fails : (k : lists.Kind) → serialiseKind (configurationOf c .memory) p v k ≡ true → heldSerialise k ≡ false → stepOf p v ≡ false
-    serialise-fails k i g = step-false (programOf f s) (entriesOf f list n) (configurationOf c) (Serialise p v) k (serialise-has k i) g
+    serialise-fails k i d = step-false (programOf g s) (entriesOf f list n) (configurationOf c) (Serialise p v) k (serialise-has k i) d
 
     pub top-there : serialiseKind (configurationOf c .memory) p v (onTop v) ≡ true
     top-there = eq-eqb v v refl
 
     serialise-true : ((k : lists.Kind) → serialiseKind (configurationOf c .memory) p v k ≡ true → heldSerialise k ≡ true) → stepOf p v ≡ true
-    serialise-true g = step-true (programOf f s) (entriesOf f list n) (configurationOf c) (Serialise p v) (λ k h. g k (has-parts p v k h .2))
+    serialise-true d = step-true (programOf g s) (entriesOf f list n) (configurationOf c) (Serialise p v) (λ k h. d k (has-parts p v k h .2))
 
     over : heldSerialise (onTop v) ≡ true → (u : ℕ) → eqb u v ≡ true → heldSerialise (onTop u) ≡ true
     over t u e = ap (λ (w : ℕ). heldSerialise (onTop w)) (eqb-true u v e) ∙ t
 
     pub serialise-top : heldSerialise (onTop v) ≡ true → serialiseKind (configurationOf c .memory) p v undone ≡ false → stepOf p v ≡ true
-    serialise-top t g = serialise-true at
+    serialise-top t d = serialise-true at
       where
         at : (k : lists.Kind) → serialiseKind (configurationOf c .memory) p v k ≡ true → heldSerialise k ≡ true
-        at undone e = absurd (not-both e g)
+        at undone e = absurd (not-both e d)
         at waited e = absurd (not-both e refl)
         at (inside k) e =
             absurd (not-both (and-true (serialiseKind (configurationOf c .memory) p v undone)
-            (ltb (lastWrite (withoutNewest (configurationOf c .memory)) p v) k && leb k (length (older (configurationOf c .memory .channel)))) e .0) g)
+            (ltb (lastWrite (withoutNewest (configurationOf c .memory)) p v) k && leb k (length (older (configurationOf c .memory .channel)))) e .0) d)
         at (onTop u) e = over t u e
         at (pointed r u) e = absurd (not-both e refl)
 
@@ -188,21 +188,21 @@ module _ (f list sum : List ℕ) (n : ℕ) (s : Program) (c : Cube) where
     insideHeld k = cond (ltb (lastWrite (withoutNewest (configurationOf c .memory)) p v) k) (heldSerialise (inside k)) true
 
     inside-all : allBelow (c .count) insideHeld ≡ true → (k : ℕ) → k < c .count → lastWrite (withoutNewest (configurationOf c .memory)) p v < k → heldSerialise (inside k) ≡ true
-    inside-all g k l a =
+    inside-all d k l a =
         sym (ap (λ (t : Bool). cond t (heldSerialise (inside k)) true) (lt-ltb (lastWrite (withoutNewest (configurationOf c .memory)) p v) k a))
-        ∙ truth (all-yes (c .count) insideHeld (is-yes g) k l)
+        ∙ truth (all-yes (c .count) insideHeld (is-yes d) k l)
 
     -- with the newest message free and with nothing beside all is well, and the messages inside decide
     pub serialise-insides : heldSerialise (onTop v) ≡ true → heldSerialise undone ≡ true → serialiseKind (configurationOf c .memory) p v undone ≡ true
         → {h : Bool} → h ≡ allBelow (c .count) insideHeld → h ≡ stepOf p v
-    serialise-insides t g u {h} e =
+    serialise-insides t d u {h} e =
         decided h (stepOf p v)
         (λ b. serialise-true (at (inside-all (sym e ∙ b))))
         (λ b. let x = all-no (c .count) insideHeld (subst (λ (z : Bool). T (not z)) (sym (sym e ∙ b)) tt) in fails (x .0) (x .1) (T-false (insideHeld (x .0)) (x .2)))
       where
         at : ((k : ℕ) → k < c .count → lastWrite (withoutNewest (configurationOf c .memory)) p v < k → heldSerialise (inside k) ≡ true)
             → (k : lists.Kind) → serialiseKind (configurationOf c .memory) p v k ≡ true → heldSerialise k ≡ true
-        at i undone e = g
+        at i undone e = d
         at i waited e = absurd (not-both e refl)
         at i (inside k) e =
             let l = length (older (configurationOf c .memory .channel)) in

@@ -130,11 +130,11 @@ short c g p v = at (ltb p 4 && ltb v 4) refl
         rw (queue-of (c .queues) p v x y) (omega (arith, length-take (q .count) (q .values), g (4 * p + v) (omega arith)))
     at false e = rw (queue-none (c .queues) p v e) (omega arith)
 
-module _ (f list sum : List ℕ) (n : ℕ) (p : Program) (c : Cube) (W : Walkable f list sum n p c) where
+module _ (g f list sum : List ℕ) (n : ℕ) (p : Program) (c : Cube) (W : Walkable g f list sum n p c) where
   -- what the search says of a cube that was made
-  pub searched : (s : Step) (k : lists.Kind) → has (programOf f p) (configurationOf c) s k ≡ true → {r : Cube} {h : Bool} → CubeFor r (cube (programOf f p) (configurationOf c) s k)
+  pub searched : (s : Step) (k : lists.Kind) → has (programOf g p) (configurationOf c) s k ≡ true → {r : Cube} {h : Bool} → CubeFor r (cube (programOf g p) (configurationOf c) s k)
       → (Searchable f list sum n (p .shape) r → h ≡ held (shapeOf (p .shape)) (entriesOf f list n) (configurationOf r))
-      → h ≡ held (shapeOf (p .shape)) (entriesOf f list n) (cube (programOf f p) (configurationOf c) s k)
+      → h ≡ held (shapeOf (p .shape)) (entriesOf f list n) (cube (programOf g p) (configurationOf c) s k)
   searched s k i {r} d y =
       y (record {
         count = W .count;
@@ -142,7 +142,7 @@ module _ (f list sum : List ℕ) (n : ℕ) (p : Program) (c : Cube) (W : Walkabl
         entries = W .entries;
         summed = W .summed;
         fits = subst (Fits (ValueOrFF (shapeOf (p .shape))) (shapeOf (p .shape))) (sym (d .configuration))
-            (entry-cube (programOf f p) (W .stepping .program) (configurationOf c) (W .own) s k (is-yes i) .fits);
+            (entry-cube (programOf g p) (W .stepping .program) (configurationOf c) (W .own) s k (is-yes i) .fits);
         messages = d .count;
         waiting = short r (d .queues);
       })
@@ -150,10 +150,10 @@ module _ (f list sum : List ℕ) (n : ℕ) (p : Program) (c : Cube) (W : Walkabl
 
 -- ---- an entry of a file that was read can be walked
 
-pub walkable : (f list sum : List ℕ) (n : ℕ) (p : Program) (c : Cube) → n ≤ 524288 → p .transitions .count ≤ 256 → pws.ProgramInRange (programOf f p)
+pub walkable : (g f list sum : List ℕ) (n : ℕ) (p : Program) (c : Cube) → n ≤ 524288 → p .transitions .count ≤ 256 → pws.ProgramInRange (programOf g p)
     → ((k : ℕ) → k < n → Fits (ValueOrFF (shapeOf (p .shape))) (shapeOf (p .shape)) (configurationOf (cubeAt f list k)))
-    → EntryOf (programOf f p) (configurationOf c) → CubeRange c → Summed f list sum n (p .shape) → Walkable f list sum n p c
-walkable f list sum n p c l m R o e g z =
+    → EntryOf (programOf g p) (configurationOf c) → CubeRange c → Summed f list sum n (p .shape) → Walkable g f list sum n p c
+walkable g f list sum n p c l m R o e d z =
     record {
       count = l;
       transitions = m;
@@ -164,9 +164,9 @@ walkable f list sum n p c l m R o e g z =
                 record {
                   processes = R .shape .processes;
                   variables = R .shape .variables;
-                  some = g .some;
-                  count = g .messages;
-                  queues = g .waiting;
+                  some = d .some;
+                  count = d .messages;
+                  queues = d .waiting;
                   pointer = e .fits .memory .low;
                   pointers = λ q k. elim (decLt q (p .shape .processes)) [
                     | yes d ↦ omega (arith, e .fits .memory .high q d, channel-length (c .messages) (c .count))

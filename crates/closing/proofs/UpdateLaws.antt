@@ -24,13 +24,13 @@ use Rattle.closing.specs.Walk.{stepHeld, Walkable}
 use Rattle.closing.proofs.StepLaws.{not-both, step-true, step-false, searched}
 
 -- that process p does not exist
-pub update-absent : (f list : List ℕ) (n : ℕ) (s : Program) (c : Cube) (p : ℕ) → s .shape .processes ≤ p
-    → stepHeld (programOf f s) (entriesOf f list n) (configurationOf c) (Update p) ≡ true
-update-absent f list n s c p l =
-    step-true (programOf f s) (entriesOf f list n) (configurationOf c) (Update p) (λ k h.
+pub update-absent : (g f list : List ℕ) (n : ℕ) (s : Program) (c : Cube) (p : ℕ) → s .shape .processes ≤ p
+    → stepHeld (programOf g s) (entriesOf f list n) (configurationOf c) (Update p) ≡ true
+update-absent g f list n s c p l =
+    step-true (programOf g s) (entriesOf f list n) (configurationOf c) (Update p) (λ k h.
     absurd (not-both (and-true (ltb p (s .shape .processes)) (updateKind (shapeOf (s .shape)) (configurationOf c .memory) p k) h .0) (le-ltb p (s .shape .processes) l)))
 
-module _ (f list sum : List ℕ) (n : ℕ) (s : Program) (c : Cube) (W : Walkable f list sum n s c) (p : ℕ) (exists : p < s .shape .processes) where
+module _ (g f list sum : List ℕ) (n : ℕ) (s : Program) (c : Cube) (W : Walkable g f list sum n s c) (p : ℕ) (exists : p < s .shape .processes) where
   abbrev kindOf : lists.Kind → Bool
   kindOf k = updateKind (shapeOf (s .shape)) (configurationOf c .memory) p k
 
@@ -40,15 +40,15 @@ module _ (f list sum : List ℕ) (n : ℕ) (s : Program) (c : Cube) (W : Walkabl
   abbrev undoneHeld : Bool
   undoneHeld = cond (kindOf undone) (heldUpdate undone) true
 
-  update-has : (k : lists.Kind) → kindOf k ≡ true → has (programOf f s) (configurationOf c) (Update p) k ≡ true
+  update-has : (k : lists.Kind) → kindOf k ≡ true → has (programOf g s) (configurationOf c) (Update p) k ≡ true
   update-has k e = ap₂ _&&_ (lt-ltb p (s .shape .processes) exists) e
 
   pub update-searched : (k : lists.Kind) → kindOf k ≡ true → {r : Cube} {h : Bool} → CubeFor r (updateBefore (shapeOf (s .shape)) (configurationOf c) p k)
       → (Searchable f list sum n (s .shape) r → h ≡ held (shapeOf (s .shape)) (entriesOf f list n) (configurationOf r)) → h ≡ heldUpdate k
-  update-searched k i d y = searched f list sum n s c W (Update p) k (update-has k i) d y
+  update-searched k i d y = searched g f list sum n s c W (Update p) k (update-has k i) d y
 
-  pub update-fails : (k : lists.Kind) → kindOf k ≡ true → heldUpdate k ≡ false → false ≡ stepHeld (programOf f s) (entriesOf f list n) (configurationOf c) (Update p)
-  update-fails k i g = sym (step-false (programOf f s) (entriesOf f list n) (configurationOf c) (Update p) k (update-has k i) g)
+  pub update-fails : (k : lists.Kind) → kindOf k ≡ true → heldUpdate k ≡ false → false ≡ stepHeld (programOf g s) (entriesOf f list n) (configurationOf c) (Update p)
+  update-fails k i d = sym (step-false (programOf g s) (entriesOf f list n) (configurationOf c) (Update p) k (update-has k i) d)
 
   pub undone-absent : getD (c .pointers) p 0 < 2 → true ≡ undoneHeld
   undone-absent l = sym (ap (λ (b : Bool). cond b (heldUpdate undone) true) (le-ltb 1 (getD (c .pointers) p 0) (omega arith)))
@@ -59,12 +59,12 @@ module _ (f list sum : List ℕ) (n : ℕ) (s : Program) (c : Cube) (W : Walkabl
       let i = lt-ltb 1 (getD (c .pointers) p 0) (omega arith) in
       update-searched undone i d y ∙ sym (ap (λ (b : Bool). cond b (heldUpdate undone) true) i)
 
-  pub undone-fails : undoneHeld ≡ false → false ≡ stepHeld (programOf f s) (entriesOf f list n) (configurationOf c) (Update p)
-  undone-fails g = at (kindOf undone) refl g
+  pub undone-fails : undoneHeld ≡ false → false ≡ stepHeld (programOf g s) (entriesOf f list n) (configurationOf c) (Update p)
+  undone-fails d = at (kindOf undone) refl d
     where
-      at : (b : Bool) → kindOf undone ≡ b → cond b (heldUpdate undone) true ≡ false → false ≡ stepHeld (programOf f s) (entriesOf f list n) (configurationOf c) (Update p)
-      at true i g = update-fails undone i g
-      at false i g = absurd (not-both refl g)
+      at : (b : Bool) → kindOf undone ≡ b → cond b (heldUpdate undone) true ≡ false → false ≡ stepHeld (programOf g s) (entriesOf f list n) (configurationOf c) (Update p)
+      at true i d = update-fails undone i d
+      at false i d = absurd (not-both refl d)
 
   -- ---- the label r = i / 4, u = i % 4
 
@@ -72,7 +72,7 @@ module _ (f list sum : List ℕ) (n : ℕ) (s : Program) (c : Cube) (W : Walkabl
   label-number i l = (omega arith, omega arith, omega arith)
 
   written-at : (ws : List ℕ) → LastWrites ws (configurationOf c .memory) → (i : ℕ) → i < 16 → getD ws i 0 ≡ lastWrite (configurationOf c .memory) (i / 4) (i % 4)
-  written-at ws g i l = let x = label-number i l in ap (λ (k : ℕ). getD ws k 0) (sym (x .2)) ∙ g (i / 4) (i % 4) (x .0) (x .1)
+  written-at ws d i l = let x = label-number i l in ap (λ (k : ℕ). getD ws k 0) (sym (x .2)) ∙ d (i / 4) (i % 4) (x .0) (x .1)
 
   pointed-parts : (r u : ℕ) → kindOf (pointed r u) ≡ true
       → (r < s .shape .processes) × (u < s .shape .variables) × (getD (c .pointers) p 0 ≤ lastWrite (configurationOf c .memory) r u)
@@ -88,28 +88,28 @@ module _ (f list sum : List ℕ) (n : ℕ) (s : Program) (c : Cube) (W : Walkabl
   -- the code's test
   pub label-kind : (ws : List ℕ) → LastWrites ws (configurationOf c .memory) → (i : ℕ) → i < 16
       → (ltb (i / 4) (s .shape .processes) && ltb (i % 4) (s .shape .variables)) && leb (getD (c .pointers) p 0) (getD ws i 0) ≡ kindOf (pointed (i / 4) (i % 4))
-  label-kind ws g i l = ap (λ (w : ℕ). (ltb (i / 4) (s .shape .processes) && ltb (i % 4) (s .shape .variables)) && leb (getD (c .pointers) p 0) w) (written-at ws g i l)
+  label-kind ws d i l = ap (λ (w : ℕ). (ltb (i / 4) (s .shape .processes) && ltb (i % 4) (s .shape .variables)) && leb (getD (c .pointers) p 0) w) (written-at ws d i l)
 
   pub pointed-absent : (i : ℕ) → kindOf (pointed (i / 4) (i % 4)) ≡ false → pointedHeld i ≡ true
   pointed-absent i e = ap (λ (t : Bool). cond t (heldUpdate (pointed (i / 4) (i % 4))) true) e
 
   pub pointed-there : (i : ℕ) → kindOf (pointed (i / 4) (i % 4)) ≡ true → {h : Bool} → h ≡ heldUpdate (pointed (i / 4) (i % 4)) → pointedHeld i ≡ h
-  pointed-there i e g = ap (λ (t : Bool). cond t (heldUpdate (pointed (i / 4) (i % 4))) true) e ∙ sym g
+  pointed-there i e d = ap (λ (t : Bool). cond t (heldUpdate (pointed (i / 4) (i % 4))) true) e ∙ sym d
 
-  pub pointed-fails : (i : ℕ) → pointedHeld i ≡ false → false ≡ stepHeld (programOf f s) (entriesOf f list n) (configurationOf c) (Update p)
+  pub pointed-fails : (i : ℕ) → pointedHeld i ≡ false → false ≡ stepHeld (programOf g s) (entriesOf f list n) (configurationOf c) (Update p)
   pointed-fails i z = at (kindOf (pointed (i / 4) (i % 4))) refl z
     where
       at : (b : Bool) → kindOf (pointed (i / 4) (i % 4)) ≡ b → cond b (heldUpdate (pointed (i / 4) (i % 4))) true ≡ false
-          → false ≡ stepHeld (programOf f s) (entriesOf f list n) (configurationOf c) (Update p)
+          → false ≡ stepHeld (programOf g s) (entriesOf f list n) (configurationOf c) (Update p)
       at true e z = update-fails (pointed (i / 4) (i % 4)) e z
       at false e z = absurd (not-both refl z)
 
-  pub update-all : undoneHeld ≡ true → ((i : ℕ) → i < 16 → pointedHeld i ≡ true) → true ≡ stepHeld (programOf f s) (entriesOf f list n) (configurationOf c) (Update p)
-  update-all g t =
-      sym (step-true (programOf f s) (entriesOf f list n) (configurationOf c) (Update p) (λ k h. at k (and-true (ltb p (s .shape .processes)) (kindOf k) h .1)))
+  pub update-all : undoneHeld ≡ true → ((i : ℕ) → i < 16 → pointedHeld i ≡ true) → true ≡ stepHeld (programOf g s) (entriesOf f list n) (configurationOf c) (Update p)
+  update-all d t =
+      sym (step-true (programOf g s) (entriesOf f list n) (configurationOf c) (Update p) (λ k h. at k (and-true (ltb p (s .shape .processes)) (kindOf k) h .1)))
     where
       at : (k : lists.Kind) → kindOf k ≡ true → heldUpdate k ≡ true
-      at undone e = sym (ap (λ (b : Bool). cond b (heldUpdate undone) true) e) ∙ g
+      at undone e = sym (ap (λ (b : Bool). cond b (heldUpdate undone) true) e) ∙ d
       at waited e = absurd (not-both e refl)
       at (inside k) e = absurd (not-both e refl)
       at (onTop u) e = absurd (not-both e refl)

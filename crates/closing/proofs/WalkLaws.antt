@@ -35,8 +35,8 @@ use Rattle.closing.specs.declared.Opening.the-variants.{Shut, Through}
 use Rattle.closing.specs.Walk.{stepHeld, walkStep, openingAt, openingOf, LowestFailing, Walkable}
 use Rattle.closing.proofs.StepLaws.{same-truth, truth, is-yes, not-both, yes-every, held-kind, step-true}
 
-pub count-is : (f : List ℕ) (p : Program) → length (programOf f p .transitions) ≡ p .transitions .count
-count-is f p = table-length (λ i. transitionAt f (p .transitions .at + 8 * i)) 0 (p .transitions .count)
+pub count-is : (g : List ℕ) (p : Program) → length (programOf g p .transitions) ≡ p .transitions .count
+count-is g p = table-length (λ i. transitionAt g (p .transitions .at + 8 * i)) 0 (p .transitions .count)
 
 -- ---- the lowest that fails
 
@@ -237,14 +237,14 @@ module _ (P : pws.Program) (R : pws.ShapeInRange (P .shape)) (es : List Configur
         ∙ sym (ap (λ (b : Bool). cond b Shut (Through (openStep P es e))) c)
   ]
 
-pub opening-is : (f list sum : List ℕ) (n : ℕ) (p : Program) (c : Cube) → Walkable f list sum n p c → {r : ℕ}
-    → LowestFailing (λ j. stepHeld (programOf f p) (entriesOf f list n) (configurationOf c) (walkStep (min (p .transitions .count) 256) j)) (min (p .transitions .count) 256 + 20) r
-    → openingAt (min (p .transitions .count) 256) r ≡ openingOf (programOf f p) (entriesOf f list n) (configurationOf c)
-opening-is f list sum n p c W {r} w =
-    let e : min (p .transitions .count) 256 ≡ length (programOf f p .transitions) = omega (arith, count-is f p, W .transitions) in
+pub opening-is : (g f list sum : List ℕ) (n : ℕ) (p : Program) (c : Cube) → Walkable g f list sum n p c → {r : ℕ}
+    → LowestFailing (λ j. stepHeld (programOf g p) (entriesOf f list n) (configurationOf c) (walkStep (min (p .transitions .count) 256) j)) (min (p .transitions .count) 256 + 20) r
+    → openingAt (min (p .transitions .count) 256) r ≡ openingOf (programOf g p) (entriesOf f list n) (configurationOf c)
+opening-is g f list sum n p c W {r} w =
+    let e : min (p .transitions .count) 256 ≡ length (programOf g p .transitions) = omega (arith, count-is g p, W .transitions) in
     ap (λ (m : ℕ). openingAt m r) e
-    ∙ lowest-opening (programOf f p) (W .stepping .program .shape) (entriesOf f list n) (configurationOf c)
-    (subst (λ (m : ℕ). LowestFailing (λ j. stepHeld (programOf f p) (entriesOf f list n) (configurationOf c) (walkStep m j)) (m + 20) r) e w)
+    ∙ lowest-opening (programOf g p) (W .stepping .program .shape) (entriesOf f list n) (configurationOf c)
+    (subst (λ (m : ℕ). LowestFailing (λ j. stepHeld (programOf g p) (entriesOf f list n) (configurationOf c) (walkStep m j)) (m + 20) r) e w)
 
 -- what an opening says
 

@@ -53,20 +53,20 @@ pub record LowestFailing (g : ℕ → Bool) (n r : ℕ) : Type 0 where
   pub each : (j : ℕ) → j < r → g j ≡ true
   pub fails : r < n → g r ≡ false
 
--- ---- what the walk goes over
+-- ---- what the walk goes over: the program is read from the bytes g, the entries from the bytes f
 
 -- an entry of a file that was read
-pub record Stepping (f : List ℕ) (p : Program) (c : Cube) : Type 0 where
-  pub program : pws.ProgramInRange (programOf f p)
+pub record Stepping (g : List ℕ) (p : Program) (c : Cube) : Type 0 where
+  pub program : pws.ProgramInRange (programOf g p)
   pub sound : Sound (p .shape) c
 
 -- And the entries with it. It is the one condition of this crate's contracts; on other bytes its functions end, and nothing is said of
 -- what they give.
-pub record Walkable (f list sum : List ℕ) (n : ℕ) (p : Program) (c : Cube) : Type 0 where
+pub record Walkable (g f list sum : List ℕ) (n : ℕ) (p : Program) (c : Cube) : Type 0 where
   pub count : n ≤ 524288
   pub transitions : p .transitions .count ≤ 256
-  pub stepping : Stepping f p c
-  pub own : EntryOf (programOf f p) (configurationOf c)
+  pub stepping : Stepping g p c
+  pub own : EntryOf (programOf g p) (configurationOf c)
   pub entries : (k : ℕ) → k < n → Fits (ValueOrFF (shapeOf (p .shape))) (shapeOf (p .shape)) (configurationOf (cubeAt f list k))
   pub summed : Summed f list sum n (p .shape)
 
@@ -75,14 +75,14 @@ pub record Acting (P : pws.Program) (e : Configuration) (j p x : ℕ) (o : Opera
   pub exists : j < length (P .transitions)
   pub is : transition P j ≡ record { process = p; from = x; operation = o; to = e .state p }
 
--- r says whether all predecessor cubes for such a transition are held
+-- r says whether all predecessor cubes for such a transition are held, whatever bytes the program is read from
 abbrev pub TakenHeld : List ℕ → List ℕ → List ℕ → ℕ → Program → Cube → ℕ → ℕ → Operation → Bool → Type 0
 TakenHeld f list sum n p c q x o r =
-    Walkable f list sum n p c → (j : ℕ) → Acting (programOf f p) (configurationOf c) j q x o → r ≡ stepHeld (programOf f p) (entriesOf f list n) (configurationOf c) (Take j)
+    (g : List ℕ) → Walkable g f list sum n p c → (j : ℕ) → Acting (programOf g p) (configurationOf c) j q x o → r ≡ stepHeld (programOf g p) (entriesOf f list n) (configurationOf c) (Take j)
 
 -- the newest message is one that a serialise of p and v made
-pub record Serialising (f list sum : List ℕ) (n : ℕ) (s : Program) (c : Cube) (p v : ℕ) : Type 0 where
-  pub walkable : Walkable f list sum n s c
+pub record Serialising (g f list sum : List ℕ) (n : ℕ) (s : Program) (c : Cube) (p v : ℕ) : Type 0 where
+  pub walkable : Walkable g f list sum n s c
   pub process : p < s .shape .processes
   pub variable : v < s .shape .variables
   pub made : serialised (shapeOf (s .shape)) (configurationOf c .memory) p v ≡ true

@@ -1,6 +1,9 @@
 // Through which step does a configuration outside the list get above an entry (number 11)? The predecessor cubes of the entry are made one
 // after another, and each is searched for (theory, section 5, T7 and T8). Steps that have none are passed over before a cube is made.
+// `code` is the file that holds the program, `file` the one that holds the entries; they may be the same. What reads no transition takes no
+// `code`, and its contract is for any bytes g that the program is read from.
 ghost use mathlib.Core.Path.{_≡_};
+ghost use mathlib.Core.List.{List};
 ghost use Prim.Native.Nat.{ℕ, _+_, _/_, _%_, _≤_, _<_, min};
 ghost use Rattle.pws.specs.declared.Step.the-variants.{Take, Serialise, Update};
 ghost use Rattle.program_part.specs.ProgramPart.{programOf};
@@ -34,6 +37,7 @@ pub enum Opening {
 
 // The lowest transition one of whose predecessor cubes is not held, or their number.
 fn open_take(
+    code: &[u8],
     file: &[u8],
     list: &[u8],
     sum: &[u8],
@@ -42,13 +46,13 @@ fn open_take(
     cube: Cube,
     writes: [u8; 16],
 ) -> usize
-    ensures { λ r. ⌜ (r ≤ 256) × (Walkable (now (file .entry)) (now (list .entry)) (now (sum .entry)) n program cube → LastWrites writes (configurationOf cube .memory) → LowestFailing (λ j. stepHeld (programOf (now (file .entry)) program) (entriesOf (now (file .entry)) (now (list .entry)) n) (configurationOf cube) (Take j)) (min (program .transitions .count) 256) r) ⌝ }
+    ensures { λ r. ⌜ (r ≤ 256) × (Walkable (now (code .entry)) (now (file .entry)) (now (list .entry)) (now (sum .entry)) n program cube → LastWrites writes (configurationOf cube .memory) → LowestFailing (λ j. stepHeld (programOf (now (code .entry)) program) (entriesOf (now (file .entry)) (now (list .entry)) n) (configurationOf cube) (Take j)) (min (program .transitions .count) 256) r) ⌝ }
 {
     let row = program.transitions;
     let m = least(row.count, 256);
     let states = cube.states;
     for j in 0..m {
-        let transition = transition_of(file, program, j);
+        let transition = transition_of(code, program, j);
         // most transitions lead elsewhere: nothing is made for them
         if of_four(states, transition.process) != transition.to {
             continue;
@@ -69,7 +73,7 @@ fn open_serialise(
     program: Program,
     cube: Cube,
 ) -> usize
-    ensures { λ r. ⌜ (r ≤ 1275) × (Walkable (now (file .entry)) (now (list .entry)) (now (sum .entry)) n program cube → LowestFailing (λ i. stepHeld (programOf (now (file .entry)) program) (entriesOf (now (file .entry)) (now (list .entry)) n) (configurationOf cube) (Serialise (i / 4) (i % 4))) 16 r) ⌝ }
+    ensures { λ r. ⌜ (r ≤ 1275) × ((g : List ℕ) → Walkable g (now (file .entry)) (now (list .entry)) (now (sum .entry)) n program cube → LowestFailing (λ i. stepHeld (programOf g program) (entriesOf (now (file .entry)) (now (list .entry)) n) (configurationOf cube) (Serialise (i / 4) (i % 4))) 16 r) ⌝ }
 {
     if serialised_held(file, list, sum, n, program, cube) {
         return 16;
@@ -88,7 +92,7 @@ fn open_update(
     cube: Cube,
     writes: [u8; 16],
 ) -> usize
-    ensures { λ r. ⌜ (r ≤ 4) × (Walkable (now (file .entry)) (now (list .entry)) (now (sum .entry)) n program cube → LastWrites writes (configurationOf cube .memory) → LowestFailing (λ p. stepHeld (programOf (now (file .entry)) program) (entriesOf (now (file .entry)) (now (list .entry)) n) (configurationOf cube) (Update p)) 4 r) ⌝ }
+    ensures { λ r. ⌜ (r ≤ 4) × ((g : List ℕ) → Walkable g (now (file .entry)) (now (list .entry)) (now (sum .entry)) n program cube → LastWrites writes (configurationOf cube .memory) → LowestFailing (λ p. stepHeld (programOf g program) (entriesOf (now (file .entry)) (now (list .entry)) n) (configurationOf cube) (Update p)) 4 r) ⌝ }
 {
     let shape = program.shape;
     let m = least(shape.processes, 4);
@@ -102,13 +106,21 @@ fn open_update(
 
 // The number of the lowest step, in the order of `walkStep`, one of whose predecessor cubes is not held; 20 past the transitions if there is
 // none.
-fn cube_open(file: &[u8], list: &[u8], sum: &[u8], n: usize, program: Program, cube: Cube) -> usize
-    ensures { λ r. ⌜ (Walkable (now (file .entry)) (now (list .entry)) (now (sum .entry)) n program cube → LowestFailing (λ j. stepHeld (programOf (now (file .entry)) program) (entriesOf (now (file .entry)) (now (list .entry)) n) (configurationOf cube) (walkStep (min (program .transitions .count) 256) j)) (min (program .transitions .count) 256 + 20) r) ⌝ }
+fn cube_open(
+    code: &[u8],
+    file: &[u8],
+    list: &[u8],
+    sum: &[u8],
+    n: usize,
+    program: Program,
+    cube: Cube,
+) -> usize
+    ensures { λ r. ⌜ (Walkable (now (code .entry)) (now (file .entry)) (now (list .entry)) (now (sum .entry)) n program cube → LowestFailing (λ j. stepHeld (programOf (now (code .entry)) program) (entriesOf (now (file .entry)) (now (list .entry)) n) (configurationOf cube) (walkStep (min (program .transitions .count) 256) j)) (min (program .transitions .count) 256 + 20) r) ⌝ }
 {
     let row = program.transitions;
     let m = least(row.count, 256);
     let writes = last_writes(cube);
-    let t = open_take(file, list, sum, n, program, cube, writes);
+    let t = open_take(code, file, list, sum, n, program, cube, writes);
     if t < m {
         return t;
     }
@@ -148,6 +160,7 @@ fn opening_at(m: usize, j: usize) -> Opening
 
 // Through which step does a configuration outside the list get above entry k? `sum` is the list's summary.
 pub fn open_step(
+    code: &[u8],
     file: &[u8],
     list: &[u8],
     sum: &[u8],
@@ -155,10 +168,10 @@ pub fn open_step(
     program: Program,
     k: usize,
 ) -> Opening
-    ensures { λ r. ⌜ (Walkable (now (file .entry)) (now (list .entry)) (now (sum .entry)) n program (cubeAt (now (file .entry)) (now (list .entry)) k) → r ≡ openingOf (programOf (now (file .entry)) program) (entriesOf (now (file .entry)) (now (list .entry)) n) (configurationOf (cubeAt (now (file .entry)) (now (list .entry)) k))) ⌝ }
+    ensures { λ r. ⌜ (Walkable (now (code .entry)) (now (file .entry)) (now (list .entry)) (now (sum .entry)) n program (cubeAt (now (file .entry)) (now (list .entry)) k) → r ≡ openingOf (programOf (now (code .entry)) program) (entriesOf (now (file .entry)) (now (list .entry)) n) (configurationOf (cubeAt (now (file .entry)) (now (list .entry)) k))) ⌝ }
 {
     let row = program.transitions;
     let m = least(row.count, 256);
     let cube = entry_at(file, list, k);
-    opening_at(m, cube_open(file, list, sum, n, program, cube))
+    opening_at(m, cube_open(code, file, list, sum, n, program, cube))
 }

@@ -1,6 +1,7 @@
 // The predecessor cubes of an entry for a serialise. Only the newest message's own label has any.
 ghost use mathlib.Core.Path.{_≡_};
 ghost use mathlib.Core.Bool.{true, cond};
+ghost use mathlib.Core.List.{List};
 ghost use Prim.Native.Nat.{ℕ, _≤_, _<_};
 ghost use Rattle.pws.specs.declared.Step.the-variants.{Serialise};
 ghost use lib.Dec.{ltb};
@@ -39,7 +40,7 @@ fn inside_held(
     last: usize,
     k: u8,
 ) -> bool
-    ensures { λ r. ⌜ (Serialising (now (file .entry)) (now (list .entry)) (now (sum .entry)) n program cube p v → serialiseKind (configurationOf cube .memory) p v undone ≡ true → last ≡ lastWrite (withoutNewest (configurationOf cube .memory)) p v → k < cube .count → r ≡ cond (ltb last k) (held (shapeOf (program .shape)) (entriesOf (now (file .entry)) (now (list .entry)) n) (serialiseBefore (shapeOf (program .shape)) (configurationOf cube) p v (inside k))) true) ⌝ }
+    ensures { λ r. ⌜ ((g : List ℕ) → Serialising g (now (file .entry)) (now (list .entry)) (now (sum .entry)) n program cube p v → serialiseKind (configurationOf cube .memory) p v undone ≡ true → last ≡ lastWrite (withoutNewest (configurationOf cube .memory)) p v → k < cube .count → r ≡ cond (ltb last k) (held (shapeOf (program .shape)) (entriesOf (now (file .entry)) (now (list .entry)) n) (serialiseBefore (shapeOf (program .shape)) (configurationOf cube) p v (inside k))) true) ⌝ }
 {
     let shape = program.shape;
     if (k as usize) <= last {
@@ -65,7 +66,7 @@ fn insides_held(
     p: u8,
     v: u8,
 ) -> bool
-    ensures { λ r. ⌜ (Serialising (now (file .entry)) (now (list .entry)) (now (sum .entry)) n program cube p v → serialiseKind (configurationOf cube .memory) p v undone ≡ true → r ≡ allBelow (cube .count) (λ k. cond (ltb (lastWrite (withoutNewest (configurationOf cube .memory)) p v) k) (held (shapeOf (program .shape)) (entriesOf (now (file .entry)) (now (list .entry)) n) (serialiseBefore (shapeOf (program .shape)) (configurationOf cube) p v (inside k))) true)) ⌝ }
+    ensures { λ r. ⌜ ((g : List ℕ) → Serialising g (now (file .entry)) (now (list .entry)) (now (sum .entry)) n program cube p v → serialiseKind (configurationOf cube .memory) p v undone ≡ true → r ≡ allBelow (cube .count) (λ k. cond (ltb (lastWrite (withoutNewest (configurationOf cube .memory)) p v) k) (held (shapeOf (program .shape)) (entriesOf (now (file .entry)) (now (list .entry)) n) (serialiseBefore (shapeOf (program .shape)) (configurationOf cube) p v (inside k))) true)) ⌝ }
 {
     let last = older_write(cube, p as usize, v as usize);
     let count = least(cube.count, 20);
@@ -88,7 +89,7 @@ fn label_held(
     p: u8,
     v: u8,
 ) -> bool
-    ensures { λ r. ⌜ (Serialising (now (file .entry)) (now (list .entry)) (now (sum .entry)) n program cube p v → r ≡ stepHeld (programOf (now (file .entry)) program) (entriesOf (now (file .entry)) (now (list .entry)) n) (configurationOf cube) (Serialise p v)) ⌝ }
+    ensures { λ r. ⌜ ((g : List ℕ) → Serialising g (now (file .entry)) (now (list .entry)) (now (sum .entry)) n program cube p v → r ≡ stepHeld (programOf g program) (entriesOf (now (file .entry)) (now (list .entry)) n) (configurationOf cube) (Serialise p v)) ⌝ }
 {
     let shape = program.shape;
     if !search(
@@ -119,7 +120,7 @@ pub(crate) fn serialised_held(
     program: Program,
     cube: Cube,
 ) -> bool
-    ensures { λ r. ⌜ (Walkable (now (file .entry)) (now (list .entry)) (now (sum .entry)) n program cube → (p v : ℕ) → stepHeld (programOf (now (file .entry)) program) (entriesOf (now (file .entry)) (now (list .entry)) n) (configurationOf cube) (Serialise p v) ≡ cond (labelled (topmost (configurationOf cube .memory .channel)) p v) r true) ⌝ }
+    ensures { λ r. ⌜ ((g : List ℕ) → Walkable g (now (file .entry)) (now (list .entry)) (now (sum .entry)) n program cube → (p v : ℕ) → stepHeld (programOf g program) (entriesOf (now (file .entry)) (now (list .entry)) n) (configurationOf cube) (Serialise p v) ≡ cond (labelled (topmost (configurationOf cube .memory .channel)) p v) r true) ⌝ }
 {
     let shape = program.shape;
     if !may_serialise(shape, cube) {

@@ -1,6 +1,7 @@
 // The predecessor cubes of an entry for a transition whose end is the entry's local state, by its operation.
 ghost use mathlib.Core.Path.{_≡_};
 ghost use mathlib.Core.Bool.{true, cond, _&&_};
+ghost use mathlib.Core.List.{List};
 ghost use Prim.Native.Nat.{ℕ, _≤_, _<_};
 ghost use lib.ListN.{length, getD};
 ghost use Rattle.pws.specs.declared.Operation.the-variants.{Nop, Read, Write, Mfence, Sfence, Arw};
@@ -160,7 +161,7 @@ fn unswapped_held(
     old: u8,
     x: u8,
 ) -> bool
-    ensures { λ r. ⌜ (Walkable (now (file .entry)) (now (list .entry)) (now (sum .entry)) n program cube → (j : ℕ) → Acting (programOf (now (file .entry)) program) (configurationOf cube) j p from (Arw v old x) → (isEmpty (configurationOf cube .queue p v) && lists.swapped (shapeOf (program .shape)) (configurationOf cube .memory) p v x) ≡ true → r ≡ cond (lists.arwKind (shapeOf (program .shape)) (configurationOf cube .memory) v old lists.undone) (held (shapeOf (program .shape)) (entriesOf (now (file .entry)) (now (list .entry)) n) (takeBefore (configurationOf cube) p from (Arw v old x) lists.undone)) true) ⌝ }
+    ensures { λ r. ⌜ ((g : List ℕ) → Walkable g (now (file .entry)) (now (list .entry)) (now (sum .entry)) n program cube → (j : ℕ) → Acting (programOf g program) (configurationOf cube) j p from (Arw v old x) → (isEmpty (configurationOf cube .queue p v) && lists.swapped (shapeOf (program .shape)) (configurationOf cube .memory) p v x) ≡ true → r ≡ cond (lists.arwKind (shapeOf (program .shape)) (configurationOf cube .memory) v old lists.undone) (held (shapeOf (program .shape)) (entriesOf (now (file .entry)) (now (list .entry)) n) (takeBefore (configurationOf cube) p from (Arw v old x) lists.undone)) true) ⌝ }
 {
     let shape = program.shape;
     if !alike_before(cube, v, old) {
@@ -184,7 +185,7 @@ fn on_top_held(
     x: u8,
     u: u8,
 ) -> bool
-    ensures { λ r. ⌜ (Walkable (now (file .entry)) (now (list .entry)) (now (sum .entry)) n program cube → (j : ℕ) → Acting (programOf (now (file .entry)) program) (configurationOf cube) j p from (Arw v old x) → (isEmpty (configurationOf cube .queue p v) && lists.swapped (shapeOf (program .shape)) (configurationOf cube .memory) p v x) ≡ true → u < program .shape .variables → r ≡ held (shapeOf (program .shape)) (entriesOf (now (file .entry)) (now (list .entry)) n) (takeBefore (configurationOf cube) p from (Arw v old x) (lists.onTop u))) ⌝ }
+    ensures { λ r. ⌜ ((g : List ℕ) → Walkable g (now (file .entry)) (now (list .entry)) (now (sum .entry)) n program cube → (j : ℕ) → Acting (programOf g program) (configurationOf cube) j p from (Arw v old x) → (isEmpty (configurationOf cube .queue p v) && lists.swapped (shapeOf (program .shape)) (configurationOf cube .memory) p v x) ≡ true → u < program .shape .variables → r ≡ held (shapeOf (program .shape)) (entriesOf (now (file .entry)) (now (list .entry)) n) (takeBefore (configurationOf cube) p from (Arw v old x) (lists.onTop u))) ⌝ }
 {
     let shape = program.shape;
     search(
@@ -252,7 +253,7 @@ pub(crate) fn taken_held(
     writes: [u8; 16],
     transition: Transition,
 ) -> bool
-    ensures { λ r. ⌜ (Walkable (now (file .entry)) (now (list .entry)) (now (sum .entry)) n program cube → LastWrites writes (configurationOf cube .memory) → (j : ℕ) → j < program .transitions .count → transition ≡ transitionOf (now (file .entry)) program j → getD (cube .states) (transition .process) 0 ≡ transition .to → r ≡ stepHeld (programOf (now (file .entry)) program) (entriesOf (now (file .entry)) (now (list .entry)) n) (configurationOf cube) (Take j)) ⌝ }
+    ensures { λ r. ⌜ ((g : List ℕ) → Walkable g (now (file .entry)) (now (list .entry)) (now (sum .entry)) n program cube → LastWrites writes (configurationOf cube .memory) → (j : ℕ) → j < program .transitions .count → transition ≡ transitionOf g program j → getD (cube .states) (transition .process) 0 ≡ transition .to → r ≡ stepHeld (programOf g program) (entriesOf (now (file .entry)) (now (list .entry)) n) (configurationOf cube) (Take j)) ⌝ }
 {
     let p = transition.process;
     let from = transition.from;

@@ -3,6 +3,7 @@ ghost use mathlib.Core.Path.{_≡_};
 ghost use mathlib.Core.Bool.{true, cond, _&&_};
 ghost use lib.ListN.{getD};
 ghost use lib.Dec.{leb, ltb};
+ghost use mathlib.Core.List.{List};
 ghost use Prim.Native.Nat.{ℕ, _/_, _%_, _≤_, _<_};
 ghost use Rattle.pws.specs.declared.Step.the-variants.{Update};
 ghost use Rattle.lists.specs.Predecessors as lists;
@@ -31,7 +32,7 @@ fn unpointed_held(
     cube: Cube,
     p: usize,
 ) -> bool
-    ensures { λ r. ⌜ (Walkable (now (file .entry)) (now (list .entry)) (now (sum .entry)) n program cube → p < program .shape .processes → r ≡ cond (lists.updateKind (shapeOf (program .shape)) (configurationOf cube .memory) p lists.undone) (held (shapeOf (program .shape)) (entriesOf (now (file .entry)) (now (list .entry)) n) (updateBefore (shapeOf (program .shape)) (configurationOf cube) p lists.undone)) true) ⌝ }
+    ensures { λ r. ⌜ ((g : List ℕ) → Walkable g (now (file .entry)) (now (list .entry)) (now (sum .entry)) n program cube → p < program .shape .processes → r ≡ cond (lists.updateKind (shapeOf (program .shape)) (configurationOf cube .memory) p lists.undone) (held (shapeOf (program .shape)) (entriesOf (now (file .entry)) (now (list .entry)) n) (updateBefore (shapeOf (program .shape)) (configurationOf cube) p lists.undone)) true) ⌝ }
 {
     let shape = program.shape;
     let pointers = cube.pointers;
@@ -63,7 +64,7 @@ fn pointed_held(
     p: usize,
     i: usize,
 ) -> bool
-    ensures { λ r. ⌜ (Walkable (now (file .entry)) (now (list .entry)) (now (sum .entry)) n program cube → p < program .shape .processes → i < 16 → lists.updateKind (shapeOf (program .shape)) (configurationOf cube .memory) p (lists.pointed (i / 4) (i % 4)) ≡ true → r ≡ held (shapeOf (program .shape)) (entriesOf (now (file .entry)) (now (list .entry)) n) (updateBefore (shapeOf (program .shape)) (configurationOf cube) p (lists.pointed (i / 4) (i % 4)))) ⌝ }
+    ensures { λ r. ⌜ ((g : List ℕ) → Walkable g (now (file .entry)) (now (list .entry)) (now (sum .entry)) n program cube → p < program .shape .processes → i < 16 → lists.updateKind (shapeOf (program .shape)) (configurationOf cube .memory) p (lists.pointed (i / 4) (i % 4)) ≡ true → r ≡ held (shapeOf (program .shape)) (entriesOf (now (file .entry)) (now (list .entry)) n) (updateBefore (shapeOf (program .shape)) (configurationOf cube) p (lists.pointed (i / 4) (i % 4)))) ⌝ }
 {
     if 16 <= i {
         return true;
@@ -92,7 +93,7 @@ pub(crate) fn updated_held(
     writes: [u8; 16],
     p: usize,
 ) -> bool
-    ensures { λ r. ⌜ (Walkable (now (file .entry)) (now (list .entry)) (now (sum .entry)) n program cube → LastWrites writes (configurationOf cube .memory) → p < program .shape .processes → r ≡ stepHeld (programOf (now (file .entry)) program) (entriesOf (now (file .entry)) (now (list .entry)) n) (configurationOf cube) (Update p)) ⌝ }
+    ensures { λ r. ⌜ ((g : List ℕ) → Walkable g (now (file .entry)) (now (list .entry)) (now (sum .entry)) n program cube → LastWrites writes (configurationOf cube .memory) → p < program .shape .processes → r ≡ stepHeld (programOf g program) (entriesOf (now (file .entry)) (now (list .entry)) n) (configurationOf cube) (Update p)) ⌝ }
 {
     if !unpointed_held(file, list, sum, n, program, cube, p) {
         return false;

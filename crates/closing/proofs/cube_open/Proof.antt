@@ -21,13 +21,13 @@ cube-open-spec = tie.close (tie.spec
     -- open-take-requires
     (λ c κs. search needs)
     -- returns
-    (λ c. λ W. walk-take (stepHeld (programOf (c .before .before .before .before .before .before .before .before .args .file .now) (c .before .before .before .before .before .before .before .before .args .program)) (entriesOf (c .before .before .before .before .before .before .before .before .args .file .now) (c .before .before .before .before .before .before .before .before .args .list .now) (c .before .before .before .before .before .before .before .before .args .n)) (configurationOf (c .before .before .before .before .before .before .before .before .args .cube))) (min ((c .before .before .before .before .before .before .before .before .args .program) .transitions .count) 256) (c .before .open-take .ensures .1 W (all-messages (W .stepping .sound) (c .before .before .last-writes .result) (c .before .before .last-writes .ensures))) (omega (arith, c .if1 .taken, c .before .before .before .least .ensures)))
+    (λ c. λ W. walk-take (stepHeld (programOf (c .before .before .before .before .before .before .before .before .before .args .code .now) (c .before .before .before .before .before .before .before .before .before .args .program)) (entriesOf (c .before .before .before .before .before .before .before .before .before .args .file .now) (c .before .before .before .before .before .before .before .before .before .args .list .now) (c .before .before .before .before .before .before .before .before .before .args .n)) (configurationOf (c .before .before .before .before .before .before .before .before .before .args .cube))) (min ((c .before .before .before .before .before .before .before .before .before .args .program) .transitions .count) 256) (c .before .open-take .ensures .1 W (all-messages (W .stepping .sound) (c .before .before .last-writes .result) (c .before .before .last-writes .ensures))) (omega (arith, c .if1 .taken, c .before .before .before .least .ensures)))
     -- open-serialise-requires
     (λ c κs. search needs)
     -- add-result
     (λ c. omega (arith, c .before .before .before .before .before .least .ensures, c .if2 .taken))
     -- returns-2
-    (λ c. λ W. rw (c .before .before .before .before .before .least .ensures) (walk-serialise (stepHeld (programOf (c .before .before .before .before .before .before .before .before .before .before .args .file .now) (c .before .before .before .before .before .before .before .before .before .before .args .program)) (entriesOf (c .before .before .before .before .before .before .before .before .before .before .args .file .now) (c .before .before .before .before .before .before .before .before .before .before .args .list .now) (c .before .before .before .before .before .before .before .before .before .before .args .n)) (configurationOf (c .before .before .before .before .before .before .before .before .before .before .args .cube))) (min ((c .before .before .before .before .before .before .before .before .before .before .args .program) .transitions .count) 256) (c .before .before .before .open-take .ensures .1 W (all-messages (W .stepping .sound) (c .before .before .before .before .last-writes .result) (c .before .before .before .before .last-writes .ensures))) (omega (arith, c .before .before .if1 .left, c .before .before .before .before .before .least .ensures)) (c .before .open-serialise .ensures .1 W) (c .if2 .taken)))
+    (λ c. λ W. rw (c .before .before .before .before .before .least .ensures) (walk-serialise (stepHeld (programOf (c .before .before .before .before .before .before .before .before .before .before .before .args .code .now) (c .before .before .before .before .before .before .before .before .before .before .before .args .program)) (entriesOf (c .before .before .before .before .before .before .before .before .before .before .before .args .file .now) (c .before .before .before .before .before .before .before .before .before .before .before .args .list .now) (c .before .before .before .before .before .before .before .before .before .before .before .args .n)) (configurationOf (c .before .before .before .before .before .before .before .before .before .before .before .args .cube))) (min ((c .before .before .before .before .before .before .before .before .before .before .before .args .program) .transitions .count) 256) (c .before .before .before .open-take .ensures .1 W (all-messages (W .stepping .sound) (c .before .before .before .before .last-writes .result) (c .before .before .before .before .last-writes .ensures))) (omega (arith, c .before .before .if1 .left, c .before .before .before .before .before .least .ensures)) (c .before .open-serialise .ensures .1 (c .before .before .before .before .before .before .before .before .before .before .before .args .code .now) W) (c .if2 .taken)))
     -- open-update-requires
     (λ c κs. search needs)
     -- add-result-2
@@ -35,4 +35,4 @@ cube-open-spec = tie.close (tie.spec
     -- add-result-3
     (λ c. omega (arith, c .before .before .before .before .before .before .least .ensures, c .open-update .ensures .0))
     -- returns-3
-    (λ c. λ W. let g = all-messages (W .stepping .sound) (c .before .before .before .before .before .last-writes .result) (c .before .before .before .before .before .last-writes .ensures) in rw (c .before .before .before .before .before .before .least .ensures) (walk-update (stepHeld (programOf (c .before .before .before .before .before .before .before .before .before .before .before .args .file .now) (c .before .before .before .before .before .before .before .before .before .before .before .args .program)) (entriesOf (c .before .before .before .before .before .before .before .before .before .before .before .args .file .now) (c .before .before .before .before .before .before .before .before .before .before .before .args .list .now) (c .before .before .before .before .before .before .before .before .before .before .before .args .n)) (configurationOf (c .before .before .before .before .before .before .before .before .before .before .before .args .cube))) (min ((c .before .before .before .before .before .before .before .before .before .before .before .args .program) .transitions .count) 256) (c .before .before .before .before .open-take .ensures .1 W g) (omega (arith, c .before .before .before .if1 .left, c .before .before .before .before .before .before .least .ensures)) (c .before .before .open-serialise .ensures .1 W) (omega (arith, c .before .if2 .left)) (c .open-update .ensures .1 W g))))
+    (λ c. λ W. let w = all-messages (W .stepping .sound) (c .before .before .before .before .before .last-writes .result) (c .before .before .before .before .before .last-writes .ensures) in rw (c .before .before .before .before .before .before .least .ensures) (walk-update (stepHeld (programOf (c .before .before .before .before .before .before .before .before .before .before .before .before .args .code .now) (c .before .before .before .before .before .before .before .before .before .before .before .before .args .program)) (entriesOf (c .before .before .before .before .before .before .before .before .before .before .before .before .args .file .now) (c .before .before .before .before .before .before .before .before .before .before .before .before .args .list .now) (c .before .before .before .before .before .before .before .before .before .before .before .before .args .n)) (configurationOf (c .before .before .before .before .before .before .before .before .before .before .before .before .args .cube))) (min ((c .before .before .before .before .before .before .before .before .before .before .before .before .args .program) .transitions .count) 256) (c .before .before .before .before .open-take .ensures .1 W w) (omega (arith, c .before .before .before .if1 .left, c .before .before .before .before .before .before .least .ensures)) (c .before .before .open-serialise .ensures .1 (c .before .before .before .before .before .before .before .before .before .before .before .before .args .code .now) W) (omega (arith, c .before .if2 .left)) (c .open-update .ensures .1 (c .before .before .before .before .before .before .before .before .before .before .before .before .args .code .now) W w))))

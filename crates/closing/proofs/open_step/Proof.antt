@@ -21,4 +21,4 @@ open-step-spec = tie.close (tie.spec
     -- opening-at-requires
     (λ c κs. search needs)
     -- returns
-    (λ c. λ W. c .opening-at .ensures ∙ ap (λ (m : ℕ). openingAt m (c .before .cube-open .result)) (c .before .before .before .least .ensures) ∙ opening-is (c .before .before .before .before .before .before .before .before .args .file .now) (c .before .before .before .before .before .before .before .before .args .list .now) (c .before .before .before .before .before .before .before .before .args .sum .now) (c .before .before .before .before .before .before .before .before .args .n) (c .before .before .before .before .before .before .before .before .args .program) (cubeAt (c .before .before .before .before .before .before .before .before .args .file .now) (c .before .before .before .before .before .before .before .before .args .list .now) (c .before .before .before .before .before .before .before .before .args .k)) W (subst (λ (k : Cube). Walkable (c .before .before .before .before .before .before .before .before .args .file .now) (c .before .before .before .before .before .before .before .before .args .list .now) (c .before .before .before .before .before .before .before .before .args .sum .now) (c .before .before .before .before .before .before .before .before .args .n) (c .before .before .before .before .before .before .before .before .args .program) k → LowestFailing (λ j. stepHeld (programOf (c .before .before .before .before .before .before .before .before .args .file .now) (c .before .before .before .before .before .before .before .before .args .program)) (entriesOf (c .before .before .before .before .before .before .before .before .args .file .now) (c .before .before .before .before .before .before .before .before .args .list .now) (c .before .before .before .before .before .before .before .before .args .n)) (configurationOf k) (walkStep (min ((c .before .before .before .before .before .before .before .before .args .program) .transitions .count) 256) j)) (min ((c .before .before .before .before .before .before .before .before .args .program) .transitions .count) 256 + 20) (c .before .cube-open .result)) (c .before .before .entry-at .ensures) (c .before .cube-open .ensures) W)))
+    (λ c. λ W. c .opening-at .ensures ∙ ap (λ (m : ℕ). openingAt m (c .before .cube-open .result)) (c .before .before .before .least .ensures) ∙ opening-is (c .before .before .before .before .before .before .before .before .before .args .code .now) (c .before .before .before .before .before .before .before .before .before .args .file .now) (c .before .before .before .before .before .before .before .before .before .args .list .now) (c .before .before .before .before .before .before .before .before .before .args .sum .now) (c .before .before .before .before .before .before .before .before .before .args .n) (c .before .before .before .before .before .before .before .before .before .args .program) (cubeAt (c .before .before .before .before .before .before .before .before .before .args .file .now) (c .before .before .before .before .before .before .before .before .before .args .list .now) (c .before .before .before .before .before .before .before .before .before .args .k)) W (subst (λ (k : Cube). Walkable (c .before .before .before .before .before .before .before .before .before .args .code .now) (c .before .before .before .before .before .before .before .before .before .args .file .now) (c .before .before .before .before .before .before .before .before .before .args .list .now) (c .before .before .before .before .before .before .before .before .before .args .sum .now) (c .before .before .before .before .before .before .before .before .before .args .n) (c .before .before .before .before .before .before .before .before .before .args .program) k → LowestFailing (λ j. stepHeld (programOf (c .before .before .before .before .before .before .before .before .before .args .code .now) (c .before .before .before .before .before .before .before .before .before .args .program)) (entriesOf (c .before .before .before .before .before .before .before .before .before .args .file .now) (c .before .before .before .before .before .before .before .before .before .args .list .now) (c .before .before .before .before .before .before .before .before .before .args .n)) (configurationOf k) (walkStep (min ((c .before .before .before .before .before .before .before .before .before .args .program) .transitions .count) 256) j)) (min ((c .before .before .before .before .before .before .before .before .before .args .program) .transitions .count) 256 + 20) (c .before .cube-open .result)) (c .before .before .entry-at .ensures) (c .before .cube-open .ensures) W)))

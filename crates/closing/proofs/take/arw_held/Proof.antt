@@ -28,11 +28,11 @@ arw-held-spec = tie.close (tie.spec
     -- may-swap-requires
     (λ c κs. search needs)
     -- returns
-    (λ c. λ W j A. arw-none (c .before .before .before .before .before .before .args .file .now) (c .before .before .before .before .before .before .args .list .now) (c .before .before .before .before .before .before .args .sum .now) (c .before .before .before .before .before .before .args .n) (c .before .before .before .before .before .before .args .program) (c .before .before .before .before .before .before .args .cube) W j (c .before .before .before .before .before .before .args .p) (c .before .before .before .before .before .before .args .from) (c .before .before .before .before .before .before .args .v) (c .before .before .before .before .before .before .args .old) (c .before .before .before .before .before .before .args .x) A (sym (c .before .may-swap .ensures (W .stepping .sound)) ∙ not-true (c .before .may-swap .result) (c .if1 .taken)))
+    (λ c. λ g W j A. arw-none g (c .before .before .before .before .before .before .args .file .now) (c .before .before .before .before .before .before .args .list .now) (c .before .before .before .before .before .before .args .sum .now) (c .before .before .before .before .before .before .args .n) (c .before .before .before .before .before .before .args .program) (c .before .before .before .before .before .before .args .cube) W j (c .before .before .before .before .before .before .args .p) (c .before .before .before .before .before .before .args .from) (c .before .before .before .before .before .before .args .v) (c .before .before .before .before .before .before .args .old) (c .before .before .before .before .before .before .args .x) A (sym (c .before .may-swap .ensures (W .stepping .sound)) ∙ not-true (c .before .may-swap .result) (c .if1 .taken)))
     -- unswapped-held-requires
     (λ c κs. search needs)
     -- returns-2
-    (λ c. λ W j A. let z = sym (c .before .before .before .may-swap .ensures (W .stepping .sound)) ∙ not-false (c .before .before .before .may-swap .result) (c .before .before .if1 .left) in undone-fails (c .before .before .before .before .before .before .before .before .args .file .now) (c .before .before .before .before .before .before .before .before .args .list .now) (c .before .before .before .before .before .before .before .before .args .sum .now) (c .before .before .before .before .before .before .before .before .args .n) (c .before .before .before .before .before .before .before .before .args .program) (c .before .before .before .before .before .before .before .before .args .cube) W j (c .before .before .before .before .before .before .before .before .args .p) (c .before .before .before .before .before .before .before .before .args .from) (c .before .before .before .before .before .before .before .before .args .v) (c .before .before .before .before .before .before .before .before .args .old) (c .before .before .before .before .before .before .before .before .args .x) A z (sym (c .before .unswapped-held .ensures W j A z) ∙ not-true (c .before .unswapped-held .result) (c .if2 .taken)))
+    (λ c. λ g W j A. let z = sym (c .before .before .before .may-swap .ensures (W .stepping .sound)) ∙ not-false (c .before .before .before .may-swap .result) (c .before .before .if1 .left) in undone-fails g (c .before .before .before .before .before .before .before .before .args .file .now) (c .before .before .before .before .before .before .before .before .args .list .now) (c .before .before .before .before .before .before .before .before .args .sum .now) (c .before .before .before .before .before .before .before .before .args .n) (c .before .before .before .before .before .before .before .before .args .program) (c .before .before .before .before .before .before .before .before .args .cube) W j (c .before .before .before .before .before .before .before .before .args .p) (c .before .before .before .before .before .before .before .before .args .from) (c .before .before .before .before .before .before .before .before .args .v) (c .before .before .before .before .before .before .before .before .args .old) (c .before .before .before .before .before .before .before .before .args .x) A z (sym (c .before .unswapped-held .ensures g W j A z) ∙ not-true (c .before .unswapped-held .result) (c .if2 .taken)))
     -- least-requires
     (λ c κs. search needs)
     -- loop-holds
@@ -42,12 +42,12 @@ arw-held-spec = tie.close (tie.spec
     -- on-top-held-requires
     (λ c κs. search needs)
     -- returns-3
-    (λ c. λ W j A. let z = sym (c .before .before .before .before .before .before .before .before .may-swap .ensures (W .stepping .sound)) ∙ not-false (c .before .before .before .before .before .before .before .before .may-swap .result) (c .before .before .before .before .before .before .before .if1 .left) in let l : c .before .before .before .loop .u < (c .before .before .before .before .before .before .before .before .before .before .before .before .before .args .program) .shape .variables = omega (arith, c .before .before .loop-test .taken, c .before .before .before .before .least .ensures) in take-false (c .before .before .before .before .before .before .before .before .before .before .before .before .before .args .file .now) (c .before .before .before .before .before .before .before .before .before .before .before .before .before .args .list .now) (c .before .before .before .before .before .before .before .before .before .before .before .before .before .args .sum .now) (c .before .before .before .before .before .before .before .before .before .before .before .before .before .args .n) (c .before .before .before .before .before .before .before .before .before .before .before .before .before .args .program) (c .before .before .before .before .before .before .before .before .before .before .before .before .before .args .cube) W j (c .before .before .before .before .before .before .before .before .before .before .before .before .before .args .p) (c .before .before .before .before .before .before .before .before .before .before .before .before .before .args .from) (Arw (c .before .before .before .before .before .before .before .before .before .before .before .before .before .args .v) (c .before .before .before .before .before .before .before .before .before .before .before .before .before .args .old) (c .before .before .before .before .before .before .before .before .before .before .before .before .before .args .x)) A (onTop (c .before .before .before .loop .u)) (top-has (c .before .before .before .before .before .before .before .before .before .before .before .before .before .args .file .now) (c .before .before .before .before .before .before .before .before .before .before .before .before .before .args .list .now) (c .before .before .before .before .before .before .before .before .before .before .before .before .before .args .sum .now) (c .before .before .before .before .before .before .before .before .before .before .before .before .before .args .n) (c .before .before .before .before .before .before .before .before .before .before .before .before .before .args .program) (c .before .before .before .before .before .before .before .before .before .before .before .before .before .args .cube) W j (c .before .before .before .before .before .before .before .before .before .before .before .before .before .args .p) (c .before .before .before .before .before .before .before .before .before .before .before .before .before .args .from) (c .before .before .before .before .before .before .before .before .before .before .before .before .before .args .v) (c .before .before .before .before .before .before .before .before .before .before .before .before .before .args .old) (c .before .before .before .before .before .before .before .before .before .before .before .before .before .args .x) A z (c .before .before .before .loop .u) l) (sym (c .before .on-top-held .ensures W j A z l) ∙ not-true (c .before .on-top-held .result) (c .if3 .taken)))
+    (λ c. λ g W j A. let z = sym (c .before .before .before .before .before .before .before .before .may-swap .ensures (W .stepping .sound)) ∙ not-false (c .before .before .before .before .before .before .before .before .may-swap .result) (c .before .before .before .before .before .before .before .if1 .left) in let l : c .before .before .before .loop .u < (c .before .before .before .before .before .before .before .before .before .before .before .before .before .args .program) .shape .variables = omega (arith, c .before .before .loop-test .taken, c .before .before .before .before .least .ensures) in take-false g (c .before .before .before .before .before .before .before .before .before .before .before .before .before .args .file .now) (c .before .before .before .before .before .before .before .before .before .before .before .before .before .args .list .now) (c .before .before .before .before .before .before .before .before .before .before .before .before .before .args .sum .now) (c .before .before .before .before .before .before .before .before .before .before .before .before .before .args .n) (c .before .before .before .before .before .before .before .before .before .before .before .before .before .args .program) (c .before .before .before .before .before .before .before .before .before .before .before .before .before .args .cube) W j (c .before .before .before .before .before .before .before .before .before .before .before .before .before .args .p) (c .before .before .before .before .before .before .before .before .before .before .before .before .before .args .from) (Arw (c .before .before .before .before .before .before .before .before .before .before .before .before .before .args .v) (c .before .before .before .before .before .before .before .before .before .before .before .before .before .args .old) (c .before .before .before .before .before .before .before .before .before .before .before .before .before .args .x)) A (onTop (c .before .before .before .loop .u)) (top-has g (c .before .before .before .before .before .before .before .before .before .before .before .before .before .args .file .now) (c .before .before .before .before .before .before .before .before .before .before .before .before .before .args .list .now) (c .before .before .before .before .before .before .before .before .before .before .before .before .before .args .sum .now) (c .before .before .before .before .before .before .before .before .before .before .before .before .before .args .n) (c .before .before .before .before .before .before .before .before .before .before .before .before .before .args .program) (c .before .before .before .before .before .before .before .before .before .before .before .before .before .args .cube) W j (c .before .before .before .before .before .before .before .before .before .before .before .before .before .args .p) (c .before .before .before .before .before .before .before .before .before .before .before .before .before .args .from) (c .before .before .before .before .before .before .before .before .before .before .before .before .before .args .v) (c .before .before .before .before .before .before .before .before .before .before .before .before .before .args .old) (c .before .before .before .before .before .before .before .before .before .before .before .before .before .args .x) A z (c .before .before .before .loop .u) l) (sym (c .before .on-top-held .ensures g W j A z l) ∙ not-true (c .before .on-top-held .result) (c .if3 .taken)))
     -- add-u
     (λ c. omega (arith, c .before .before .loop-test .taken, c .before .before .before .before .least .ensures))
     -- loop-less
     (λ c. omega (arith, c .before .before .loop-test .taken))
     -- loop-again
-    (λ c. passed-next (c .before .before .before .loop .inv) (c .before .before .loop-test .taken) (λ X. let l : c .before .before .before .loop .u < (c .before .before .before .before .before .before .before .before .before .before .before .before .before .args .program) .shape .variables = omega (arith, c .before .before .loop-test .taken, c .before .before .before .before .least .ensures) in sym (c .before .on-top-held .ensures (X .walkable) (X .number) (X .acting) (X .made) l) ∙ not-false (c .before .on-top-held .result) (c .if3 .left)))
+    (λ c. passed-next (c .before .before .before .loop .inv) (c .before .before .loop-test .taken) (λ X. let l : c .before .before .before .loop .u < (c .before .before .before .before .before .before .before .before .before .before .before .before .before .args .program) .shape .variables = omega (arith, c .before .before .loop-test .taken, c .before .before .before .before .least .ensures) in sym (c .before .on-top-held .ensures (X .code) (X .walkable) (X .number) (X .acting) (X .made) l) ∙ not-false (c .before .on-top-held .result) (c .if3 .left)))
     -- returns-4
-    (λ c. λ W j A. let z = sym (c .before .before .before .before .before .before .may-swap .ensures (W .stepping .sound)) ∙ not-false (c .before .before .before .before .before .before .may-swap .result) (c .before .before .before .before .before .if1 .left) in arw-all (c .before .before .before .before .before .before .before .before .before .before .before .args .file .now) (c .before .before .before .before .before .before .before .before .before .before .before .args .list .now) (c .before .before .before .before .before .before .before .before .before .before .before .args .sum .now) (c .before .before .before .before .before .before .before .before .before .before .before .args .n) (c .before .before .before .before .before .before .before .before .before .before .before .args .program) (c .before .before .before .before .before .before .before .before .before .before .before .args .cube) W j (c .before .before .before .before .before .before .before .before .before .before .before .args .p) (c .before .before .before .before .before .before .before .before .before .before .before .args .from) (c .before .before .before .before .before .before .before .before .before .before .before .args .v) (c .before .before .before .before .before .before .before .before .before .before .before .args .old) (c .before .before .before .before .before .before .before .before .before .before .before .args .x) A (sym (c .before .before .before .before .unswapped-held .ensures W j A z) ∙ not-false (c .before .before .before .before .unswapped-held .result) (c .before .before .before .if2 .left)) (λ u l. c .before .loop .inv .each (record { walkable = W; number = j; acting = A; made = z }) u (omega (arith, c .loop-test .left, c .before .before .least .ensures, W .stepping .sound .variables)))))
+    (λ c. λ g W j A. let z = sym (c .before .before .before .before .before .before .may-swap .ensures (W .stepping .sound)) ∙ not-false (c .before .before .before .before .before .before .may-swap .result) (c .before .before .before .before .before .if1 .left) in arw-all g (c .before .before .before .before .before .before .before .before .before .before .before .args .file .now) (c .before .before .before .before .before .before .before .before .before .before .before .args .list .now) (c .before .before .before .before .before .before .before .before .before .before .before .args .sum .now) (c .before .before .before .before .before .before .before .before .before .before .before .args .n) (c .before .before .before .before .before .before .before .before .before .before .before .args .program) (c .before .before .before .before .before .before .before .before .before .before .before .args .cube) W j (c .before .before .before .before .before .before .before .before .before .before .before .args .p) (c .before .before .before .before .before .before .before .before .before .before .before .args .from) (c .before .before .before .before .before .before .before .before .before .before .before .args .v) (c .before .before .before .before .before .before .before .before .before .before .before .args .old) (c .before .before .before .before .before .before .before .before .before .before .before .args .x) A (sym (c .before .before .before .before .unswapped-held .ensures g W j A z) ∙ not-false (c .before .before .before .before .unswapped-held .result) (c .before .before .before .if2 .left)) (λ u l. c .before .loop .inv .each (record { code = g; walkable = W; number = j; acting = A; made = z }) u (omega (arith, c .loop-test .left, c .before .before .least .ensures, W .stepping .sound .variables)))))
