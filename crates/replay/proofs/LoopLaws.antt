@@ -47,7 +47,7 @@ module _ (f : List ℕ) (s : Shape) (states : List ℕ) (steps : ℕ) where
 
 -- ---- the steps
 
-module _ (f : List ℕ) (s : Shape) (transitions targets : Row) (steps : ℕ) where
+module _ (g f : List ℕ) (s : Shape) (transitions targets : Row) (steps : ℕ) where
   then-stopped : (x : Answer) (cause : Cause) (k : ℕ) (y : Unit {0} → RunAnswer) → x ≡ Refused cause → answerThen x k y ≡ Stopped k cause
   then-stopped x cause k y e = ap (λ (z : Answer). answerThen z k y) e
 
@@ -55,64 +55,64 @@ module _ (f : List ℕ) (s : Shape) (transitions targets : Row) (steps : ℕ) wh
   then-goes x k y e = ap (λ (z : Answer). answerThen z k y) e
 
   pub run-begin : (n at : ℕ) (run : Run) (rows : List (List ℕ)) (a : List ℕ)
-      → runFrom f s transitions targets steps 0 at run rows a (n - 0) ≡ runFrom f s transitions targets steps 0 at run rows a n
-  run-begin n at run rows a = ap (runFrom f s transitions targets steps 0 at run rows a) (omega arith)
+      → runFrom g f s transitions targets steps 0 at run rows a (n - 0) ≡ runFrom g f s transitions targets steps 0 at run rows a n
+  run-begin n at run rows a = ap (runFrom g f s transitions targets steps 0 at run rows a) (omega arith)
 
   pub run-done : (n k at : ℕ) (run : Run) (rows : List (List ℕ)) (a : List ℕ) → n ≤ k
-      → runFrom f s transitions targets steps k at run rows a (n - k) ≡ lastIn f targets s (run .states) steps
+      → runFrom g f s transitions targets steps k at run rows a (n - k) ≡ lastIn g targets s (run .states) steps
   unfolding runFrom
-  run-done n k at run rows a l = ap (runFrom f s transitions targets steps k at run rows a) (left-zero n k l)
+  run-done n k at run rows a l = ap (runFrom g f s transitions targets steps k at run rows a) (left-zero n k l)
 
   pub run-stopped : (n k at : ℕ) (run : Run) (rows : List (List ℕ)) (a : List ℕ) (cause : Cause) → k < n
-      → answerIn run rows a s (moveOf f transitions (stepAt f at)) ≡ Refused cause
-      → runFrom f s transitions targets steps k at run rows a (n - k) ≡ Stopped k cause
+      → answerIn run rows a s (moveOf g transitions (stepAt f at)) ≡ Refused cause
+      → runFrom g f s transitions targets steps k at run rows a (n - k) ≡ Stopped k cause
   unfolding runFrom
   run-stopped n k at run rows a cause l e =
-      ap (runFrom f s transitions targets steps k at run rows a) (left-suc n k l) ∙ then-stopped _ cause k _ e
+      ap (runFrom g f s transitions targets steps k at run rows a) (left-suc n k l) ∙ then-stopped _ cause k _ e
 
   pub run-next : (n k at : ℕ) (run : Run) (rows : List (List ℕ)) (a : List ℕ) → k < n
-      → answerIn run rows a s (moveOf f transitions (stepAt f at)) ≡ Permitted
-      → runFrom f s transitions targets steps k at run rows a (n - k)
-      ≡ runFrom f s transitions targets steps (k + 1) (nextStep f at) (runAfter run (moveOf f transitions (stepAt f at)))
-      (rowsAfter rows (run .messages) (moveOf f transitions (stepAt f at))) (lowerAfter a run (moveOf f transitions (stepAt f at))) (n - (k + 1))
+      → answerIn run rows a s (moveOf g transitions (stepAt f at)) ≡ Permitted
+      → runFrom g f s transitions targets steps k at run rows a (n - k)
+      ≡ runFrom g f s transitions targets steps (k + 1) (nextStep f at) (runAfter run (moveOf g transitions (stepAt f at)))
+      (rowsAfter rows (run .messages) (moveOf g transitions (stepAt f at))) (lowerAfter a run (moveOf g transitions (stepAt f at))) (n - (k + 1))
   unfolding runFrom
   run-next n k at run rows a l e =
-      ap (runFrom f s transitions targets steps k at run rows a) (left-suc n k l) ∙ then-goes _ k _ e
+      ap (runFrom g f s transitions targets steps k at run rows a) (left-suc n k l) ∙ then-goes _ k _ e
 
 -- ---- the state of the loop over the steps
 
-pub record Replaying (f : List ℕ) (s : Shape) (transitions targets : Row) (steps at : ℕ) (run₀ : Run) (rows₀ : List (List ℕ)) (a₀ : List ℕ)
+pub record Replaying (g f : List ℕ) (s : Shape) (transitions targets : Row) (steps at : ℕ) (run₀ : Run) (rows₀ : List (List ℕ)) (a₀ : List ℕ)
     (k place : ℕ) (run : Run) (rows : List (List ℕ)) (a : List ℕ) : Type 0 where
   pub most : k ≤ steps
   pub same : length a ≡ length a₀
   pub rest :
-      runFrom f s transitions targets steps k place run rows a (steps - k) ≡ runFrom f s transitions targets steps 0 at run₀ rows₀ a₀ steps
+      runFrom g f s transitions targets steps k place run rows a (steps - k) ≡ runFrom g f s transitions targets steps 0 at run₀ rows₀ a₀ steps
 
-pub replaying-begin : (f : List ℕ) (s : Shape) (transitions targets : Row) (steps at : ℕ) (run₀ : Run) (rows₀ : List (List ℕ)) (a₀ : List ℕ)
-    → Replaying f s transitions targets steps at run₀ rows₀ a₀ 0 at run₀ rows₀ a₀
-replaying-begin f s transitions targets steps at run₀ rows₀ a₀ =
-    record { most = omega arith; same = refl; rest = run-begin f s transitions targets steps steps at run₀ rows₀ a₀ }
+pub replaying-begin : (g f : List ℕ) (s : Shape) (transitions targets : Row) (steps at : ℕ) (run₀ : Run) (rows₀ : List (List ℕ)) (a₀ : List ℕ)
+    → Replaying g f s transitions targets steps at run₀ rows₀ a₀ 0 at run₀ rows₀ a₀
+replaying-begin g f s transitions targets steps at run₀ rows₀ a₀ =
+    record { most = omega arith; same = refl; rest = run-begin g f s transitions targets steps steps at run₀ rows₀ a₀ }
 
-module _ {f : List ℕ} {s : Shape} {transitions targets : Row} {steps at : ℕ} {run₀ : Run} {rows₀ : List (List ℕ)} {a₀ : List ℕ}
-    {k place : ℕ} {run : Run} {rows : List (List ℕ)} {a : List ℕ} (r : Replaying f s transitions targets steps at run₀ rows₀ a₀ k place run rows a) where
-  pub replaying-done : steps ≤ k → lastIn f targets s (run .states) steps ≡ runFrom f s transitions targets steps 0 at run₀ rows₀ a₀ steps
-  replaying-done l = sym (run-done f s transitions targets steps steps k place run rows a l) ∙ r .rest
+module _ {g f : List ℕ} {s : Shape} {transitions targets : Row} {steps at : ℕ} {run₀ : Run} {rows₀ : List (List ℕ)} {a₀ : List ℕ}
+    {k place : ℕ} {run : Run} {rows : List (List ℕ)} {a : List ℕ} (r : Replaying g f s transitions targets steps at run₀ rows₀ a₀ k place run rows a) where
+  pub replaying-done : steps ≤ k → lastIn g targets s (run .states) steps ≡ runFrom g f s transitions targets steps 0 at run₀ rows₀ a₀ steps
+  replaying-done l = sym (run-done g f s transitions targets steps steps k place run rows a l) ∙ r .rest
 
-  pub replaying-stopped : (x : Answer) (cause : Cause) → k < steps → x ≡ answerIn run rows a s (moveOf f transitions (stepAt f place)) → x ≡ Refused cause
-      → stoppedBy k x ≡ runFrom f s transitions targets steps 0 at run₀ rows₀ a₀ steps
+  pub replaying-stopped : (x : Answer) (cause : Cause) → k < steps → x ≡ answerIn run rows a s (moveOf g transitions (stepAt f place)) → x ≡ Refused cause
+      → stoppedBy k x ≡ runFrom g f s transitions targets steps 0 at run₀ rows₀ a₀ steps
   replaying-stopped x cause l e q =
-      ap (stoppedBy k) q ∙ sym (run-stopped f s transitions targets steps steps k place run rows a cause l (sym e ∙ q)) ∙ r .rest
+      ap (stoppedBy k) q ∙ sym (run-stopped g f s transitions targets steps steps k place run rows a cause l (sym e ∙ q)) ∙ r .rest
 
-  pub replaying-next : {place′ : ℕ} {run′ : Run} {rows′ : List (List ℕ)} {a′ : List ℕ} (m : Move) → k < steps → m ≡ moveOf f transitions (stepAt f place)
+  pub replaying-next : {place′ : ℕ} {run′ : Run} {rows′ : List (List ℕ)} {a′ : List ℕ} (m : Move) → k < steps → m ≡ moveOf g transitions (stepAt f place)
       → answerIn run rows a s m ≡ Permitted → place′ ≡ nextStep f place → run′ ≡ runAfter run m
       → rows′ ≡ rowsAfter rows (run .messages) m → a′ ≡ lowerAfter a run m
-      → Replaying f s transitions targets steps at run₀ rows₀ a₀ (k + 1) place′ run′ rows′ a′
+      → Replaying g f s transitions targets steps at run₀ rows₀ a₀ (k + 1) place′ run′ rows′ a′
   replaying-next {place′} {run′} {rows′} {a′} m l em e ep er ew ea =
       record {
         most = omega arith;
         same = ap length ea ∙ area-length a run m ∙ r .same;
         rest =
-            (λ i. runFrom f s transitions targets steps (k + 1) (ep i) (er i) (ew i) (ea i) (steps - (k + 1)))
-            ∙ ap (λ (x : Move). runFrom f s transitions targets steps (k + 1) (nextStep f place) (runAfter run x) (rowsAfter rows (run .messages) x) (lowerAfter a run x) (steps - (k + 1))) em
-            ∙ sym (run-next f s transitions targets steps steps k place run rows a l (ap (answerIn run rows a s) (sym em) ∙ e)) ∙ r .rest;
+            (λ i. runFrom g f s transitions targets steps (k + 1) (ep i) (er i) (ew i) (ea i) (steps - (k + 1)))
+            ∙ ap (λ (x : Move). runFrom g f s transitions targets steps (k + 1) (nextStep f place) (runAfter run x) (rowsAfter rows (run .messages) x) (lowerAfter a run x) (steps - (k + 1))) em
+            ∙ sym (run-next g f s transitions targets steps steps k place run rows a l (ap (answerIn run rows a s) (sym em) ∙ e)) ∙ r .rest;
       }

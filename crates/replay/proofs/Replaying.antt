@@ -163,13 +163,13 @@ ones-at (suc (suc (suc (suc i)))) l = absurd (omega arith)
 first-row : (q : ℕ) → q < 4 → getD firstRows q [] ≡ replicate 5 1
 first-row q l = getD-replicate 4 q (replicate 5 1) [] l
 
-module _ (f : List ℕ) (p : Program) (R : pws.ProgramInRange (programOf f p)) (four : length (p .initial) ≡ 4) (memory : List ℕ) (values : length memory ≡ 4)
+module _ (g : List ℕ) (p : Program) (R : pws.ProgramInRange (programOf g p)) (four : length (p .initial) ≡ 4) (memory : List ℕ) (values : length memory ≡ 4)
     (a : List ℕ) (room : length a ≡ 16384) where
   abbrev S₀ : pws.Shape
   S₀ = shapeOf (p .shape)
 
   abbrev c₀ : Configuration
-  c₀ = startWith (programOf f p) memory 0 0
+  c₀ = startWith (programOf g p) memory 0 0
 
   points-first : (q : ℕ) → q < p .shape .processes → c₀ .memory .pointer q ≡ 1
   points-first q l = rw (lt-ltb q (p .shape .processes) l)
@@ -214,17 +214,17 @@ module _ (f : List ℕ) (p : Program) (R : pws.ProgramInRange (programOf f p)) (
 
 -- ---- all steps
 
-module _ (f : List ℕ) (p : Program) (R : pws.ProgramInRange (programOf f p)) (steps : ℕ) where
+module _ (g f : List ℕ) (p : Program) (R : pws.ProgramInRange (programOf g p)) (steps : ℕ) where
   abbrev rest : ℕ → ℕ → Run → List (List ℕ) → List ℕ → ℕ → RunAnswer
-  rest k at run rows a n = runFrom f (p .shape) (p .transitions) (p .targets) steps k at run rows a n
+  rest k at run rows a n = runFrom g f (p .shape) (p .transitions) (p .targets) steps k at run rows a n
 
   abbrev P₁ : pws.Program
-  P₁ = programOf f p
+  P₁ = programOf g p
 
   -- one step, the others being right
   one-step : (k at : ℕ) (run : Run) (rows : List (List ℕ)) (a : List ℕ) (c : Configuration) (n : ℕ) (s : Step) (x y : RunAnswer) (b : Answer) → stepAnswer P₁ c s ≡ b
-      → answerIn run rows a (p .shape) (moveOf f (p .transitions) s) ≡ stepAnswer P₁ c s → (T (may P₁ c s) → x ≡ y)
-      → answerThen (answerIn run rows a (p .shape) (moveOf f (p .transitions) s)) k (λ _. x) ≡ answerThen (stepAnswer P₁ c s) k (λ _. y)
+      → answerIn run rows a (p .shape) (moveOf g (p .transitions) s) ≡ stepAnswer P₁ c s → (T (may P₁ c s) → x ≡ y)
+      → answerThen (answerIn run rows a (p .shape) (moveOf g (p .transitions) s)) k (λ _. x) ≡ answerThen (stepAnswer P₁ c s) k (λ _. y)
   one-step k at run rows a c n s x y Permitted e q h =
       ap (λ (z : Answer). answerThen z k (λ _. x)) (q ∙ e) ∙ h (subst T (ap isPermitted (sym e) ∙ answer-may P₁ c s) tt)
       ∙ ap (λ (z : Answer). answerThen z k (λ _. y)) (sym e)
@@ -232,26 +232,26 @@ module _ (f : List ℕ) (p : Program) (R : pws.ProgramInRange (programOf f p)) (
       ap (λ (z : Answer). answerThen z k (λ _. x)) (q ∙ e) ∙ ap (λ (z : Answer). answerThen z k (λ _. y)) (sym e)
 
   all-steps : (n k at : ℕ) (run : Run) (rows : List (List ℕ)) (a : List ℕ) (c : Configuration) → Kept (shapeOf (p .shape)) k run rows a c → k + n ≤ 1024
-      → rest k at run rows a n ≡ answerFrom P₁ (targetsOf f p) steps k c (stepsOf f at n)
+      → rest k at run rows a n ≡ answerFrom P₁ (targetsOf g p) steps k c (stepsOf f at n)
   unfolding runFrom stepsOf
   all-steps zero k at run rows a c K l =
-      targets-last f p (R .shape .processes) (run .states) c (K .represents .states) steps (p .targets .count) (p .targets .at) 0 (inl (omega arith))
+      targets-last g p (R .shape .processes) (run .states) c (K .represents .states) steps (p .targets .count) (p .targets .at) 0 (inl (omega arith))
   all-steps (suc n) k at run rows a c K l =
       let s = stepAt f at in
-      let m = moveOf f (p .transitions) s in
-      one-step k at run rows a c n s _ _ (stepAnswer P₁ c s) refl (answer-is f p R k run rows a c K s) (λ t.
+      let m = moveOf g (p .transitions) s in
+      one-step k at run rows a c n s _ _ (stepAnswer P₁ c s) refl (answer-is g p R k run rows a c K s) (λ t.
       let e : suc k ≡ k + 1 = omega arith in
       all-steps n (k + 1) (nextStep f at) (runAfter run m) (rowsAfter rows (run .messages) m) (lowerAfter a run m) (after P₁ c s)
       (subst (λ (j : ℕ). Kept (shapeOf (p .shape)) j (runAfter run m) (rowsAfter rows (run .messages) m) (lowerAfter a run m) (after P₁ c s)) e
-      (step-kept f p R k run rows a c K (omega arith) s t)) (omega arith)
-      ∙ ap₂ (λ (j : ℕ) (ss : List Step). answerFrom P₁ (targetsOf f p) steps j (after P₁ c s) ss) (sym e) (sym (steps-next f n at)))
+      (step-kept g p R k run rows a c K (omega arith) s t)) (omega arith)
+      ∙ ap₂ (λ (j : ℕ) (ss : List Step). answerFrom P₁ (targetsOf g p) steps j (after P₁ c s) ss) (sym e) (sym (steps-next f n at)))
 
--- the code's answer is that of the machine's run, from a start with the memory over the steps of the file
-pub replay-right : (f : List ℕ) (p : Program) → pws.ProgramInRange (programOf f p) → length (p .initial) ≡ 4 → (memory : List ℕ) → length memory ≡ 4 → (at count : ℕ)
-    → count ≤ 1024 → (a : List ℕ) → length a ≡ 16384 → replayIn f p memory at count a ≡ runAnswer (programOf f p) (targetsOf f p) memory (stepsOf f at count)
-replay-right f p R four memory values at count few a room =
-    all-steps f p R count count 0 at (firstRun (p .initial)) firstRows (putSnapshot a 1 memory) (startWith (programOf f p) memory 0 0) (first-kept f p R four memory values a room) (omega arith)
-    ∙ ap (λ (n : ℕ). answerFrom (programOf f p) (targetsOf f p) n 0 (startWith (programOf f p) memory 0 0) (stepsOf f at count)) (sym (steps-length f count at))
+-- the code's answer is that of the machine's run, from a start with the memory over the steps of the evidence
+pub replay-right : (g f : List ℕ) (p : Program) → pws.ProgramInRange (programOf g p) → length (p .initial) ≡ 4 → (memory : List ℕ) → length memory ≡ 4 → (at count : ℕ)
+    → count ≤ 1024 → (a : List ℕ) → length a ≡ 16384 → replayIn g f p memory at count a ≡ runAnswer (programOf g p) (targetsOf g p) memory (stepsOf f at count)
+replay-right g f p R four memory values at count few a room =
+    all-steps g f p R count count 0 at (firstRun (p .initial)) firstRows (putSnapshot a 1 memory) (startWith (programOf g p) memory 0 0) (first-kept g p R four memory values a room) (omega arith)
+    ∙ ap (λ (n : ℕ). answerFrom (programOf g p) (targetsOf g p) n 0 (startWith (programOf g p) memory 0 0) (stepsOf f at count)) (sym (steps-length f count at))
 
 pub run-of : {r : RunAnswer} (P : pws.Program) (ts : List (ℕ → ℕ)) (memory : List ℕ) (ss : List Step) → r ≡ runAnswer P ts memory ss → RunOf r P ts memory ss
 run-of P ts memory ss e = record { answer = e; verdict = ap verdictOfRun e ∙ answer-verdict P ts memory ss }

@@ -57,14 +57,16 @@ firstRun states = record { states = states; messages = 1; heads = replicate 16 0
 abbrev pub firstRows : List (List ℕ)
 firstRows = replicate 4 (replicate 5 1)
 
--- the steps from number k on, which stands at `at`; n of `steps` are left
-unfoldable pub runFrom : List ℕ → Shape → Row → Row → ℕ → ℕ → ℕ → Run → List (List ℕ) → List ℕ → ℕ → RunAnswer
-runFrom f s transitions targets steps k at run rows a zero = lastIn f targets s (run .states) steps
-runFrom f s transitions targets steps k at run rows a (suc n) =
-    let m = moveOf f transitions (stepAt f at) in
-    answerThen (answerIn run rows a s m) k (λ _.
-    runFrom f s transitions targets steps (k + 1) (nextStep f at) (runAfter run m) (rowsAfter rows (run .messages) m) (lowerAfter a run m) n)
+-- Transitions and targets stand in the program's bytes g, steps in the evidence's bytes f; the two may be the same.
 
-abbrev pub replayIn : List ℕ → Program → List ℕ → ℕ → ℕ → List ℕ → RunAnswer
-replayIn f p memory at count a =
-    runFrom f (p .shape) (p .transitions) (p .targets) count 0 at (firstRun (p .initial)) firstRows (putSnapshot a 1 memory) count
+-- the steps from number k on, which stands at `at`; n of `steps` are left
+unfoldable pub runFrom : List ℕ → List ℕ → Shape → Row → Row → ℕ → ℕ → ℕ → Run → List (List ℕ) → List ℕ → ℕ → RunAnswer
+runFrom g f s transitions targets steps k at run rows a zero = lastIn g targets s (run .states) steps
+runFrom g f s transitions targets steps k at run rows a (suc n) =
+    let m = moveOf g transitions (stepAt f at) in
+    answerThen (answerIn run rows a s m) k (λ _.
+    runFrom g f s transitions targets steps (k + 1) (nextStep f at) (runAfter run m) (rowsAfter rows (run .messages) m) (lowerAfter a run m) n)
+
+abbrev pub replayIn : List ℕ → List ℕ → Program → List ℕ → ℕ → ℕ → List ℕ → RunAnswer
+replayIn g f p memory at count a =
+    runFrom g f (p .shape) (p .transitions) (p .targets) count 0 at (firstRun (p .initial)) firstRows (putSnapshot a 1 memory) count

@@ -133,8 +133,10 @@ fn first_rows() -> [[u16; 5]; 4]
     [row; 4]
 }
 
-// `count` steps from `at` on, from this memory; afterwards the lower part is 0.
+// `count` steps from `at` on, from this memory; afterwards the lower part is 0. `code` is the file that holds the program, `file` the one
+// that holds the steps; they may be the same.
 fn replay_steps(
+    code: &[u8],
     file: &[u8],
     program: Program,
     memory: [u8; 4],
@@ -142,9 +144,9 @@ fn replay_steps(
     count: usize,
     lower: &mut [u8],
 ) -> RunAnswer
-    ensures { λ r. ⌜ r ≡ replayIn (now (file .entry)) program memory at count (now (lower .entry)) ⌝ }
+    ensures { λ r. ⌜ r ≡ replayIn (now (code .entry)) (now (file .entry)) program memory at count (now (lower .entry)) ⌝ }
     ensures { λ r. ⌜ now (lower .exit) ≡ replicate (length (now (lower .entry))) 0 ⌝ }
-    ensures { λ r. ⌜ (ProgramInRange (programOf (now (file .entry)) program) → count ≤ 1024 → length (now (lower .entry)) ≡ 16384 → r ≡ runAnswer (programOf (now (file .entry)) program) (targetsOf (now (file .entry)) program) memory (stepsOf (now (file .entry)) at count)) ⌝ }
+    ensures { λ r. ⌜ (ProgramInRange (programOf (now (code .entry)) program) → count ≤ 1024 → length (now (lower .entry)) ≡ 16384 → r ≡ runAnswer (programOf (now (code .entry)) program) (targetsOf (now (code .entry)) program) memory (stepsOf (now (file .entry)) at count)) ⌝ }
 {
     let shape = program.shape;
     let transitions = program.transitions;
@@ -158,9 +160,9 @@ fn replay_steps(
     let verdict = loop {
         if count <= i {
             let last = run.states;
-            break last_answer(file, targets, shape, last, count);
+            break last_answer(code, targets, shape, last, count);
         }
-        let step = move_of(file, transitions, step_at(file, k));
+        let step = move_of(code, transitions, step_at(file, k));
         let answer = step_answer(run, rows, &lower[..], shape, step);
         let Answer::Permitted = answer else {
             break stopped_by(i, answer);
@@ -176,14 +178,14 @@ fn replay_steps(
     verdict
 }
 
-// The run of a file whose claim is 1.
-pub fn replay(file: &[u8], contents: Contents, lower: &mut [u8]) -> RunAnswer
-    ensures { λ r. ⌜ r ≡ replayIn (now (file .entry)) (contents .program) (contents .memory) (contents .evidence .at) (contents .evidence .count) (now (lower .entry)) ⌝ }
+// The run of a file whose claim is 1, with the program of `code`.
+pub fn replay(code: &[u8], file: &[u8], contents: Contents, lower: &mut [u8]) -> RunAnswer
+    ensures { λ r. ⌜ r ≡ replayIn (now (code .entry)) (now (file .entry)) (contents .program) (contents .memory) (contents .evidence .at) (contents .evidence .count) (now (lower .entry)) ⌝ }
     ensures { λ r. ⌜ now (lower .exit) ≡ replicate (length (now (lower .entry))) 0 ⌝ }
-    ensures { λ r. ⌜ (ProgramInRange (programOf (now (file .entry)) (contents .program)) → contents .evidence .count ≤ 1024 → length (now (lower .entry)) ≡ 16384 → RunOf r (programOf (now (file .entry)) (contents .program)) (targetsOf (now (file .entry)) (contents .program)) (contents .memory) (stepsOf (now (file .entry)) (contents .evidence .at) (contents .evidence .count))) ⌝ }
+    ensures { λ r. ⌜ (ProgramInRange (programOf (now (code .entry)) (contents .program)) → contents .evidence .count ≤ 1024 → length (now (lower .entry)) ≡ 16384 → RunOf r (programOf (now (code .entry)) (contents .program)) (targetsOf (now (code .entry)) (contents .program)) (contents .memory) (stepsOf (now (file .entry)) (contents .evidence .at) (contents .evidence .count))) ⌝ }
 {
     let program = contents.program;
     let memory = contents.memory;
     let steps = contents.evidence;
-    replay_steps(file, program, memory, steps.at, steps.count, lower)
+    replay_steps(code, file, program, memory, steps.at, steps.count, lower)
 }

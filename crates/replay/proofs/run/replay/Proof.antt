@@ -5,9 +5,9 @@ use Rattle.replay.proofs.run.replay.Tie as tie
 
 pub replay-spec : {M : Type 1} → statement M
 replay-spec = tie.close (tie.spec
-    -- replay-steps-requires 187:5
+    -- replay-steps-requires
     (λ c κs. search needs)
-    -- same-length 180:1
+    -- same-length
     (λ c. search needs)
-    -- returns 180:1
+    -- returns
     (λ c. let e = c .before .before .replay-steps .ensures in (e .0, (e .1 .0, (λ R few room. run-of _ _ _ _ (e .1 .1 R few room))))))

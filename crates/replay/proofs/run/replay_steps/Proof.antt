@@ -13,12 +13,12 @@ use Rattle.replay.proofs.run.replay_steps.Statement.{statement}
 use Rattle.replay.proofs.run.replay_steps.Tie as tie
 
 abbrev Inv-loop : tie.InvT-loop
-Inv-loop file at count lower₀ shape transitions targets run₀ rows₀ k₀ i₀ lower run rows k i = Replaying file shape transitions targets count at run₀ rows₀ lower₀ i k run rows lower
+Inv-loop code file at count lower₀ shape transitions targets run₀ rows₀ k₀ i₀ lower run rows k i = Replaying code file shape transitions targets count at run₀ rows₀ lower₀ i k run rows lower
 
 abbrev μ-loop : tie.MeasureT-loop
-μ-loop file at count lower₀ shape transitions targets run₀ rows₀ k₀ i₀ lower run rows k i = count - i
+μ-loop code file at count lower₀ shape transitions targets run₀ rows₀ k₀ i₀ lower run rows k i = count - i
 
-kept : (c : tie.After-slice-known4 Inv-loop μ-loop) → length (c .before .before .clear .last .0) ≡ length (c .before .before .before .before .before .before .before .before .before .before .before .before .before .before .before .before .before .before .args .lower .now)
+kept : (c : tie.After-slice-known4 Inv-loop μ-loop) → length (c .before .before .clear .last .0) ≡ length (c .before .before .before .before .before .before .before .before .before .before .before .before .before .before .before .before .before .before .before .args .lower .now)
 kept c =
     ap length (c .before .before .clear .ensures) ∙ length-replicate _ _ ∙ c .before .before .before .before .before .loop .inv .same ∙ ap length (c .before .before .before .before .before .before .before .before .before .before .put-snapshot .ensures) ∙ snapshot-length _ _ _
 
@@ -29,74 +29,75 @@ values : (c : tie.Start Inv-loop μ-loop) → length (c .args .memory) ≡ 4
 values c = search needs
 
 said : (c : tie.After-slice-known4 Inv-loop μ-loop)
-    → c .before .before .before .before .if1 .verdict ≡ replayIn (c .before .before .before .before .before .before .before .before .before .before .before .before .before .before .before .before .before .before .args .file .now) (c .before .before .before .before .before .before .before .before .before .before .before .before .before .before .before .before .before .before .args .program) (c .before .before .before .before .before .before .before .before .before .before .before .before .before .before .before .before .before .before .args .memory) (c .before .before .before .before .before .before .before .before .before .before .before .before .before .before .before .before .before .before .args .at) (c .before .before .before .before .before .before .before .before .before .before .before .before .before .before .before .before .before .before .args .count) (c .before .before .before .before .before .before .before .before .before .before .before .before .before .before .before .before .before .before .args .lower .now)
+    → c .before .before .before .before .if1 .verdict ≡ replayIn (c .before .before .before .before .before .before .before .before .before .before .before .before .before .before .before .before .before .before .before .args .code .now) (c .before .before .before .before .before .before .before .before .before .before .before .before .before .before .before .before .before .before .before .args .file .now) (c .before .before .before .before .before .before .before .before .before .before .before .before .before .before .before .before .before .before .before .args .program) (c .before .before .before .before .before .before .before .before .before .before .before .before .before .before .before .before .before .before .before .args .memory) (c .before .before .before .before .before .before .before .before .before .before .before .before .before .before .before .before .before .before .before .args .at) (c .before .before .before .before .before .before .before .before .before .before .before .before .before .before .before .before .before .before .before .args .count) (c .before .before .before .before .before .before .before .before .before .before .before .before .before .before .before .before .before .before .before .args .lower .now)
 said c =
-    let f = c .before .before .before .before .before .before .before .before .before .before .before .before .before .before .before .before .before .before .args .file .now in
-    let s = c .before .before .before .before .before .before .before .before .before .before .before .before .before .before .before .before .before .before .args .program .shape in
-    let transitions = c .before .before .before .before .before .before .before .before .before .before .before .before .before .before .before .before .before .before .args .program .transitions in
-    let targets = c .before .before .before .before .before .before .before .before .before .before .before .before .before .before .before .before .before .before .args .program .targets in
-    let n = c .before .before .before .before .before .before .before .before .before .before .before .before .before .before .before .before .before .before .args .count in
+    let g = c .before .before .before .before .before .before .before .before .before .before .before .before .before .before .before .before .before .before .before .args .code .now in
+    let f = c .before .before .before .before .before .before .before .before .before .before .before .before .before .before .before .before .before .before .before .args .file .now in
+    let s = c .before .before .before .before .before .before .before .before .before .before .before .before .before .before .before .before .before .before .before .args .program .shape in
+    let transitions = c .before .before .before .before .before .before .before .before .before .before .before .before .before .before .before .before .before .before .before .args .program .transitions in
+    let targets = c .before .before .before .before .before .before .before .before .before .before .before .before .before .before .before .before .before .before .before .args .program .targets in
+    let n = c .before .before .before .before .before .before .before .before .before .before .before .before .before .before .before .before .before .before .before .args .count in
     let I = c .before .before .before .before .before .loop .inv in
     ⊎-elim
     (λ w. w .3 ∙ w .2 .ensures ∙ replaying-done I (w .0 .taken))
-    (λ w. w .8 ∙ w .7 .ensures ∙ replaying-stopped I (w .4 .result) (w .6 .given .0 .0) (w .0 .left) (w .4 .ensures ∙ ap (answerIn (c .before .before .before .before .before .loop .run) (c .before .before .before .before .before .loop .rows) (c .before .before .before .before .before .loop .lower) s) (w .2 .ensures ∙ ap (moveOf f transitions) (w .1 .ensures))) (w .6 .given .1))
+    (λ w. w .8 ∙ w .7 .ensures ∙ replaying-stopped I (w .4 .result) (w .6 .given .0 .0) (w .0 .left) (w .4 .ensures ∙ ap (answerIn (c .before .before .before .before .before .loop .run) (c .before .before .before .before .before .loop .rows) (c .before .before .before .before .before .loop .lower) s) (w .2 .ensures ∙ ap (moveOf g transitions) (w .1 .ensures))) (w .6 .given .1))
     (c .before .before .before .before .if1 .came)
-    ∙ (λ i. runFrom f s transitions targets n 0 (c .before .before .before .before .before .before .before .before .before .before .before .before .before .before .before .before .before .before .args .at) (c .before .before .before .before .before .before .before .first-run .ensures i) (c .before .before .before .before .before .before .first-rows .ensures i) (c .before .before .before .before .before .before .before .before .before .before .put-snapshot .ensures i) n)
+    ∙ (λ i. runFrom g f s transitions targets n 0 (c .before .before .before .before .before .before .before .before .before .before .before .before .before .before .before .before .before .before .before .args .at) (c .before .before .before .before .before .before .before .first-run .ensures i) (c .before .before .before .before .before .before .first-rows .ensures i) (c .before .before .before .before .before .before .before .before .before .before .put-snapshot .ensures i) n)
 
 pub replay-steps-spec : {M : Type 1} → statement M
 replay-steps-spec = tie.close (tie.spec
     Inv-loop
     μ-loop
-    -- put-snapshot-requires 147:5
+    -- put-snapshot-requires
     (λ c κs. search needs)
-    -- first-run-requires 148:9
+    -- first-run-requires
     (λ c κs. search needs)
-    -- first-rows-requires 149:9
+    -- first-rows-requires
     (λ c κs. search needs)
-    -- loop-holds 152:9
-    (λ c. replaying-begin _ _ _ _ _ _ _ _ _)
-    -- last-answer-requires 155:19
+    -- loop-holds
+    (λ c. replaying-begin _ _ _ _ _ _ _ _ _ _)
+    -- last-answer-requires
     (λ c κs. search needs)
-    -- step-at-requires 157:47
+    -- step-at-requires
     (λ c κs. search needs)
-    -- move-of-requires 157:13
+    -- move-of-requires
     (λ c κs. search needs)
-    -- step-answer-requires 158:13
+    -- step-answer-requires
     (λ c κs. search needs)
     -- enum-told
     (λ c. search needs)
-    -- enum-told-2 160:19
+    -- enum-told-2
     (λ c. search needs)
-    -- stopped-by-requires 160:19
+    -- stopped-by-requires
     (λ c κs. search needs)
-    -- store-requires 162:9
+    -- store-requires
     (λ c κs. search needs)
-    -- rows-after-requires 163:13
+    -- rows-after-requires
     (λ c κs. search needs)
-    -- after-requires 165:9
+    -- after-requires
     (λ c κs. search needs)
-    -- next-step-requires 166:9
+    -- next-step-requires
     (λ c κs. search needs)
-    -- add-i 167:9
-    (λ c. omega (arith, c .before .before .before .before .before .before .before .before .before .before .before .before .before .if1 .left, c .before .before .before .before .before .before .before .before .before .before .before .before .before .before .before .before .before .before .before .before .before .before .before .before .before .before .before .fits .count))
-    -- loop-less 152:9
+    -- add-i
+    (λ c. omega (arith, c .before .before .before .before .before .before .before .before .before .before .before .before .before .if1 .left, c .before .before .before .before .before .before .before .before .before .before .before .before .before .before .before .before .before .before .before .before .before .before .before .before .before .before .before .before .fits .count))
+    -- loop-less
     (λ c. omega (arith, c .before .before .before .before .before .before .before .before .before .before .before .before .before .if1 .left))
-    -- loop-again 152:9
-    (λ c. let f = c .before .before .before .before .before .before .before .before .before .before .before .before .before .before .before .before .before .before .before .before .before .before .before .before .before .before .before .args .file .now in
+    -- loop-again
+    (λ c. let g = c .before .before .before .before .before .before .before .before .before .before .before .before .before .before .before .before .before .before .before .before .before .before .before .before .before .before .before .before .args .code .now in
     replaying-next (c .before .before .before .before .before .before .before .before .before .before .before .before .before .before .loop .inv) (c .before .before .before .before .before .before .before .before .before .before .before .move-of .result) (c .before .before .before .before .before .before .before .before .before .before .before .before .before .if1 .left)
-    (c .before .before .before .before .before .before .before .before .before .before .before .move-of .ensures ∙ ap (moveOf f (c .before .before .before .before .before .before .before .before .before .before .before .before .before .before .before .before .before .before .before .before .before .before .before .before .before .before .before .args .program .transitions)) (c .before .before .before .before .before .before .before .before .before .before .before .before .step-at .ensures))
+    (c .before .before .before .before .before .before .before .before .before .before .before .move-of .ensures ∙ ap (moveOf g (c .before .before .before .before .before .before .before .before .before .before .before .before .before .before .before .before .before .before .before .before .before .before .before .before .before .before .before .before .args .program .transitions)) (c .before .before .before .before .before .before .before .before .before .before .before .before .step-at .ensures))
     (sym (c .before .before .before .before .before .before .before .before .before .step-answer .ensures) ∙ c .before .before .before .before .before .before .before .enum-told .given .1)
     (c .next-step .ensures) (c .before .after .ensures) (c .before .before .rows-after .ensures) (c .before .before .before .before .before .store .ensures))
-    -- clear-requires 169:5
+    -- clear-requires
     (λ c κs. search needs)
-    -- same-length 132:1
+    -- same-length
     (λ c. kept c)
     -- returns
     (λ c.
-    let a = c .before .before .before .before .before .before .before .before .before .before .before .before .before .before .before .before .before .before .args in (
+    let a = c .before .before .before .before .before .before .before .before .before .before .before .before .before .before .before .before .before .before .before .args in (
       said c,
       (
         c .before .before .clear .ensures ∙ ap (λ (k : ℕ). replicate k 0) (c .before .before .before .before .before .loop .inv .same ∙ ap length (c .before .before .before .before .before .before .before .before .before .before .put-snapshot .ensures) ∙ snapshot-length _ _ _),
-        (λ R few room. said c ∙ replay-right (a .file .now) (a .program) R (four (c .before .before .before .before .before .before .before .before .before .before .before .before .before .before .before .before .before .before)) (a .memory) (values (c .before .before .before .before .before .before .before .before .before .before .before .before .before .before .before .before .before .before)) (a .at) (a .count) few (a .lower .now) room),
+        (λ R few room. said c ∙ replay-right (a .code .now) (a .file .now) (a .program) R (four (c .before .before .before .before .before .before .before .before .before .before .before .before .before .before .before .before .before .before .before)) (a .memory) (values (c .before .before .before .before .before .before .before .before .before .before .before .before .before .before .before .before .before .before .before)) (a .at) (a .count) few (a .lower .now) room),
       ),
     )))
