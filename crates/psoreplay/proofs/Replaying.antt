@@ -45,8 +45,8 @@ same-lowest S k (t ∷ ts) d = ap (cond (psoInTarget S t d) (some k)) (same-lowe
 
 -- ---- the start
 
-module _ (f : List ℕ) (p : Program) (four : length (p .initial) ≡ 4) (memory a : List ℕ) (room : length a ≡ 16384) where
-  first-kept : Kept (shapeOf (p .shape)) 0 (firstRun (p .initial) memory) a (psoStartWith (programOf f p) memory)
+module _ (g : List ℕ) (p : Program) (four : length (p .initial) ≡ 4) (memory a : List ℕ) (room : length a ≡ 16384) where
+  first-kept : Kept (shapeOf (p .shape)) 0 (firstRun (p .initial) memory) a (psoStartWith (programOf g p) memory)
   first-kept =
       record {
         states = λ q e. refl;
@@ -63,9 +63,9 @@ module _ (f : List ℕ) (p : Program) (four : length (p .initial) ≡ 4) (memory
 
 -- ---- all steps
 
-module _ (f : List ℕ) (p : Program) (R : pws.ProgramInRange (programOf f p)) (n : ℕ) where
+module _ (g f : List ℕ) (p : Program) (R : pws.ProgramInRange (programOf g p)) (n : ℕ) where
   abbrev P₁ : pws.Program
-  P₁ = programOf f p
+  P₁ = programOf g p
 
   -- one step, the others being right
   one-step : (k : ℕ) (d : PsoConfiguration) (s : Step) (x y : RunAnswer) (z b : Answer) → psoStepAnswer P₁ d (psoStep s) ≡ b → z ≡ psoStepAnswer P₁ d (psoStep s)
@@ -77,29 +77,29 @@ module _ (f : List ℕ) (p : Program) (R : pws.ProgramInRange (programOf f p)) (
       ap (λ (w : Answer). answerThen w k (λ _. x)) (q ∙ e) ∙ ap (λ (w : Answer). answerThen w k (λ _. y)) (sym e)
 
   all-steps : (m k at : ℕ) (run : PsoRun) (a : List ℕ) (d : PsoConfiguration) → Kept (shapeOf (p .shape)) k run a d → k + m ≤ 1024
-      → runFrom f (p .shape) (p .transitions) (p .targets) n k at run a m ≡ psoAnswerFrom P₁ (targetsOf f p) n k d (psoSteps (stepsOf f at m))
+      → runFrom g f (p .shape) (p .transitions) (p .targets) n k at run a m ≡ psoAnswerFrom P₁ (targetsOf g p) n k d (psoSteps (stepsOf f at m))
   unfolding runFrom stepsOf
   all-steps zero k at run a d K l =
-      targets-last f p (R .shape .processes) (run .states) (statesOnly d) (K .states) n (p .targets .count) (p .targets .at) 0 (inl (omega arith))
-      ∙ ap (lastAnswer n) (same-lowest (shapeOf (p .shape)) 0 (targetsOf f p) d)
+      targets-last g p (R .shape .processes) (run .states) (statesOnly d) (K .states) n (p .targets .count) (p .targets .at) 0 (inl (omega arith))
+      ∙ ap (lastAnswer n) (same-lowest (shapeOf (p .shape)) 0 (targetsOf g p) d)
   all-steps (suc m) k at run a d K l =
       let s = stepAt f at in
-      let w = psoMoveOf f (p .transitions) s in
-      one-step k d s _ _ _ (psoStepAnswer P₁ d (psoStep s)) refl (answer-is f p R k run a d K s) (λ t.
+      let w = psoMoveOf g (p .transitions) s in
+      one-step k d s _ _ _ (psoStepAnswer P₁ d (psoStep s)) refl (answer-is g p R k run a d K s) (λ t.
       let e : suc k ≡ k + 1 = omega arith in
       all-steps m (k + 1) (nextStep f at) (runAfter run a (p .shape) w) (lowerAfterMove a (run .tails) (p .shape) w) (psoAfter P₁ d (psoStep s))
       (subst (λ (j : ℕ). Kept (shapeOf (p .shape)) j (runAfter run a (p .shape) w) (lowerAfterMove a (run .tails) (p .shape) w) (psoAfter P₁ d (psoStep s))) e
-      (step-kept f p R k run a d K (omega arith) s t)) (omega arith)
-      ∙ ap₂ (λ (j : ℕ) (ss : List Step). psoAnswerFrom P₁ (targetsOf f p) n j (psoAfter P₁ d (psoStep s)) (psoSteps ss)) (sym e) (sym (steps-next f m at)))
+      (step-kept g p R k run a d K (omega arith) s t)) (omega arith)
+      ∙ ap₂ (λ (j : ℕ) (ss : List Step). psoAnswerFrom P₁ (targetsOf g p) n j (psoAfter P₁ d (psoStep s)) (psoSteps ss)) (sym e) (sym (steps-next f m at)))
 
 steps-count : (ss : List Step) → length (psoSteps ss) ≡ length ss
 steps-count [] = refl
 steps-count (s ∷ ss) = ap suc (steps-count ss)
 
--- the code's answer is that of the machine's run, from a start with this memory over the steps of the file
-pub replay-right : (f : List ℕ) (p : Program) → pws.ProgramInRange (programOf f p) → length (p .initial) ≡ 4 → (memory : List ℕ) (at count : ℕ) → count ≤ 1024
-    → (a : List ℕ) → length a ≡ 16384 → replayIn f p memory at count a ≡ psoRunAnswer (programOf f p) memory (targetsOf f p) (psoSteps (stepsOf f at count))
-replay-right f p R four memory at count few a room =
-    all-steps f p R count count 0 at (firstRun (p .initial) memory) a (psoStartWith (programOf f p) memory) (first-kept f p four memory a room) (omega arith)
-    ∙ ap (λ (n : ℕ). psoAnswerFrom (programOf f p) (targetsOf f p) n 0 (psoStartWith (programOf f p) memory) (psoSteps (stepsOf f at count)))
+-- the code's answer is that of the machine's run, from a start with this memory over the steps of the evidence
+pub replay-right : (g f : List ℕ) (p : Program) → pws.ProgramInRange (programOf g p) → length (p .initial) ≡ 4 → (memory : List ℕ) (at count : ℕ) → count ≤ 1024
+    → (a : List ℕ) → length a ≡ 16384 → replayIn g f p memory at count a ≡ psoRunAnswer (programOf g p) memory (targetsOf g p) (psoSteps (stepsOf f at count))
+replay-right g f p R four memory at count few a room =
+    all-steps g f p R count count 0 at (firstRun (p .initial) memory) a (psoStartWith (programOf g p) memory) (first-kept g p four memory a room) (omega arith)
+    ∙ ap (λ (n : ℕ). psoAnswerFrom (programOf g p) (targetsOf g p) n 0 (psoStartWith (programOf g p) memory) (psoSteps (stepsOf f at count)))
     (sym (steps-count (stepsOf f at count) ∙ steps-length f count at))

@@ -16,14 +16,16 @@ use Rattle.psoreplay.specs.Layout.{psoMoveOf, answerIn, runAfter, lowerA
 abbrev pub firstRun : List ℕ → List ℕ → PsoRun
 firstRun states memory = record { states = states; memory = memory; heads = replicate 16 0; tails = replicate 16 0; lasts = replicate 16 0 }
 
--- the steps from number k on, which stands at `at`; n of `steps` are left
-unfoldable pub runFrom : List ℕ → Shape → Row → Row → ℕ → ℕ → ℕ → PsoRun → List ℕ → ℕ → RunAnswer
-runFrom f s transitions targets steps k at run a zero = lastIn f targets s (run .states) steps
-runFrom f s transitions targets steps k at run a (suc n) =
-    let m = psoMoveOf f transitions (stepAt f at) in
-    answerThen (answerIn run a s m) k (λ _.
-    runFrom f s transitions targets steps (k + 1) (nextStep f at) (runAfter run a s m) (lowerAfterMove a (run .tails) s m) n)
+-- Transitions and targets stand in the program's bytes g, steps in the evidence's bytes f; the two may be the same.
 
-abbrev pub replayIn : List ℕ → Program → List ℕ → ℕ → ℕ → List ℕ → RunAnswer
-replayIn f p memory at count a =
-    runFrom f (p .shape) (p .transitions) (p .targets) count 0 at (firstRun (p .initial) memory) a count
+-- the steps from number k on, which stands at `at`; n of `steps` are left
+unfoldable pub runFrom : List ℕ → List ℕ → Shape → Row → Row → ℕ → ℕ → ℕ → PsoRun → List ℕ → ℕ → RunAnswer
+runFrom g f s transitions targets steps k at run a zero = lastIn g targets s (run .states) steps
+runFrom g f s transitions targets steps k at run a (suc n) =
+    let m = psoMoveOf g transitions (stepAt f at) in
+    answerThen (answerIn run a s m) k (λ _.
+    runFrom g f s transitions targets steps (k + 1) (nextStep f at) (runAfter run a s m) (lowerAfterMove a (run .tails) s m) n)
+
+abbrev pub replayIn : List ℕ → List ℕ → Program → List ℕ → ℕ → ℕ → List ℕ → RunAnswer
+replayIn g f p memory at count a =
+    runFrom g f (p .shape) (p .transitions) (p .targets) count 0 at (firstRun (p .initial) memory) a count

@@ -35,8 +35,10 @@ fn first_run(states: [u8; 4], memory: [u8; 4]) -> PsoRun
     }
 }
 
-// `count` steps from `at` on, from a start with this memory; afterwards the lower part is 0.
+// `count` steps from `at` on, from a start with this memory; afterwards the lower part is 0. `code` is the file that holds the program,
+// `file` the one that holds the steps; they may be the same.
 pub fn replay_steps(
+    code: &[u8],
     file: &[u8],
     program: Program,
     memory: [u8; 4],
@@ -44,9 +46,9 @@ pub fn replay_steps(
     count: usize,
     lower: &mut [u8],
 ) -> RunAnswer
-    ensures { λ r. ⌜ r ≡ replayIn (now (file .entry)) program memory at count (now (lower .entry)) ⌝ }
+    ensures { λ r. ⌜ r ≡ replayIn (now (code .entry)) (now (file .entry)) program memory at count (now (lower .entry)) ⌝ }
     ensures { λ r. ⌜ now (lower .exit) ≡ replicate (length (now (lower .entry))) 0 ⌝ }
-    ensures { λ r. ⌜ (ProgramInRange (programOf (now (file .entry)) program) → count ≤ 1024 → length (now (lower .entry)) ≡ 16384 → r ≡ psoRunAnswer (programOf (now (file .entry)) program) memory (targetsOf (now (file .entry)) program) (psoSteps (stepsOf (now (file .entry)) at count))) ⌝ }
+    ensures { λ r. ⌜ (ProgramInRange (programOf (now (code .entry)) program) → count ≤ 1024 → length (now (lower .entry)) ≡ 16384 → r ≡ psoRunAnswer (programOf (now (code .entry)) program) memory (targetsOf (now (code .entry)) program) (psoSteps (stepsOf (now (file .entry)) at count))) ⌝ }
 {
     let shape = program.shape;
     let transitions = program.transitions;
@@ -58,9 +60,9 @@ pub fn replay_steps(
     let verdict = loop {
         if count <= i {
             let last = run.states;
-            break last_answer(file, targets, shape, last, count);
+            break last_answer(code, targets, shape, last, count);
         }
-        let step = pso_move(file, transitions, step_at(file, k));
+        let step = pso_move(code, transitions, step_at(file, k));
         let answer = step_answer(run, &lower[..], shape, step);
         let Answer::Permitted = answer else {
             break stopped_by(i, answer);

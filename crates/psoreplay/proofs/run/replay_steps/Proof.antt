@@ -12,30 +12,31 @@ use Rattle.psoreplay.proofs.run.replay_steps.Statement.{statement}
 use Rattle.psoreplay.proofs.run.replay_steps.Tie as tie
 
 abbrev Inv-loop : tie.InvT-loop
-Inv-loop file at count lower₀ shape transitions targets run₀ k₀ i₀ lower run k i = Replaying file shape transitions targets count at run₀ lower₀ i k run lower
+Inv-loop code file at count lower₀ shape transitions targets run₀ k₀ i₀ lower run k i = Replaying code file shape transitions targets count at run₀ lower₀ i k run lower
 
 abbrev μ-loop : tie.MeasureT-loop
-μ-loop file at count lower₀ shape transitions targets run₀ k₀ i₀ lower run k i = count - i
+μ-loop code file at count lower₀ shape transitions targets run₀ k₀ i₀ lower run k i = count - i
 
-kept : (c : tie.After-slice-known3 Inv-loop μ-loop) → length (c .before .before .clear .last .0) ≡ length (c .before .before .before .before .before .before .before .before .before .before .before .before .before .args .lower .now)
+kept : (c : tie.After-slice-known3 Inv-loop μ-loop) → length (c .before .before .clear .last .0) ≡ length (c .before .before .before .before .before .before .before .before .before .before .before .before .before .before .args .lower .now)
 kept c = ap length (c .before .before .clear .ensures) ∙ length-replicate _ _ ∙ c .before .before .before .before .before .loop .inv .same
 
 four : (c : tie.Start Inv-loop μ-loop) → length (c .args .program .initial) ≡ 4
 four c = search needs
 
 said : (c : tie.After-slice-known3 Inv-loop μ-loop)
-    → c .before .before .before .before .if1 .verdict ≡ replayIn (c .before .before .before .before .before .before .before .before .before .before .before .before .before .args .file .now) (c .before .before .before .before .before .before .before .before .before .before .before .before .before .args .program) (c .before .before .before .before .before .before .before .before .before .before .before .before .before .args .memory) (c .before .before .before .before .before .before .before .before .before .before .before .before .before .args .at) (c .before .before .before .before .before .before .before .before .before .before .before .before .before .args .count) (c .before .before .before .before .before .before .before .before .before .before .before .before .before .args .lower .now)
+    → c .before .before .before .before .if1 .verdict ≡ replayIn (c .before .before .before .before .before .before .before .before .before .before .before .before .before .before .args .code .now) (c .before .before .before .before .before .before .before .before .before .before .before .before .before .before .args .file .now) (c .before .before .before .before .before .before .before .before .before .before .before .before .before .before .args .program) (c .before .before .before .before .before .before .before .before .before .before .before .before .before .before .args .memory) (c .before .before .before .before .before .before .before .before .before .before .before .before .before .before .args .at) (c .before .before .before .before .before .before .before .before .before .before .before .before .before .before .args .count) (c .before .before .before .before .before .before .before .before .before .before .before .before .before .before .args .lower .now)
 said c =
-    let a = c .before .before .before .before .before .before .before .before .before .before .before .before .before .args in
+    let a = c .before .before .before .before .before .before .before .before .before .before .before .before .before .before .args in
+    let g = a .code .now in
     let f = a .file .now in
     let s = a .program .shape in
     let transitions = a .program .transitions in
     let I = c .before .before .before .before .before .loop .inv in
     ⊎-elim
     (λ w. w .3 ∙ w .2 .ensures ∙ replaying-done I (w .0 .taken))
-    (λ w. w .8 ∙ w .7 .ensures ∙ replaying-stopped I (w .4 .result) (w .6 .given .0 .0) (w .0 .left) (w .4 .ensures ∙ ap (answerIn (c .before .before .before .before .before .loop .run) (c .before .before .before .before .before .loop .lower) s) (w .2 .ensures ∙ ap (psoMoveOf f transitions) (w .1 .ensures))) (w .6 .given .1))
+    (λ w. w .8 ∙ w .7 .ensures ∙ replaying-stopped I (w .4 .result) (w .6 .given .0 .0) (w .0 .left) (w .4 .ensures ∙ ap (answerIn (c .before .before .before .before .before .loop .run) (c .before .before .before .before .before .loop .lower) s) (w .2 .ensures ∙ ap (psoMoveOf g transitions) (w .1 .ensures))) (w .6 .given .1))
     (c .before .before .before .before .if1 .came)
-    ∙ (λ i. runFrom f s transitions (a .program .targets) (a .count) 0 (a .at) (c .before .before .before .before .before .before .first-run .ensures i) (a .lower .now) (a .count))
+    ∙ (λ i. runFrom g f s transitions (a .program .targets) (a .count) 0 (a .at) (c .before .before .before .before .before .before .first-run .ensures i) (a .lower .now) (a .count))
 
 pub replay-steps-spec : {M : Type 1} → statement M
 replay-steps-spec = tie.close (tie.spec
@@ -44,7 +45,7 @@ replay-steps-spec = tie.close (tie.spec
     -- first-run-requires
     (λ c κs. search needs)
     -- loop-holds
-    (λ c. replaying-begin _ _ _ _ _ _ _ _)
+    (λ c. replaying-begin _ _ _ _ _ _ _ _ _)
     -- last-answer-requires
     (λ c κs. search needs)
     -- step-at-requires
@@ -66,23 +67,23 @@ replay-steps-spec = tie.close (tie.spec
     -- next-step-requires
     (λ c κs. search needs)
     -- add-i
-    (λ c. omega (arith, c .before .before .before .before .before .before .before .before .before .before .before .before .before .before .if1 .left, c .before .before .before .before .before .before .before .before .before .before .before .before .before .before .before .before .before .before .before .before .before .before .before .fits .count))
+    (λ c. omega (arith, c .before .before .before .before .before .before .before .before .before .before .before .before .before .before .if1 .left, c .before .before .before .before .before .before .before .before .before .before .before .before .before .before .before .before .before .before .before .before .before .before .before .before .fits .count))
     -- loop-less
     (λ c. omega (arith, c .before .before .before .before .before .before .before .before .before .before .before .before .before .before .if1 .left))
     -- loop-again
-    (λ c. let f = c .before .before .before .before .before .before .before .before .before .before .before .before .before .before .before .before .before .before .before .before .before .before .before .args .file .now in
+    (λ c. let g = c .before .before .before .before .before .before .before .before .before .before .before .before .before .before .before .before .before .before .before .before .before .before .before .before .args .code .now in
     replaying-next (c .before .before .before .before .before .before .before .before .before .before .before .before .before .before .before .loop .inv) (c .before .before .before .before .before .before .before .before .before .before .before .before .pso-move .result) (c .before .before .before .before .before .before .before .before .before .before .before .before .before .before .if1 .left)
-    (c .before .before .before .before .before .before .before .before .before .before .before .before .pso-move .ensures ∙ ap (psoMoveOf f (c .before .before .before .before .before .before .before .before .before .before .before .before .before .before .before .before .before .before .before .before .before .before .before .args .program .transitions)) (c .before .before .before .before .before .before .before .before .before .before .before .before .before .step-at .ensures))
+    (c .before .before .before .before .before .before .before .before .before .before .before .before .pso-move .ensures ∙ ap (psoMoveOf g (c .before .before .before .before .before .before .before .before .before .before .before .before .before .before .before .before .before .before .before .before .before .before .before .before .args .program .transitions)) (c .before .before .before .before .before .before .before .before .before .before .before .before .before .step-at .ensures))
     (sym (c .before .before .before .before .before .before .before .before .before .before .step-answer .ensures) ∙ c .before .before .before .before .before .before .before .before .enum-told .given .1) (c .next-step .ensures) (c .before .before .before .before .before .run-after .ensures) (c .before .before .before .store .ensures))
     -- clear-requires
     (λ c κs. search needs)
     -- same-length
     (λ c. kept c)
     -- returns
-    (λ c. let a = c .before .before .before .before .before .before .before .before .before .before .before .before .before .args in (
+    (λ c. let a = c .before .before .before .before .before .before .before .before .before .before .before .before .before .before .args in (
       said c,
       (
         c .before .before .clear .ensures ∙ ap (λ (k : ℕ). replicate k 0) (c .before .before .before .before .before .loop .inv .same),
-        (λ R few room. said c ∙ replay-right (a .file .now) (a .program) R (four (c .before .before .before .before .before .before .before .before .before .before .before .before .before)) (a .memory) (a .at) (a .count) few (a .lower .now) room),
+        (λ R few room. said c ∙ replay-right (a .code .now) (a .file .now) (a .program) R (four (c .before .before .before .before .before .before .before .before .before .before .before .before .before .before)) (a .memory) (a .at) (a .count) few (a .lower .now) room),
       ),
     )))
