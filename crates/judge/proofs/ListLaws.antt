@@ -98,11 +98,11 @@ module _ (f list sum : List ℕ) (n : ℕ) (p : Program) where
       ap not (h (small R) ∙ ap (λ (c : Cube). looksStarted P (configurationOf c)) e ∙ ap (looksStarted P) (sym (entry-is k l)))
 
   opening-by : Ready f list sum n p → (k : ℕ) → k < n → (r : Opening)
-      → (Walkable f list sum n p (cubeAt f list k) → r ≡ openingOf P es (configurationOf (cubeAt f list k)))
+      → (Walkable f f list sum n p (cubeAt f list k) → r ≡ openingOf P es (configurationOf (cubeAt f list k)))
       → openingOf P es (entry es k) ≡ r
   opening-by R k l r h =
       ap (openingOf P es) (entry-is k l)
-      ∙ sym (h (walkable f list sum n p (cubeAt f list k) (R .count) (R .sizes .transitions) (R .part .program) (searches R .entries)
+      ∙ sym (h (walkable f f list sum n p (cubeAt f list k) (R .count) (R .sizes .transitions) (R .part .program) (searches R .entries)
       (subst (EntryOf P) (entry-is k l) (R .entries k l .of)) (R .cubes k l) (R .summed)))
 
   -- ---- the verdict
@@ -133,13 +133,13 @@ module _ (f list sum : List ℕ) (n : ℕ) (p : Program) where
 
   -- entry k is closed
   pub closed-here : Ready f list sum n p → (k : ℕ) → k < n → (r : Opening)
-      → (Walkable f list sum n p (cubeAt f list k) → r ≡ openingOf P es (configurationOf (cubeAt f list k)))
+      → (Walkable f f list sum n p (cubeAt f list k) → r ≡ openingOf P es (configurationOf (cubeAt f list k)))
       → r ≡ Shut → closedTest f list n p k ≡ true
   closed-here R k l r h e = opening-shut P es (entry es k) (opening-by R k l r h ∙ e)
 
   -- it is the first that is not, and s is its lowest step
   pub entered-here : Ready f list sum n p → (k : ℕ) → k < n → (r : Opening)
-      → (Walkable f list sum n p (cubeAt f list k) → r ≡ openingOf P es (configurationOf (cubeAt f list k)))
+      → (Walkable f f list sum n p (cubeAt f list k) → r ≡ openingOf P es (configurationOf (cubeAt f list k)))
       → (s : Step) → r ≡ Through s → SoFar (closedTest f list n p) n k → entered k s ≡ enteredSaid f list n p
   entered-here R k l r h s e w =
       let o = opening-through P es (entry es k) s (opening-by R k l r h ∙ e) in

@@ -93,12 +93,12 @@ fn replay_answer(file: &[u8], contents: Contents, lower: &mut [u8]) -> Answer
     ensures { λ r. ⌜ (ProgramInRange (programOf (now (file .entry)) (contents .program)) → contents .evidence .count ≤ 1024 → length (now (lower .entry)) ≡ 16384 → verdictIn r ≡ ofFile (runRead (contents .claim) (programOf (now (file .entry)) (contents .program)) (targetsOf (now (file .entry)) (contents .program)) (contents .memory) (stepsOf (now (file .entry)) (contents .evidence .at) (contents .evidence .count)))) ⌝ }
 {
     if contents.claim == 1 {
-        return run_answer(replay(file, contents, lower));
+        return run_answer(replay(file, file, contents, lower));
     }
     let program = contents.program;
     let memory = contents.memory;
     let steps = contents.evidence;
-    pso_answer(replay_steps(file, program, memory, steps.at, steps.count, lower))
+    pso_answer(replay_steps(file, file, program, memory, steps.at, steps.count, lower))
 }
 
 // The judgement in an area that is large enough. The part of it that the judgement does not use is untouched.

@@ -52,7 +52,7 @@ fn lowest_entered(file: &[u8], list: &[u8], sum: &[u8], n: usize, program: Progr
     ensures { λ r. ⌜ verdictIn r ≡ enteredSaid (now (file .entry)) (now (list .entry)) n program ⌝ }
 {
     for k in 0..n {
-        let opening = open_step(file, list, sum, n, program, k);
+        let opening = open_step(file, file, list, sum, n, program, k);
         if let Opening::Through { step } = opening {
             return Answer::Entered {
                 entry: k,
