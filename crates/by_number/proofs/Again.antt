@@ -1,6 +1,6 @@
 -- What the reading hands on, and what it leaves in the work area, give the contents of the file again.
 use Prim.Native.Nat.{ℕ, _+_, _*_, _-_, _<_, _≤_}
-use mathlib.Core.Path.{_≡_, refl, sym, ap, _∙_}
+use mathlib.Core.Path.{_≡_, refl, sym, ap, ap₂, _∙_}
 use mathlib.Core.Bool.{true}
 use mathlib.Core.List.{List, [], _∷_}
 use native.Mathlib.Omega.{arith}
@@ -13,12 +13,13 @@ use Rattle.program_part.specs.declared.program.Refusal.{Refusal}
 use Rattle.program_part.specs.declared.program.Checked.{Checked}
 use Rattle.program_part.specs.declared.program.Checked.the-variants.{Fine, Refused}
 use Rattle.program_part.specs.declared.program.Program.{Program}
+use Rattle.whole_file.specs.declared.evidence.Part.{Part}
 use Rattle.whole_file.specs.declared.evidence.Reading.{Reading}
 use Rattle.program_part.specs.Bytes.{byte}
 use Rattle.program_part.specs.Records.{isKind, transitionAt, stateAt, stepBody}
 use Rattle.program_part.specs.ProgramPart.{programFrom, programOf, targetsOf}
 use Rattle.whole_file.specs.EvidencePart.{stepsOf, entriesAllowed, wroteFrom}
-use Rattle.whole_file.specs.Reading.{partsOf, refused, list, runRead, readFile, noMemory, readingRefused, readingWith, readingOf, areaRead}
+use Rattle.whole_file.specs.Reading.{Input, evidenceAt, partsOf, refused, list, runRead, readFile, noMemory, readingRefused, readingWith, readingOf, areaRead}
 use Rattle.program_part.proofs.RecordLaws.{fine-refused, refused-same}
 use Rattle.by_number.specs.Again.{offsetAt, cubeAt, entriesOf, transitionOf, targetOf, placeOf}
 use Rattle.by_number.specs.Contents.{ProgramSizes, CubeRange}
@@ -50,93 +51,101 @@ target-again f p k l =
 
 -- ---- what `read` returns and leaves
 
-module _ (f w : List ℕ) where
+module _ (x : Input) (w : List ℕ) where
+  abbrev g : List ℕ
+  g = x .code
+
+  abbrev f : List ℕ
+  f = x .file
+
   abbrev area : ℕ
   area = length w
 
   -- the list of offsets, at exit
-  list-part : (L : ListParts f area) → drop 16384 (areaRead (partsOf f area) w) ≡ wroteFrom 0 (listed f area .offsets) (drop 16384 w)
+  list-part : (L : ListParts x area) → drop 16384 (areaRead (partsOf x area) w) ≡ wroteFrom 0 (listed x area .offsets) (drop 16384 w)
   list-part L =
-      ap (λ x. drop 16384 (areaRead x w)) (L .parts)
-      ∙ drop-at (take 16384 w) (wroteFrom 0 (listed f area .offsets) (drop 16384 w)) 16384 (length-take-le 16384 w (omega (arith, L .enough)))
+      ap (λ y. drop 16384 (areaRead y w)) (L .parts)
+      ∙ drop-at (take 16384 w) (wroteFrom 0 (listed x area .offsets) (drop 16384 w)) 16384 (length-take-le 16384 w (omega (arith, L .enough)))
 
-  module _ (R : Reading) (r : R ≡ readingOf (partsOf f area)) where
+  module _ (R : Reading) (r : R ≡ readingOf x (partsOf x area)) where
     abbrev Answered : Checked → Type 0
-    Answered x = R .answer ≡ x
+    Answered y = R .answer ≡ y
 
-    pub reading-refused : (x : Refusal) → Answered (Refused x) → readFile f area ≡ refused x
-    reading-refused x q = go (outcome f area)
+    pub reading-refused : (z : Refusal) → Answered (Refused z) → readFile x area ≡ refused (R .part) z
+    reading-refused z q = go (outcome x area)
       where
-        go : Outcome f area → readFile f area ≡ refused x
-        go (outcome-refused y a b) = b ∙ ap refused (refused-same (sym (ap (λ (z : Reading). z .answer) (r ∙ a)) ∙ q))
-        go (outcome-list L) = absurd (fine-refused (sym (ap (λ (z : Reading). z .answer) (r ∙ reading-with f area L)) ∙ q))
-        go (outcome-run L) = absurd (fine-refused (sym (ap (λ (z : Reading). z .answer) (r ∙ reading-steps f area L)) ∙ q))
+        go : Outcome x area → readFile x area ≡ refused (R .part) z
+        go (outcome-refused v y a b) =
+            b
+            ∙ ap₂ refused (sym (ap (λ (z : Reading). z .part) (r ∙ a))) (refused-same (sym (ap (λ (z : Reading). z .answer) (r ∙ a)) ∙ q))
+        go (outcome-list L) = absurd (fine-refused (sym (ap (λ (z : Reading). z .answer) (r ∙ reading-with x area L)) ∙ q))
+        go (outcome-run L) = absurd (fine-refused (sym (ap (λ (z : Reading). z .answer) (r ∙ reading-steps x area L)) ∙ q))
 
     module _ (q : Answered Fine) where
-      never : (x : Refusal) → readingOf (partsOf f area) ≡ readingRefused x → ⊥
-      never x a = fine-refused (sym q ∙ ap (λ (z : Reading). z .answer) (r ∙ a))
+      never : (v : Part) (y : Refusal) → readingOf x (partsOf x area) ≡ readingRefused v y → ⊥
+      never v y a = fine-refused (sym q ∙ ap (λ (z : Reading). z .answer) (r ∙ a))
 
       -- the places and counts of the program part
       pub reading-sizes : ProgramSizes (R .contents .program)
-      reading-sizes = go (outcome f area)
+      reading-sizes = go (outcome x area)
         where
-          go : Outcome f area → ProgramSizes (R .contents .program)
-          go (outcome-refused y a b) = absurd (never y a)
-          go (outcome-list L) = rw (r ∙ reading-with f area L) (part-sizes f 0 (L .fine) refl)
-          go (outcome-run L) = rw (r ∙ reading-steps f area L) (part-sizes f 0 (L .fine) refl)
+          go : Outcome x area → ProgramSizes (R .contents .program)
+          go (outcome-refused v y a b) = absurd (never v y a)
+          go (outcome-list L) = rw (r ∙ reading-with x area L) (part-sizes (x .alone) g 0 (L .fine) refl)
+          go (outcome-run L) = rw (r ∙ reading-steps x area L) (part-sizes (x .alone) g 0 (L .fine) refl)
 
       -- claims 1 and 2
       pub reading-run : (R .contents .claim ≡ 0 → ⊥)
-          → readFile f area ≡ runRead (R .contents .claim) (programOf f (R .contents .program)) (targetsOf f (R .contents .program)) (R .contents .memory) (stepsOf f (R .contents .evidence .at) (R .contents .evidence .count))
-      reading-run c = go (outcome f area)
+          → readFile x area ≡ runRead (R .contents .claim) (programOf g (R .contents .program)) (targetsOf g (R .contents .program)) (R .contents .memory) (stepsOf f (R .contents .evidence .at) (R .contents .evidence .count))
+      reading-run c = go (outcome x area)
         where
-          go : Outcome f area
-              → readFile f area ≡ runRead (R .contents .claim) (programOf f (R .contents .program)) (targetsOf f (R .contents .program)) (R .contents .memory) (stepsOf f (R .contents .evidence .at) (R .contents .evidence .count))
-          go (outcome-refused y a b) = absurd (never y a)
-          go (outcome-list L) = absurd (c (ap (λ (z : Reading). z .contents .claim) (r ∙ reading-with f area L)))
-          go (outcome-run L) = rw (r ∙ reading-steps f area L) (file-run f area L)
+          go : Outcome x area
+              → readFile x area ≡ runRead (R .contents .claim) (programOf g (R .contents .program)) (targetsOf g (R .contents .program)) (R .contents .memory) (stepsOf f (R .contents .evidence .at) (R .contents .evidence .count))
+          go (outcome-refused v y a b) = absurd (never v y a)
+          go (outcome-list L) = absurd (c (ap (λ (z : Reading). z .contents .claim) (r ∙ reading-with x area L)))
+          go (outcome-run L) = rw (r ∙ reading-steps x area L) (file-run x area L)
 
       -- step i stands in the file
       pub reading-step : (R .contents .claim ≡ 0 → ⊥) → (i : ℕ) → i < R .contents .evidence .count
           → (let place = placeOf (λ k. 1 + stepBody f k) (R .contents .evidence .at) i in place + stepBody f place < length f)
-      reading-step c = go (outcome f area)
+      reading-step c = go (outcome x area)
         where
-          go : Outcome f area → (i : ℕ) → i < R .contents .evidence .count
+          go : Outcome x area → (i : ℕ) → i < R .contents .evidence .count
               → (let place = placeOf (λ k. 1 + stepBody f k) (R .contents .evidence .at) i in place + stepBody f place < length f)
-          go (outcome-refused y a b) = absurd (never y a)
-          go (outcome-list L) = absurd (c (ap (λ (z : Reading). z .contents .claim) (r ∙ reading-with f area L)))
-          go (outcome-run L) = rw (r ∙ reading-steps f area L) (step-inside f area L)
+          go (outcome-refused v y a b) = absurd (never v y a)
+          go (outcome-list L) = absurd (c (ap (λ (z : Reading). z .contents .claim) (r ∙ reading-with x area L)))
+          go (outcome-run L) = rw (r ∙ reading-steps x area L) (step-inside x area L)
 
       -- claim 0
-      module _ (work : List ℕ) (e : work ≡ areaRead (partsOf f area) w) (c : R .contents .claim ≡ 0) where
-        as-list : ListParts f area
-        as-list = go (outcome f area)
+      module _ (work : List ℕ) (e : work ≡ areaRead (partsOf x area) w) (c : R .contents .claim ≡ 0) where
+        as-list : ListParts x area
+        as-list = go (outcome x area)
           where
-            go : Outcome f area → ListParts f area
-            go (outcome-refused y a b) = absurd (never y a)
-            go (outcome-run L) = absurd (L .other (sym (ap (λ (z : Reading). z .contents .claim) (r ∙ reading-steps f area L)) ∙ c))
+            go : Outcome x area → ListParts x area
+            go (outcome-refused v y a b) = absurd (never v y a)
+            go (outcome-run L) = absurd (L .other (sym (ap (λ (z : Reading). z .contents .claim) (r ∙ reading-steps x area L)) ∙ c))
             go (outcome-list L) = L
 
-        left : drop 16384 work ≡ wroteFrom 0 (listed f area .offsets) (drop 16384 w)
+        left : drop 16384 work ≡ wroteFrom 0 (listed x area .offsets) (drop 16384 w)
         left = ap (drop 16384) e ∙ list-part as-list
 
-        handed : R ≡ readingWith (programFrom f 0 .program) 0 noMemory (programFrom f 0 .program .claim + 2) (length (listed f area .offsets))
-        handed = r ∙ reading-with f area as-list
+        handed : R ≡ readingWith (programFrom (x .alone) g 0 .program) 0 noMemory (evidenceAt x (programFrom (x .alone) g 0 .program) + 2) (length (listed x area .offsets))
+        handed = r ∙ reading-with x area as-list
 
-        pub reading-list : readFile f area ≡ list (programOf f (R .contents .program)) (targetsOf f (R .contents .program)) (entriesOf f (drop 16384 work) (R .contents .evidence .count))
+        pub reading-list : readFile x area ≡ list (programOf g (R .contents .program)) (targetsOf g (R .contents .program)) (entriesOf f (drop 16384 work) (R .contents .evidence .count))
         reading-list =
             rw (left, handed)
-            (file-list f area as-list
-            ∙ ap (list (programOf f (programFrom f 0 .program)) (targetsOf f (programFrom f 0 .program))) (again f area as-list (drop 16384 w) (length-drop 16384 w)))
+            (file-list x area as-list
+            ∙ ap (list (programOf g (programFrom (x .alone) g 0 .program)) (targetsOf g (programFrom (x .alone) g 0 .program))) (again x area as-list (drop 16384 w) (length-drop 16384 w)))
 
         pub reading-count : R .contents .evidence .count ≤ entriesAllowed area
-        reading-count = rw handed (count-allowed f area as-list (drop 16384 w) (length-drop 16384 w))
+        reading-count = rw handed (count-allowed x area as-list (drop 16384 w) (length-drop 16384 w))
 
         -- the offset of entry k is the place of its 10
         pub reading-offset : (k : ℕ) → k < R .contents .evidence .count
             → (isKind f (offsetAt (drop 16384 work) k) 16 ≡ true) × (offsetAt (drop 16384 work) k + 8 < length f)
-        reading-offset = rw (left, handed) (λ k i. let o = offsets f area as-list (drop 16384 w) (length-drop 16384 w) k i in (o .1, o .2))
+        reading-offset = rw (left, handed) (λ k i. let o = offsets x area as-list (drop 16384 w) (length-drop 16384 w) k i in (o .1, o .2))
 
         -- entry k, as the code loads it
         pub reading-cube : (k : ℕ) → k < R .contents .evidence .count → CubeRange (cubeAt f (drop 16384 work) k)
-        reading-cube = rw (left, handed) (cubes f area as-list (drop 16384 w) (length-drop 16384 w))
+        reading-cube = rw (left, handed) (cubes x area as-list (drop 16384 w) (length-drop 16384 w))

@@ -1,4 +1,4 @@
--- The four counts that a file begins with are those of the program that was read (document 02, N5).
+-- The four counts that the program's file begins with are those of the program that was read (document 02, N5).
 use Prim.Native.Nat.{ℕ, _+_}
 use mathlib.Core.Path.{_≡_, sym, subst}
 use mathlib.Core.Bool.{Bool, true, false, cond}
@@ -7,15 +7,16 @@ use lib.Dec.{eqb}
 use Rattle.pws.specs.declared.Step.{Step}
 use Rattle.pws.specs.Program as pws
 use Rattle.pws.specs.Ranges.{CountsOf}
+use Rattle.program_part.specs.declared.program.Program.{Program}
 use Rattle.program_part.specs.Bytes.{byte}
 use Rattle.program_part.specs.Records.{shapeAt}
 use Rattle.program_part.specs.ProgramPart.{programFrom}
-use Rattle.whole_file.specs.Reading.{FileRead, refused, list, run, psoRun, readFile}
+use Rattle.whole_file.specs.Reading.{Input, evidenceAt, FileRead, refused, list, run, psoRun, readFile}
 use Rattle.by_number.proofs.ProgramPart.{part-counts}
 use Rattle.by_number.proofs.Contents.{Outcome, outcome-refused, outcome-list, outcome-run, outcome, file-list, file-run}
 
 abbrev pub HasCounts : List ℕ → FileRead → Type 0
-HasCounts f (refused r) = Unit {0}
+HasCounts f (refused w r) = Unit {0}
 HasCounts f (list P ts es) = CountsOf (P .shape) (shapeAt f 0 .values)
 HasCounts f (run P ts m ss) = CountsOf (P .shape) (shapeAt f 0 .values)
 HasCounts f (psoRun P ts m ss) = CountsOf (P .shape) (shapeAt f 0 .values)
@@ -25,10 +26,15 @@ run-counts : (f : List ℕ) (P : pws.Program) (ts : List (ℕ → ℕ)) (m : Lis
 run-counts f P ts m ss C true = C
 run-counts f P ts m ss C false = C
 
-pub file-counts : (f : List ℕ) (area : ℕ) → HasCounts f (readFile f area)
-file-counts f area = go (outcome f area)
+pub file-counts : (x : Input) (area : ℕ) → HasCounts (x .code) (readFile x area)
+file-counts x area = go (outcome x area)
   where
-    go : Outcome f area → HasCounts f (readFile f area)
-    go (outcome-refused r a b) = subst (HasCounts f) (sym b) tt
-    go (outcome-list L) = subst (HasCounts f) (sym (file-list f area L)) (part-counts f 0 (L .fine))
-    go (outcome-run R) = subst (HasCounts f) (sym (file-run f area R)) (run-counts f _ _ _ _ (part-counts f 0 (R .fine)) (eqb (byte f (programFrom f 0 .program .claim + 1)) 1))
+    p : Program
+    p = programFrom (x .alone) (x .code) 0 .program
+
+    go : Outcome x area → HasCounts (x .code) (readFile x area)
+    go (outcome-refused w r a b) = subst (HasCounts (x .code)) (sym b) tt
+    go (outcome-list L) = subst (HasCounts (x .code)) (sym (file-list x area L)) (part-counts (x .alone) (x .code) 0 (L .fine))
+    go (outcome-run R) =
+        subst (HasCounts (x .code)) (sym (file-run x area R))
+        (run-counts (x .code) _ _ _ _ (part-counts (x .alone) (x .code) 0 (R .fine)) (eqb (byte (x .file) (evidenceAt x p + 1)) 1))

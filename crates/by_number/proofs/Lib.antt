@@ -9,3 +9,7 @@ pub mod Entries
 pub mod Contents
 pub mod Counts
 pub mod Again
+pub mod OffendingLaws
+pub mod Shifting
+pub mod ProgramCut
+pub mod Cutting

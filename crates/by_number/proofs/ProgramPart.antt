@@ -2,7 +2,7 @@
 use Prim.Native.Nat.{ℕ, _+_, _*_, _<_, _≤_}
 use mathlib.Core.Path.{_≡_, refl, sym, ap, subst, _∙_}
 use mathlib.Core.Logic.{⊎-elim}
-use mathlib.Core.Bool.{true, _&&_, not}
+use mathlib.Core.Bool.{Bool, true, cond, _&&_, not}
 use mathlib.Core.List.{List}
 use native.Mathlib.Omega.{arith}
 use native.Mathlib.Decide.{decLt}
@@ -18,7 +18,7 @@ use Rattle.program_part.specs.declared.program.Checked.the-variants.{Fine}
 use Rattle.program_part.specs.declared.program.Counted.the-variants.{Records}
 use Rattle.program_part.specs.Bytes.{byte}
 use Rattle.program_part.specs.Records.{checked, inRange, isKind, shapeAt, valueCount, countInRange, countsInRange, countIfAbsent, countsIfAbsent, shapeNumber, transitionAt, transitionNumber, transitionNames, targetNumber, stateNames, stateAt}
-use Rattle.program_part.specs.ProgramPart.{unlessEnd, statesFrom, ofProcess, ofProcesses, atClaim, transitionsFrom, targetsFrom, programFrom, shapeOf, programOf, targetsOf}
+use Rattle.program_part.specs.ProgramPart.{unlessEnd, statesFrom, ofProcess, ofProcesses, atEnd, transitionsFrom, targetsFrom, programFrom, shapeOf, programOf, targetsOf}
 use Rattle.program_part.proofs.RecordLaws.{good, unless-fine, states-fine, transition-fine, target-fine}
 use Rattle.program_part.proofs.ProgramLaws.{and-true, transitions-most, targets-most}
 use Rattle.whole_file.proofs.ReadingLaws.{ProgramFine, program-fine}
@@ -116,22 +116,22 @@ module _ (s : Shape) (states : List ℕ) (f : List ℕ) (at : ℕ) where
       let a = transition-fine f (at + 8 * i) s states (0 + i) (rw (place-eight at i) at e) in
       not-false _ (a .names)
 
-  pub target-named : (n i : ℕ) → targetsFrom s states f at ≡ Records n → i < n → stateNames s states f (at + 5 * i) ≡ true
+  pub target-named : (alone : Bool) (n i : ℕ) → targetsFrom alone s states f at ≡ Records n → i < n → stateNames s states f (at + 5 * i) ≡ true
   unfolding targetsFrom
-  target-named n i q l =
-      let e = row-each (atClaim f) (λ k n. unlessEnd f k (checked (targetNumber s states f k n) k)) (λ k. 5) 16 at 0 n q i (omega arith) in
+  target-named alone n i q l =
+      let e = row-each (atEnd alone f) (λ k n. unlessEnd f k (checked (targetNumber s states f k n) k)) (λ k. 5) 16 at 0 n q i (omega arith) in
       let d = unless-fine f (at + 5 * i) _ (rw (place-five at i) at e) .1 in
       not-false _ (target-fine f (at + 5 * i) s states (0 + i) d .names)
 
-  pub targets-least : (n : ℕ) → targetsFrom s states f at ≡ Records n → 1 ≤ n
-  unfolding targetsFrom atClaim
-  targets-least n q =
-      ⊎-elim (λ e. leb-true 1 n (and-true (isKind f (e .0) 15) (leb 1 n) (e .1) .1)) (λ e. omega arith)
-      (row-stop (atClaim f) (λ k n. unlessEnd f k (checked (targetNumber s states f k n) k)) (λ k. 5) 16 at 0 n q)
+  pub targets-least : (alone : Bool) (n : ℕ) → targetsFrom alone s states f at ≡ Records n → 1 ≤ n
+  unfolding targetsFrom atEnd
+  targets-least alone n q =
+      ⊎-elim (λ e. leb-true 1 n (and-true (cond alone (leb (length f) (e .0)) (isKind f (e .0) 15)) (leb 1 n) (e .1) .1)) (λ e. omega arith)
+      (row-stop (atEnd alone f) (λ k n. unlessEnd f k (checked (targetNumber s states f k n) k)) (λ k. 5) 16 at 0 n q)
 
 -- ---- the whole part
 
-module _ (f : List ℕ) (at : ℕ) (F : ProgramFine f at) where
+module _ (alone : Bool) (f : List ℕ) (at : ℕ) (F : ProgramFine alone f at) where
   abbrev s : Shape
   s = shapeAt f at
 
@@ -164,7 +164,7 @@ module _ (f : List ℕ) (at : ℕ) (F : ProgramFine f at) where
   aimed k l =
       subst (StatesOf (programOf f p)) (sym (table-number (λ i. stateAt f (first + 8 * F .transitions + 5 * i)) (F .targets) k (λ p. 0) l))
       (states-of s states (programOf f p .initial) (programOf f p .transitions) f (first + 8 * F .transitions + 5 * k) (range .processes .1)
-      (target-named s states f (first + 8 * F .transitions) (F .targets) k (F .aims) l))
+      (target-named s states f (first + 8 * F .transitions) alone (F .targets) k (F .aims) l))
 
   count₁ : length (programOf f p .transitions) ≡ F .transitions
   count₁ = table-length (λ i. transitionAt f (first + 8 * i)) 0 (F .transitions)
@@ -173,7 +173,7 @@ module _ (f : List ℕ) (at : ℕ) (F : ProgramFine f at) where
   count₂ = table-length (λ i. stateAt f (first + 8 * F .transitions + 5 * i)) 0 (F .targets)
 
   few-rows : (F .transitions ≤ 256) × (F .targets ≤ 16)
-  few-rows = (transitions-most s states f first (F .transitions) (F .rows), targets-most s states f (first + 8 * F .transitions) (F .targets) (F .aims))
+  few-rows = (transitions-most s states f first (F .transitions) (F .rows), targets-most s states f (first + 8 * F .transitions) alone (F .targets) (F .aims))
 
   whole-part : ProgramPartRead (programOf f p) (targetsOf f p)
   whole-part =
@@ -195,7 +195,7 @@ module _ (f : List ℕ) (at : ℕ) (F : ProgramFine f at) where
         states = λ q l. states-most f (at + 7) (s .processes) (range .processes .1) (F .states) q l;
         transitions = omega (arith, count₁, few-rows .0);
         targets = λ k l. aimed k (omega (arith, count₂));
-        someTarget = omega (arith, count₂, targets-least s states f (first + 8 * F .transitions) (F .targets) (F .aims));
+        someTarget = omega (arith, count₂, targets-least s states f (first + 8 * F .transitions) alone (F .targets) (F .aims));
         fewTargets = omega (arith, count₂, few-rows .1);
       }
 
@@ -209,27 +209,27 @@ module _ (f : List ℕ) (at : ℕ) (F : ProgramFine f at) where
         variables = range .variables;
         values = range .values;
         transitions = few-rows .0;
-        targets = (targets-least s states f (first + 8 * F .transitions) (F .targets) (F .aims), few-rows .1);
+        targets = (targets-least s states f (first + 8 * F .transitions) alone (F .targets) (F .aims), few-rows .1);
         claim = omega (arith, near);
       }
 
-module _ (f : List ℕ) (at : ℕ) (q : programFrom f at .answer ≡ Fine) where
-  F : ProgramFine f at
-  F = program-fine f at q
+module _ (alone : Bool) (f : List ℕ) (at : ℕ) (q : programFrom alone f at .answer ≡ Fine) where
+  F : ProgramFine alone f at
+  F = program-fine alone f at q
 
-  pub part-read : ProgramPartRead (programOf f (programFrom f at .program)) (targetsOf f (programFrom f at .program))
-  part-read = subst (λ (p : Program). ProgramPartRead (programOf f p) (targetsOf f p)) (sym (F .same)) (whole-part f at F)
+  pub part-read : ProgramPartRead (programOf f (programFrom alone f at .program)) (targetsOf f (programFrom alone f at .program))
+  part-read = subst (λ (p : Program). ProgramPartRead (programOf f p) (targetsOf f p)) (sym (F .same)) (whole-part alone f at F)
 
-  pub part-shape : ShapeRange (programFrom f at .program .shape)
+  pub part-shape : ShapeRange (programFrom alone f at .program .shape)
   part-shape = subst (λ (p : Program). ShapeRange (p .shape)) (sym (F .same)) (shape-in f at (F .shape))
 
   -- the four counts of the 01 are those of the program
-  pub part-counts : CountsOf (programOf f (programFrom f at .program) .shape) (shapeAt f at .values)
+  pub part-counts : CountsOf (programOf f (programFrom alone f at .program) .shape) (shapeAt f at .values)
   part-counts = subst (λ (p : Program). CountsOf (programOf f p .shape) (shapeAt f at .values)) (sym (F .same)) (shape-counts f at (shape-in f at (F .shape)))
 
-  pub part-sizes : _≡_ {A = ℕ} at 0 → ProgramSizes (programFrom f at .program)
-  part-sizes z = subst ProgramSizes (sym (F .same)) (whole-sizes f at F z)
+  pub part-sizes : _≡_ {A = ℕ} at 0 → ProgramSizes (programFrom alone f at .program)
+  part-sizes z = subst ProgramSizes (sym (F .same)) (whole-sizes alone f at F z)
 
   -- the claim stands near the beginning
-  pub claim-near : programFrom f at .program .claim ≤ at + 2147
-  claim-near = subst (λ (p : Program). p .claim ≤ at + 2147) (sym (F .same)) (near f at F)
+  pub claim-near : programFrom alone f at .program .claim ≤ at + 2147
+  claim-near = subst (λ (p : Program). p .claim ≤ at + 2147) (sym (F .same)) (near alone f at F)

@@ -1,2 +1,4 @@
 pub mod Again
 pub mod Contents
+pub mod Offending
+pub mod Cutting

@@ -13,6 +13,8 @@ use pws::Transition;
 use whole_file::entry::Cube;
 use whole_file::entry::load_entry;
 
+pub mod offending;
+
 // The place of the 10 of entry i.
 pub fn offset_at(list: &[u8], i: usize) -> usize
     ensures { λ r. ⌜ r ≡ offsetAt (now (list .entry)) i ⌝ }

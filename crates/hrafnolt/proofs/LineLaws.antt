@@ -20,9 +20,10 @@ use Rattle.drawing.specs.Text.{letters}
 use Rattle.drawing.specs.Runs.{StepInRange, stepInRange}
 use Rattle.drawing.specs.Writing.{shown}
 use Rattle.drawing.proofs.LineLaws.{letters-short}
+use Rattle.whole_file.specs.Reading.{Input, combined}
 use Rattle.judge.specs.declared.answer.Verdict as declared
 use Rattle.judge.specs.Judge.{Verdict, safe, reachable, pso, refused, entered, judged}
-use Rattle.judge.specs.Answers.{inC}
+use Rattle.judge.specs.Answers.{inC, withRecord, saidInC}
 use Rattle.judge.proofs.Demands as demands
 use Rattle.hrafnolt.specs.Line.{Numbered, TwoNumbers, LineOf, wordSafe, wordReachable, wordPso, wordRefused, wordOf, stepIn, StepKnown, said}
 
@@ -149,7 +150,7 @@ unfolding stepIn
 step-update v n m = rw (ne-eqb (v .«step_kind») 32 n, ne-eqb (v .«step_kind») 33 m)
 
 -- the kind, the two numbers and the step
-pub one-line : (word text line : List ℕ) (verdict : declared.Verdict) (v : Verdict) → verdict ≡ inC v → verdict .kind ≡ 0 → word ≡ wordOf (verdict .kind)
+pub one-line : (word text line : List ℕ) (verdict : declared.Verdict) (v : Verdict) → withRecord verdict 0 0 0 ≡ inC v → verdict .kind ≡ 0 → word ≡ wordOf (verdict .kind)
     → Numbered word (verdict .first) text → line ≡ text ++ (10 ∷ []) → LineOf v line
 one-line word text line verdict (safe n) e z w g h =
     record {
@@ -178,7 +179,7 @@ two-numbers word text more line verdict n k w a b c g h e =
 refused-word : (word : List ℕ) (kind : ℕ) → word ≡ wordOf kind → kind ≡ 2 → word ≡ wordRefused
 refused-word word kind w e = w ∙ word-refused kind (λ y. omega arith) (λ y. omega arith) (λ y. omega arith)
 
-pub two-lines : (word text more line : List ℕ) (verdict : declared.Verdict) (v : Verdict) → verdict ≡ inC v → (verdict .kind ≡ 0 → ⊥) → verdict .«step_kind» ≡ 0
+pub two-lines : (word text more line : List ℕ) (verdict : declared.Verdict) (v : Verdict) → withRecord verdict 0 0 0 ≡ inC v → (verdict .kind ≡ 0 → ⊥) → verdict .«step_kind» ≡ 0
     → word ≡ wordOf (verdict .kind) → Numbered word (verdict .first) text → Numbered text (verdict .second) more → line ≡ more ++ (10 ∷ []) → LineOf v line
 two-lines word text more line verdict (safe n) e z y w g h q = absurd (z (ap (λ (x : declared.Verdict). x .kind) e))
 two-lines word text more line verdict (reachable n k) e z y w g h q =
@@ -193,9 +194,10 @@ two-lines word text more line verdict (refused n k) e z y w g h q =
 two-lines word text more line verdict (entered k s) e z y w g h q =
     absurd (entered-known k s (sym (ap (λ (x : declared.Verdict). x .«step_kind») e) ∙ y))
 
-pub step-line : (word text more all line : List ℕ) (verdict : declared.Verdict) (v : Verdict) → verdict ≡ inC v → StepKnown v → (verdict .«step_kind» ≡ 0 → ⊥)
+pub step-line : (word text more all line : List ℕ) (verdict : declared.Verdict) (v : Verdict) → withRecord verdict 0 0 0 ≡ inC v → StepKnown v → (verdict .«step_kind» ≡ 0 → ⊥)
     → word ≡ wordOf (verdict .kind) → Numbered word (verdict .first) text → Numbered text (verdict .second) more → (s : Step) → s ≡ stepIn verdict
     → (StepInRange s → all ≡ more ++ (32 ∷ letters s)) → line ≡ all ++ (10 ∷ []) → LineOf v line
+unfolding stepIn
 step-line word text more all line verdict (safe n) e K z w g h t i j q = absurd (z (ap (λ (x : declared.Verdict). x .«step_kind») e))
 step-line word text more all line verdict (reachable n k) e K z w g h t i j q = absurd (z (ap (λ (x : declared.Verdict). x .«step_kind») e))
 step-line word text more all line verdict (pso n k) e K z w g h t i j q = absurd (z (ap (λ (x : declared.Verdict). x .«step_kind») e))
@@ -256,15 +258,15 @@ in-program P R l (Take n) o = omega arith
 in-program P R l (Serialise p v) o = (omega (arith, o .0, R .shape .processes), omega (arith, o .1, R .shape .variables))
 in-program P R l (Update p) o = omega (arith, R .shape .processes)
 
-pub judged-known : (f : List ℕ) (area : ℕ) → StepKnown (judged f area)
-judged-known f area = go (judged f area) refl
+pub judged-known : (x : Input) (area : ℕ) → StepKnown (judged x area)
+judged-known x area = go (judged x area) refl
   where
-    go : (v : Verdict) → judged f area ≡ v → StepKnown v
+    go : (v : Verdict) → judged x area ≡ v → StepKnown v
     go (safe n) e = tt
     go (reachable n k) e = tt
     go (pso n k) e = tt
     go (refused n k) e = tt
-    go (entered k s) e = let x = demands.entered-step f area k s e in in-program (x .0) (x .1) (x .2) s (x .3)
+    go (entered k s) e = let x = demands.entered-step x area k s e in in-program (x .0) (x .1) (x .2) s (x .3)
 
 -- ---- what is said of an input
 
@@ -272,6 +274,20 @@ pub over-said : (input line : List ℕ) → 65536 < length input → LineOf (ref
 unfolding said
 over-said input line l h = rw (lt-ltb 65536 (length input) l) h
 
-pub judged-said : (input line : List ℕ) (area : ℕ) → area ≡ 65536 → length input ≤ 65536 → LineOf (judged input area) line → LineOf (said input) line
+pub judged-said : (input line : List ℕ) (area : ℕ) → area ≡ 65536 → length input ≤ 65536 → LineOf (judged (combined input) area) line → LineOf (said input) line
 unfolding said
-judged-said input line area e l h = rw (le-ltb 65536 (length input) l) (subst (λ (n : ℕ). LineOf (judged input n) line) e h)
+judged-said input line area e l h = rw (le-ltb 65536 (length input) l) (subst (λ (n : ℕ). LineOf (judged (combined input) n) line) e h)
+
+-- the record is no part of the line
+pub bare : (x : Input) (area : ℕ) (r : declared.Verdict) → r ≡ saidInC x area → withRecord r 0 0 0 ≡ inC (judged x area)
+unfolding saidInC
+bare x area r e = ap (λ (v : declared.Verdict). withRecord v 0 0 0) e ∙ go (judged x area)
+  where
+    go : (v : Verdict) → withRecord (inC v) 0 0 0 ≡ inC v
+    go (safe n) = refl
+    go (reachable n k) = refl
+    go (pso n k) = refl
+    go (refused n k) = refl
+    go (entered k (Take n)) = refl
+    go (entered k (Serialise p v)) = refl
+    go (entered k (Update p)) = refl

@@ -11,6 +11,7 @@ use Rattle.pws.specs.declared.Step.the-variants.{Take, Serialise, Update}
 use Rattle.program_part.specs.Bytes.{choose}
 use Rattle.drawing.specs.Text.{letters}
 use Rattle.drawing.specs.Runs.{StepInRange}
+use Rattle.whole_file.specs.Reading.{combined}
 use Rattle.judge.specs.declared.answer.Verdict as declared
 use Rattle.judge.specs.Judge.{Verdict, safe, reachable, pso, refused, entered, judged}
 
@@ -82,4 +83,4 @@ StepKnown (entered k s) = StepInRange s
 
 -- 14 before all others: over 65,536 bytes; else the verdict in a work area of 65,536 bytes
 unfoldable pub said : List ℕ → Verdict
-said input = choose (ltb 65536 (length input)) (λ _. refused 14 65536) (λ _. judged input 65536)
+said input = choose (ltb 65536 (length input)) (λ _. refused 14 65536) (λ _. judged (combined input) 65536)

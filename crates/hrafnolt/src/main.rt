@@ -6,7 +6,7 @@ ghost use Prim.Native.Nat.{_+_, _≤_};
 ghost use lib.ListN.{length, take};
 ghost use Rattle.io.specs.Counts.{Counts};
 ghost use Rattle.judge.specs.Judge.{Verdict as Judge·Verdict};
-ghost use Rattle.judge.specs.Answers.{inC};
+ghost use Rattle.judge.specs.Answers.{inC, withRecord};
 ghost use Rattle.drawing.specs.Text.{letters};
 ghost use Rattle.drawing.specs.Runs.{StepInRange};
 ghost use Rattle.hrafnolt.specs.Line.{Numbered, LineOf, wordOf, stepIn, StepKnown, said};
@@ -114,7 +114,7 @@ fn put_step(line: &mut [u8], at: usize, step: Step) -> usize
 fn put_line(line: &mut [u8], verdict: Verdict) -> usize
     requires { ⌜ 64 ≤ length (now line) ⌝ }
     ensures { λ r. ⌜ Counts r (now (line .exit)) ⌝ }
-    ensures { λ r. ⌜ ((v : Judge·Verdict) → verdict ≡ inC v → StepKnown v → LineOf v (take r (now (line .exit)))) ⌝ }
+    ensures { λ r. ⌜ ((v : Judge·Verdict) → withRecord verdict 0 0 0 ≡ inC v → StepKnown v → LineOf v (take r (now (line .exit)))) ⌝ }
 {
     let word = put_word(line, verdict.kind);
     let first = put_number(line, word, verdict.first);
@@ -145,6 +145,9 @@ fn line_for(input: &[u8], line: &mut [u8]) -> usize
                 step_kind: 0,
                 step_first: 0,
                 step_second: 0,
+                record_file: 0,
+                record_at: 0,
+                record_length: 0,
             },
         );
     }

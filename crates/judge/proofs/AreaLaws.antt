@@ -18,7 +18,7 @@ use Rattle.program_part.specs.Records.{checked, claimNumber, startNumber, entry
 use Rattle.program_part.specs.ProgramPart.{unlessEnd, programFrom}
 use Rattle.whole_file.specs.EvidencePart.{EntryRead, whole, bad, entryRead, EntriesRead, headThen, entryThen, entriesFrom, entriesAllowed, wroteFrom}
 use Rattle.whole_file.specs.Reading as reading
-use Rattle.whole_file.specs.Reading.{Evidence, refusal, entries, steps, claimThen, runEvidence, evidenceFrom, Parts, partsOf, evidenceArea}
+use Rattle.whole_file.specs.Reading.{Input, evidenceAt, Evidence, refusal, entries, steps, claimThen, runEvidence, evidenceFrom, Parts, partsOf, evidenceArea}
 use Rattle.whole_file.proofs.ReadingLaws.{parts-refused, parts-both}
 use Rattle.judge.specs.Judge.{usedOf, areaAfter}
 use Rattle.judge.proofs.Numbers.{each-choice}
@@ -146,20 +146,20 @@ drop-more a b x y l e =
     let j : a + (b - a) ≡ b = omega arith in
     ap (λ (i : ℕ). drop i x) (sym j) ∙ sym (drop-drop (b - a) a x) ∙ ap (drop (b - a)) e ∙ drop-drop (b - a) a y ∙ ap (λ (i : ℕ). drop i y) j
 
-pub reading-kept : (f w : List ℕ) → 65536 ≤ length w → drop (usedOf (length w)) (reading.areaRead (partsOf f (length w)) w) ≡ drop (usedOf (length w)) w
+pub reading-kept : (x : Input) (w : List ℕ) → 65536 ≤ length w → drop (usedOf (length w)) (reading.areaRead (partsOf x (length w)) w) ≡ drop (usedOf (length w)) w
 unfolding usedOf
-reading-kept f w l = go (programFrom f 0 .answer) refl
+reading-kept x w l = go (programFrom (x .alone) (x .code) 0 .answer) refl
   where
     p : Program
-    p = programFrom f 0 .program
+    p = programFrom (x .alone) (x .code) 0 .program
 
-    go : (x : Checked) → programFrom f 0 .answer ≡ x
-        → drop (16384 + 12 * entriesAllowed (length w)) (reading.areaRead (partsOf f (length w)) w) ≡ drop (16384 + 12 * entriesAllowed (length w)) w
+    go : (y : Checked) → programFrom (x .alone) (x .code) 0 .answer ≡ y
+        → drop (16384 + 12 * entriesAllowed (length w)) (reading.areaRead (partsOf x (length w)) w) ≡ drop (16384 + 12 * entriesAllowed (length w)) w
     go Fine e =
-        ap (λ (y : Parts). drop (16384 + 12 * entriesAllowed (length w)) (reading.areaRead y w)) (parts-both f (length w) l e)
+        ap (λ (y : Parts). drop (16384 + 12 * entriesAllowed (length w)) (reading.areaRead y w)) (parts-both x (length w) l e)
         ∙ drop-more (16384 + 4 * entriesAllowed (length w)) (16384 + 12 * entriesAllowed (length w)) _ w (omega arith)
-        (evidence-kept (entriesAllowed (length w)) (evidenceFrom f (p .claim) p (length w)) w (omega arith) (evidence-few f (p .claim) p (length w)))
-    go (Refused r) e = ap (λ (y : Parts). drop (16384 + 12 * entriesAllowed (length w)) (reading.areaRead y w)) (parts-refused f (length w) r l e)
+        (evidence-kept (entriesAllowed (length w)) (evidenceFrom (x .file) (evidenceAt x p) p (length w)) w (omega arith) (evidence-few (x .file) (evidenceAt x p) p (length w)))
+    go (Refused r) e = ap (λ (y : Parts). drop (16384 + 12 * entriesAllowed (length w)) (reading.areaRead y w)) (parts-refused x (length w) r l e)
 
 -- the replay's part came back, and the judgement's part is more than that
 pub replay-kept : (n : ℕ) (w v a : List ℕ) → drop (usedOf n) w ≡ drop (usedOf n) v → 16384 ≤ length w → a ≡ replicate (length (take 16384 w)) 0

@@ -48,7 +48,7 @@ use Rattle.program_part.specs.Records.{
   messageNumber,
   waitingNumber,
 }
-use Rattle.program_part.specs.ProgramPart.{unlessEnd, statesFrom, rowFrom, transitionsFrom, atClaim, targetsFrom, rowsFrom, restFrom, programFrom}
+use Rattle.program_part.specs.ProgramPart.{unlessEnd, statesFrom, rowFrom, transitionsFrom, atEnd, targetsFrom, rowsFrom, restFrom, programFrom}
 use Rattle.whole_file.specs.EvidencePart.{
   stepsFrom,
   stepsOf,
@@ -67,10 +67,11 @@ use Rattle.whole_file.specs.EvidencePart.{
   entriesFrom,
   entriesAllowed,
 }
-use Rattle.whole_file.specs.Reading.{Evidence, entries, claimThen, runEvidence, evidenceFrom, programThen, partsOf, partsRead, readFile}
+use Rattle.whole_file.specs.Reading.{Input, combined, pair, evidenceAt, Evidence, entries, claimThen, runEvidence, evidenceFrom, programThen, partsOf, FileRead, partsRead, readFile}
+use Rattle.by_number.specs.Offending.{bodyOf, recordAt, isOfRecord, offendingBy, offending}
 use Rattle.replay.specs.Causes.{firstCause}
 use Rattle.judge.specs.Judge.{Verdict, ofFile, judged}
-use Rattle.judge.specs.Cases.{Row, file, below, notBelow, Holds, caseA, Each, no-row, row, cases}
+use Rattle.judge.specs.Cases.{Row, file, files, hands, below, notBelow, Holds, caseA, Each, no-row, row, cases}
 
 -- case A has 103 bytes
 pub A-length : length caseA ≡ 103
@@ -85,12 +86,19 @@ evidenceWith f at p n =
     (λ _. entries (entriesFrom n (p .shape) (p .states) f (at + 2) [] []))
     (λ _. runEvidence f (byte f (at + 1)) (at + 2) p))
 
-abbrev judgedWith : List ℕ → ℕ → Verdict
-judgedWith f n = ofFile (partsRead f (programThen (programFrom f 0) (λ p. evidenceWith f (p .claim) p n)))
+abbrev readWith : Input → ℕ → FileRead
+readWith x n = partsRead x (programThen (programFrom (x .alone) (x .code) 0) (λ p. evidenceWith (x .file) (evidenceAt x p) p n))
 
-judged-with : (f : List ℕ) (area : ℕ) → 65536 ≤ area → judged f area ≡ judgedWith f (entriesAllowed area)
-unfolding judged readFile partsOf evidenceFrom
-judged-with f area l = rw (le-ltb area 65536 l)
+read-with : (x : Input) (area : ℕ) → 65536 ≤ area → readFile x area ≡ readWith x (entriesAllowed area)
+unfolding readFile partsOf evidenceFrom
+read-with x area l = rw (le-ltb area 65536 l)
+
+abbrev judgedWith : Input → ℕ → Verdict
+judgedWith x n = ofFile (readWith x n)
+
+judged-with : (x : Input) (area : ℕ) → 65536 ≤ area → judged x area ≡ judgedWith x (entriesAllowed area)
+unfolding judged
+judged-with x area l = ap ofFile (read-with x area l)
 
 -- nine are allowed at least, and every row has fewer
 many : (area : ℕ) → 65536 ≤ area → (k : ℕ) × (entriesAllowed area ≡ suc (suc (suc (suc (suc (suc (suc (suc (suc k)))))))))
@@ -100,7 +108,9 @@ many area l = (entriesAllowed area - 9, omega arith)
 -- ---- what is computed
 
 abbrev Right : ℕ → Row → Type 0
-Right k (file f v) = judgedWith f (suc (suc (suc (suc (suc (suc (suc (suc (suc k))))))))) ≡ v
+Right k (file f v) = judgedWith (combined f) (suc (suc (suc (suc (suc (suc (suc (suc (suc k))))))))) ≡ v
+Right k (files g f v) = judgedWith (pair g f) (suc (suc (suc (suc (suc (suc (suc (suc (suc k))))))))) ≡ v
+Right k (hands x w at bytes) = offending x (readWith x (suc (suc (suc (suc (suc (suc (suc (suc (suc k)))))))))) ≡ record { part = w; at = at; bytes = bytes }
 Right k (below xs ys) = QueueBelow xs ys
 Right k (notBelow xs ys) = QueueBelow xs ys → ⊥
 
@@ -115,15 +125,18 @@ K-not-below : QueueBelow (1 ∷ []) (1 ∷ 0 ∷ []) → ⊥
 K-not-below q = let e = q .end in let z : _≡_ {A = ℕ} 0 1 = cc in omega arith
 
 rows-computed : (k : ℕ) → AllRight k cases
-unfolding firstCause firstNumber checked isKind inRange countInRange countsInRange countIfAbsent countsIfAbsent shapeNumber statesNumber valueExists allZero operationNames operationOf transitionNames transitionNumber stateName stateNames targetNumber claimNumber startName startNames startNumber runEvidence stepBody stepNames stepNumber stepAt pointerName pointerNames entryNumber valueName valueNames messageNames waitingNames messageNumber waitingNumber unlessEnd statesFrom rowFrom transitionsFrom atClaim targetsFrom rowsFrom restFrom programFrom stepsFrom stepsOf extended bodySize bodyNumber pointerInside pointsFirst pointersFit someFirst complete atBoundary finished entryFrom entryRead entriesFrom cut
+unfolding firstCause firstNumber checked isKind inRange countInRange countsInRange countIfAbsent countsIfAbsent shapeNumber statesNumber valueExists allZero operationNames operationOf transitionNames transitionNumber stateName stateNames targetNumber claimNumber startName startNames startNumber runEvidence stepBody stepNames stepNumber stepAt pointerName pointerNames entryNumber valueName valueNames messageNames waitingNames messageNumber waitingNumber unlessEnd statesFrom rowFrom transitionsFrom atEnd targetsFrom rowsFrom restFrom programFrom stepsFrom stepsOf extended bodySize bodyNumber pointerInside pointsFirst pointersFit someFirst complete atBoundary finished entryFrom entryRead entriesFrom cut bodyOf recordAt isOfRecord offendingBy
 rows-computed k =
-    (refl, (refl, (refl, (refl, (refl, (refl, (refl, (refl, (refl, (refl, (refl, (refl, (refl, (refl, (refl, (refl, (refl, (refl, (refl, (refl, (refl, (refl, (refl, (refl, (refl, (refl, (refl, (refl, (refl, (K-below, (K-not-below, (refl, (refl, (refl, (refl, (refl, (refl, (refl, (refl, (refl, (refl, (refl, (refl, (refl, (refl, (refl, (refl, (refl, (refl, (refl, (refl, (refl, (refl, (refl, (refl, (refl, (refl, (refl, (refl, (refl, (refl, (refl, (refl, (refl, (refl, (refl, tt))))))))))))))))))))))))))))))))))))))))))))))))))))))))))))))))))
+    (refl, (refl, (refl, (refl, (refl, (refl, (refl, (refl, (refl, (refl, (refl, (refl, (refl, (refl, (refl, (refl, (refl, (refl, (refl, (refl, (refl, (refl, (refl, (refl, (refl, (refl, (refl, (refl, (refl, (K-below, (K-not-below, (refl, (refl, (refl, (refl, (refl, (refl, (refl, (refl, (refl, (refl, (refl, (refl, (refl, (refl, (refl, (refl, (refl, (refl, (refl, (refl, (refl, (refl, (refl, (refl, (refl, (refl, (refl, (refl, (refl, (refl, (refl, (refl, (refl, (refl, (refl, (refl, (refl, (refl, (refl, (refl, (refl, (refl, (refl, (refl, (refl, (refl, (refl, (refl, (refl, (refl, (refl, (refl, (refl, (refl, (refl, (refl, tt)))))))))))))))))))))))))))))))))))))))))))))))))))))))))))))))))))))))))))))))))))))))
 
 -- ---- the table
 
 holds : (r : Row) → ((k : ℕ) → Right k r) → Holds r
 unfolding Holds
-holds (file f v) h = λ area l. let m = many area l in judged-with f area l ∙ ap (judgedWith f) (m .1) ∙ h (m .0)
+holds (file f v) h = λ area l. let m = many area l in judged-with (combined f) area l ∙ ap (judgedWith (combined f)) (m .1) ∙ h (m .0)
+holds (files g f v) h = λ area l. let m = many area l in judged-with (pair g f) area l ∙ ap (judgedWith (pair g f)) (m .1) ∙ h (m .0)
+holds (hands x w at bytes) h = λ area l.
+    let m = many area l in ap (offending x) (read-with x area l) ∙ ap (λ (n : ℕ). offending x (readWith x n)) (m .1) ∙ h (m .0)
 holds (below xs ys) h = h 0
 holds (notBelow xs ys) h = h 0
 

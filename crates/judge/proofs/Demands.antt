@@ -21,6 +21,7 @@ use Rattle.pws.proofs.Ranges.{keeps-ranges}
 use Rattle.lists.specs.Verdict as lists
 use Rattle.lists.specs.Decision as decision
 use Rattle.lists.proofs.Verdict.{verdict-unique, verdict-judged, safe-visited}
+use Rattle.whole_file.specs.declared.evidence.Part.{Part}
 use Rattle.whole_file.specs.Reading as reading
 use Rattle.by_number.specs.Contents.{ListRead, StepOf}
 use Rattle.by_number.proofs.Contents.{list-read, run-read, pso-run-read}
@@ -79,7 +80,7 @@ kind (refused n k) = 2
 kind (pso n k) = 3
 kind (entered k s) = 4
 
-abbrev code : Verdict → ℕ
+abbrev pub code : Verdict → ℕ
 code (safe n) = 15
 code (reachable n k) = 14
 code (pso n k) = 14
@@ -162,7 +163,7 @@ number-step n = ⊎-elim (λ e. (State, sym e)) (λ l. elim (ℕ-discrete 15 n) 
 ])
 
 -- safe and 9 to 11 are said of lists alone, reachable, pso and the numbers from 12 on of runs alone
-abbrev isRun : Verdict → Bool
+abbrev pub isRun : Verdict → Bool
 isRun (safe n) = false
 isRun (reachable n k) = true
 isRun (pso n k) = true
@@ -175,7 +176,7 @@ list-not (lists.unheld k) = refl
 list-not (lists.started k) = refl
 list-not (lists.entered k s) = refl
 
-run-is : (v : RunAnswer) → isRun (ofRun v) ≡ true
+pub run-is : (v : RunAnswer) → isRun (ofRun v) ≡ true
 run-is (Reachable n k) = refl
 run-is (Stopped k State) = refl
 run-is (Stopped k Queue) = refl
@@ -184,7 +185,7 @@ run-is (Stopped k Value) = refl
 run-is (Stopped k Nothing) = refl
 run-is (Missed n) = refl
 
-pso-is : (v : RunAnswer) → isRun (ofPsoRun v) ≡ true
+pub pso-is : (v : RunAnswer) → isRun (ofPsoRun v) ≡ true
 pso-is (Reachable n k) = refl
 pso-is (Stopped k State) = refl
 pso-is (Stopped k Queue) = refl
@@ -197,30 +198,30 @@ never-both : (v : lists.ListVerdict) (w : Verdict) → isRun w ≡ true → ofLi
 never-both v w i e = subst T (sym (sym (list-not v) ∙ ap isRun e ∙ i)) tt
 
 -- and none of them is a number of the reading
-run-high : (w : Verdict) → isRun w ≡ true → 9 ≤ code w
+pub run-high : (w : Verdict) → isRun w ≡ true → 9 ≤ code w
 run-high (safe n) i = absurd (subst T (sym i) tt)
 run-high (reachable n k) i = omega arith
 run-high (pso n k) i = omega arith
 run-high (refused n k) i = omega (arith, leb-true 12 n i)
 run-high (entered k s) i = omega arith
 
-list-code : (v : lists.ListVerdict) → 9 ≤ code (ofList v)
+pub list-code : (v : lists.ListVerdict) → 9 ≤ code (ofList v)
 list-code (lists.safe n) = omega arith
 list-code (lists.unheld k) = omega arith
 list-code (lists.started k) = omega arith
 list-code (lists.entered k s) = omega arith
 
-module _ (f : List ℕ) (area : ℕ) where
+module _ (u : reading.Input) (area : ℕ) where
   abbrev Reads : reading.FileRead → Type 0
-  Reads r = reading.readFile f area ≡ r
+  Reads r = reading.readFile u area ≡ r
 
-  judged-as : (r : reading.FileRead) → Reads r → judged f area ≡ ofFile r
+  judged-as : (r : reading.FileRead) → Reads r → judged u area ≡ ofFile r
   unfolding judged
   judged-as r q = ap ofFile q
 
   module _ (P : Program) (ts : List (ℕ → ℕ)) (es : List Configuration) (q : Reads (reading.list P ts es)) where
     read : ListRead P ts es area
-    read = list-read f area q
+    read = list-read u area q
 
     pub list-range : ProgramInRange P
     list-range = read .part .program
@@ -230,20 +231,20 @@ module _ (f : List ℕ) (area : ℕ) where
         verdict-judged P list-range es (λ k l. read .entries k l .of) ts (λ k l. read .part .targets k l) (λ k l. read .entries k l .first)
 
   pub run-range : (P : Program) (ts : List (ℕ → ℕ)) (m : List ℕ) (ss : List Step) → Reads (reading.run P ts m ss) → ProgramInRange P
-  run-range P ts m ss q = run-read f area q .part .program
+  run-range P ts m ss q = run-read u area q .part .program
 
   run-memory : (P : Program) (ts : List (ℕ → ℕ)) (m : List ℕ) (ss : List Step) → Reads (reading.run P ts m ss) → StartingMemory (P .shape) m
-  run-memory P ts m ss q = run-read f area q .permitted
+  run-memory P ts m ss q = run-read u area q .permitted
 
   module _ (P : Program) (ts : List (ℕ → ℕ)) (m : List ℕ) (ss : List Step) (q : Reads (reading.psoRun P ts m ss)) where
     pub pso-run-range : ProgramInRange P
-    pso-run-range = pso-run-read f area q .part .program
+    pso-run-range = pso-run-read u area q .part .program
 
     pso-run-memory : StartingMemory (P .shape) m
-    pso-run-memory = pso-run-read f area q .permitted
+    pso-run-memory = pso-run-read u area q .permitted
 
   file-judged : (r : reading.FileRead) → Reads r → FileJudged r (ofFile r) × ((v : Verdict) → FileJudged r v → v ≡ ofFile r)
-  file-judged (reading.refused r) q = (refl, λ v e. e)
+  file-judged (reading.refused w₀ r) q = (refl, λ v e. e)
   file-judged (reading.list P ts es) q =
       let j = file-list-judged P ts es q in
       ((decision.verdictOf P ts es, j, refl), λ v x. x .2 ∙ ap ofList (verdict-unique P ts es (x .0) (decision.verdictOf P ts es) (x .1) j))
@@ -252,16 +253,16 @@ module _ (f : List ℕ) (area : ℕ) where
 
   -- what is said of a list, and of a run
 
-  pub list-said : (v : lists.ListVerdict) → (judged f area ≡ ofList v) ↔ OfList f area (λ P ts es. lists.ListJudged P ts es v)
+  pub list-said : (v : lists.ListVerdict) → (judged u area ≡ ofList v) ↔ OfList u area (λ P ts es. lists.ListJudged P ts es v)
   list-said v = (
-    λ e. go (reading.readFile f area) refl e,
+    λ e. go (reading.readFile u area) refl e,
     λ x.
         judged-as _ (x .reads)
         ∙ ap ofList (verdict-unique (x .program) (x .targets) (x .entries) (decision.verdictOf (x .program) (x .targets) (x .entries)) v (file-list-judged (x .program) (x .targets) (x .entries) (x .reads)) (x .holds)),
   )
     where
-      go : (r : reading.FileRead) → Reads r → judged f area ≡ ofList v → OfList f area (λ P ts es. lists.ListJudged P ts es v)
-      go (reading.refused r) q e = absurd (omega (arith, refused-low f area r q .1, list-code v, ap code (sym (judged-as _ q) ∙ e)))
+      go : (r : reading.FileRead) → Reads r → judged u area ≡ ofList v → OfList u area (λ P ts es. lists.ListJudged P ts es v)
+      go (reading.refused w₀ r) q e = absurd (omega (arith, refused-low u area w₀ r q .1, list-code v, ap code (sym (judged-as _ q) ∙ e)))
       go (reading.list P ts es) q e =
           let z = sym (list-back (decision.verdictOf P ts es)) ∙ ap toList (sym (judged-as _ q) ∙ e) ∙ list-back v in
           record { program = P; targets = ts; entries = es; reads = q; holds = subst (lists.ListJudged P ts es) z (file-list-judged P ts es q) }
@@ -269,26 +270,26 @@ module _ (f : List ℕ) (area : ℕ) where
       go (reading.psoRun P ts m ss) q e = absurd (never-both v _ (pso-is (psoRunAnswer P m ts (psoSteps ss))) (sym e ∙ judged-as _ q))
 
   abbrev Run : RunAnswer → Type 0
-  Run v = OfRun f area (λ P ts m ss. RunJudged P ts m ss v)
+  Run v = OfRun u area (λ P ts m ss. RunJudged P ts m ss v)
 
   abbrev PsoRun : RunAnswer → Type 0
-  PsoRun v = OfPsoRun f area (λ P ts m us. PsoAnswered P m ts us v)
+  PsoRun v = OfPsoRun u area (λ P ts m us. PsoAnswered P m ts us v)
 
-  said-run : (v : RunAnswer) → Run v → judged f area ≡ ofRun v
+  said-run : (v : RunAnswer) → Run v → judged u area ≡ ofRun v
   said-run v x =
       judged-as _ (x .reads) ∙ ap ofRun (run-only (x .program) (run-range _ _ _ _ (x .reads)) (x .targets) (x .memory) (run-memory _ _ _ _ (x .reads)) (x .steps) v (x .holds))
 
-  said-pso : (v : RunAnswer) → PsoRun v → judged f area ≡ ofPsoRun v
+  said-pso : (v : RunAnswer) → PsoRun v → judged u area ≡ ofPsoRun v
   said-pso v x =
       judged-as _ (x .reads)
       ∙ ap ofPsoRun (sym (pso-only (x .program) (pso-run-range _ _ _ _ (x .reads)) (x .memory) (x .targets) (psoSteps (x .records)) v (x .holds)))
 
   -- w is the verdict of a run with the answer v, in one of the machines
-  one-of-runs : (v : RunAnswer) (w : Verdict) → isRun w ≡ true → toRun w ≡ v → judged f area ≡ w → (Run v × (w ≡ ofRun v)) ⊎ (PsoRun v × (w ≡ ofPsoRun v))
-  one-of-runs v w i b e = go (reading.readFile f area) refl
+  one-of-runs : (v : RunAnswer) (w : Verdict) → isRun w ≡ true → toRun w ≡ v → judged u area ≡ w → (Run v × (w ≡ ofRun v)) ⊎ (PsoRun v × (w ≡ ofPsoRun v))
+  one-of-runs v w i b e = go (reading.readFile u area) refl
     where
       go : (r : reading.FileRead) → Reads r → (Run v × (w ≡ ofRun v)) ⊎ (PsoRun v × (w ≡ ofPsoRun v))
-      go (reading.refused r) q = absurd (omega (arith, refused-low f area r q .1, run-high w i, ap code (sym (judged-as _ q) ∙ e)))
+      go (reading.refused w₀ r) q = absurd (omega (arith, refused-low u area w₀ r q .1, run-high w i, ap code (sym (judged-as _ q) ∙ e)))
       go (reading.list P ts es) q = absurd (never-both (decision.verdictOf P ts es) w i (sym (judged-as _ q) ∙ e))
       go (reading.run P ts m ss) q =
           let d : ofRun (runAnswer P ts m ss) ≡ w = sym (judged-as _ q) ∙ e in
@@ -321,28 +322,28 @@ module _ (f : List ℕ) (area : ℕ) where
           )
 
   -- a verdict that both machines can give
-  either-said : (v : RunAnswer) (w : Verdict) → w ≡ ofRun v → w ≡ ofPsoRun v → (judged f area ≡ w) ↔ (Run v ⊎ PsoRun v)
+  either-said : (v : RunAnswer) (w : Verdict) → w ≡ ofRun v → w ≡ ofPsoRun v → (judged u area ≡ w) ↔ (Run v ⊎ PsoRun v)
   either-said v w a b = (
     λ e. ⊎-elim (λ x. inl (x .0)) (λ x. inr (x .0)) (one-of-runs v w (ap isRun a ∙ run-is v) (ap toRun a ∙ run-back v) e),
     ⊎-elim (λ x. said-run v x ∙ sym a) (λ x. said-pso v x ∙ sym b),
   )
 
   -- one that the PWS machine alone gives, and one that the PSO machine alone gives
-  run-said : (v : RunAnswer) → (PsoRun v → ofRun v ≡ ofPsoRun v → ⊥) → (judged f area ≡ ofRun v) ↔ Run v
+  run-said : (v : RunAnswer) → (PsoRun v → ofRun v ≡ ofPsoRun v → ⊥) → (judged u area ≡ ofRun v) ↔ Run v
   run-said v n = (λ e. ⊎-elim (λ x. x .0) (λ x. absurd (n (x .0) (x .1))) (one-of-runs v (ofRun v) (run-is v) (run-back v) e), said-run v)
 
-  pso-said : (v : RunAnswer) → (ofPsoRun v ≡ ofRun v → ⊥) → (judged f area ≡ ofPsoRun v) ↔ PsoRun v
+  pso-said : (v : RunAnswer) → (ofPsoRun v ≡ ofRun v → ⊥) → (judged u area ≡ ofPsoRun v) ↔ PsoRun v
   pso-said v n = (λ e. ⊎-elim (λ x. absurd (n (x .1))) (λ x. x .0) (one-of-runs v (ofPsoRun v) (pso-is v) (pso-back v) e), said-pso v)
 
   -- and of the reading
 
-  pub reading-said : (n k : ℕ) → n ≤ 8 → (judged f area ≡ refused n k) ↔ Reads (reading.refused (record { number = n; place = k }))
-  reading-said n k l = (λ e. go (reading.readFile f area) refl e, λ q. judged-as _ q)
+  pub reading-said : (n k : ℕ) → n ≤ 8 → (judged u area ≡ refused n k) ↔ ((w : Part) × Reads (reading.refused w (record { number = n; place = k })))
+  reading-said n k l = (λ e. go (reading.readFile u area) refl e, λ q. judged-as _ (q .1))
     where
-      go : (r : reading.FileRead) → Reads r → judged f area ≡ refused n k → Reads (reading.refused (record { number = n; place = k }))
-      go (reading.refused r) q e =
+      go : (r : reading.FileRead) → Reads r → judged u area ≡ refused n k → (w : Part) × Reads (reading.refused w (record { number = n; place = k }))
+      go (reading.refused w₀ r) q e =
           let z = sym (judged-as _ q) ∙ e in
-          q ∙ ap₂ (λ (a b : ℕ). reading.refused (record { number = a; place = b })) (ap code z) (ap place z)
+          (w₀, q ∙ ap₂ (λ (a b : ℕ). reading.refused w₀ (record { number = a; place = b })) (ap code z) (ap place z))
       go (reading.list P ts es) q e = absurd (omega (arith, l, list-code (decision.verdictOf P ts es), ap code (sym (judged-as _ q) ∙ e)))
       go (reading.run P ts m ss) q e = absurd (omega (arith, l, run-high (ofRun (runAnswer P ts m ss)) (run-is (runAnswer P ts m ss)), ap code (sym (judged-as _ q) ∙ e)))
       go (reading.psoRun P ts m ss) q e = absurd (omega (arith, l, run-high (ofPsoRun (psoRunAnswer P m ts (psoSteps ss))) (pso-is (psoRunAnswer P m ts (psoSteps ss))), ap code (sym (judged-as _ q) ∙ e)))
@@ -351,78 +352,78 @@ module _ (f : List ℕ) (area : ℕ) where
 
 pub one-answer : OneAnswer
 unfolding Judged judged
-one-answer f area = file-judged f area (reading.readFile f area) refl
+one-answer u area = file-judged u area (reading.readFile u area) refl
 
 pub refused8 : Refused8
-refused8 f area k = (
-  λ e. go (reading-said f area 8 k (omega arith) .0 e),
+refused8 u area k = (
+  λ e. go (reading-said u area 8 k (omega arith) .0 e),
   λ x.
-      judged-as f area _ (short-file f area (x .0)) ∙ ap (refused 8) (sym (x .1)),
+      judged-as u area _ (short-file u area (x .0)) ∙ ap (refused 8) (sym (x .1)),
 )
   where
     placed : reading.FileRead → ℕ
-    placed (reading.refused r) = r .place
+    placed (reading.refused w₀ r) = r .place
     placed (reading.list P ts es) = 0
     placed (reading.run P ts m ss) = 0
     placed (reading.psoRun P ts m ss) = 0
 
-    go : reading.readFile f area ≡ reading.refused (record { number = 8; place = k }) → (area < 65536) × (k ≡ 0)
+    go : (w : Part) × (reading.readFile u area ≡ reading.refused w (record { number = 8; place = k })) → (area < 65536) × (k ≡ 0)
     go q = elim (decLt area 65536) [
-      | yes l ↦ (l, sym (ap placed q) ∙ ap placed (short-file f area l))
-      | no l ↦ absurd (omega (arith, refused-large f area _ q (omega arith)))
+      | yes l ↦ (l, sym (ap placed (q .1)) ∙ ap placed (short-file u area l))
+      | no l ↦ absurd (omega (arith, refused-large u area (q .0) _ (q .1) (omega arith)))
     ]
 
 pub refused-reading : RefusedReading
-refused-reading f area n k l = reading-said f area n k l
+refused-reading u area n k l = reading-said u area n k l
 
 pub refused9 : Refused9
-refused9 f area k = list-said f area (lists.unheld k)
+refused9 u area k = list-said u area (lists.unheld k)
 
 pub refused10 : Refused10
-refused10 f area k = list-said f area (lists.started k)
+refused10 u area k = list-said u area (lists.started k)
 
 pub refused11 : Refused11
-refused11 f area k s = list-said f area (lists.entered k s)
+refused11 u area k s = list-said u area (lists.entered k s)
 
 pub refused12 : Refused12
-refused12 f area k = either-said f area (Stopped k State) (refused 12 k) refl refl
+refused12 u area k = either-said u area (Stopped k State) (refused 12 k) refl refl
 
 pub refused16 : Refused16
-refused16 f area k = either-said f area (Stopped k Queue) (refused 16 k) refl refl
+refused16 u area k = either-said u area (Stopped k Queue) (refused 16 k) refl refl
 
 pub refused17 : Refused17
-refused17 f area k = run-said f area (Stopped k Pointer) (λ x e. never-pointer (x .program) (x .holds .before) (getD (psoSteps (x .records)) k (RemoveMark 0)) (x .holds .because))
+refused17 u area k = run-said u area (Stopped k Pointer) (λ x e. never-pointer (x .program) (x .holds .before) (getD (psoSteps (x .records)) k (RemoveMark 0)) (x .holds .because))
 
 pub no-pointer : NoPointer
-no-pointer f area k x e = let z : _≡_ {A = ℕ} 0 1 = ap machine (sym (refused17 f area k .0 e .reads) ∙ x .reads) in omega arith
+no-pointer u area k x e = let z : _≡_ {A = ℕ} 0 1 = ap machine (sym (refused17 u area k .0 e .reads) ∙ x .reads) in omega arith
   where
     machine : reading.FileRead → ℕ
-    machine (reading.refused r) = 0
+    machine (reading.refused w₀ r) = 0
     machine (reading.list P ts es) = 0
     machine (reading.run P ts m ss) = 0
     machine (reading.psoRun P ts m ss) = 1
 
 pub refused15 : Refused15
-refused15 f area k = either-said f area (Stopped k Value) (refused 15 k) refl refl
+refused15 u area k = either-said u area (Stopped k Value) (refused 15 k) refl refl
 
 pub refused18 : Refused18
-refused18 f area k = either-said f area (Stopped k Nothing) (refused 18 k) refl refl
+refused18 u area k = either-said u area (Stopped k Nothing) (refused 18 k) refl refl
 
 pub refused-step : RefusedStep
-refused-step f area k = (
+refused-step u area k = (
   λ w.
       let c = number-step (w .0) (w .1) in
       ⊎-elim (λ x. inl (run-cannot (c .0) x)) (λ x. inr (pso-cannot (c .0) x))
-      (either-said f area (Stopped k (c .0)) (refused (causeNumber (c .0)) k) refl refl .0 (w .2 ∙ ap (λ (m : ℕ). refused m k) (sym (c .1)))),
+      (either-said u area (Stopped k (c .0)) (refused (causeNumber (c .0)) k) refl refl .0 (w .2 ∙ ap (λ (m : ℕ). refused m k) (sym (c .1)))),
   ⊎-elim
       (λ x.
-      let w = cannot-stopped (x .program) (run-range f area _ _ _ _ (x .reads)) (x .targets) (x .memory) (run-memory f area _ _ _ _ (x .reads)) (x .steps) k (x .holds) in
-      (causeNumber (w .0), step-number (w .0), judged-as f area _ (x .reads) ∙ ap ofRun (w .1)))
+      let w = cannot-stopped (x .program) (run-range u area _ _ _ _ (x .reads)) (x .targets) (x .memory) (run-memory u area _ _ _ _ (x .reads)) (x .steps) k (x .holds) in
+      (causeNumber (w .0), step-number (w .0), judged-as u area _ (x .reads) ∙ ap ofRun (w .1)))
       (λ x.
       let w = halts-stopped (x .program) (x .memory) (psoSteps (x .records)) k (x .holds) in (
         causeNumber (w .0),
         step-number (w .0),
-        said-pso f area (Stopped k (w .0)) (record {
+        said-pso u area (Stopped k (w .0)) (record {
           program = x .program;
           targets = x .targets;
           memory = x .memory;
@@ -433,7 +434,7 @@ refused-step f area k = (
       )),
 )
   where
-    run-cannot : (cause : Cause) → OfRun f area (λ P ts m ss. RunJudged P ts m ss (Stopped k cause)) → OfRun f area (λ P ts m ss. Stops Cannot P m ss k)
+    run-cannot : (cause : Cause) → OfRun u area (λ P ts m ss. RunJudged P ts m ss (Stopped k cause)) → OfRun u area (λ P ts m ss. Stops Cannot P m ss k)
     run-cannot cause x =
         record {
           program = x .program;
@@ -441,10 +442,10 @@ refused-step f area k = (
           memory = x .memory;
           steps = x .steps;
           reads = x .reads;
-          holds = stopped-cannot (x .program) (run-range f area _ _ _ _ (x .reads)) (x .targets) (x .memory) (run-memory f area _ _ _ _ (x .reads)) (x .steps) k cause (x .holds);
+          holds = stopped-cannot (x .program) (run-range u area _ _ _ _ (x .reads)) (x .targets) (x .memory) (run-memory u area _ _ _ _ (x .reads)) (x .steps) k cause (x .holds);
         }
 
-    pso-cannot : (cause : Cause) → OfPsoRun f area (λ P ts m us. PsoAnswered P m ts us (Stopped k cause)) → OfPsoRun f area (λ P ts m us. PsoHalts P m us k)
+    pso-cannot : (cause : Cause) → OfPsoRun u area (λ P ts m us. PsoAnswered P m ts us (Stopped k cause)) → OfPsoRun u area (λ P ts m us. PsoHalts P m us k)
     pso-cannot cause x =
         record {
           program = x .program;
@@ -456,10 +457,10 @@ refused-step f area k = (
         }
 
 pub refused13 : Refused13
-refused13 f area n = either-said f area (Missed n) (refused 13 n) refl refl
+refused13 u area n = either-said u area (Missed n) (refused 13 n) refl refl
 
 pub no-other : NoOther
-no-other f area n k e = go (reading.readFile f area) refl
+no-other u area n k e = go (reading.readFile u area) refl
   where
     list-most : (v : lists.ListVerdict) → ofList v ≡ refused n k → (9 ≤ n) × (n ≤ 10)
     list-most (lists.safe m) e = absurd (let z : _≡_ {A = ℕ} _ 2 = ap kind e in omega arith)
@@ -480,19 +481,19 @@ no-other f area n k e = go (reading.readFile f area) refl
     pso-most (Stopped m cause) e = run-most (Stopped m cause) e
     pso-most (Missed m) e = run-most (Missed m) e
 
-    go : (r : reading.FileRead) → reading.readFile f area ≡ r → (1 ≤ n) × (n ≤ 18) × (n ≡ 11 → ⊥) × (n ≡ 14 → ⊥)
-    go (reading.refused r) q =
-        let w = refused-low f area r q in
-        let z : r .number ≡ n = ap code (sym (judged-as f area _ q) ∙ e) in
+    go : (r : reading.FileRead) → reading.readFile u area ≡ r → (1 ≤ n) × (n ≤ 18) × (n ≡ 11 → ⊥) × (n ≡ 14 → ⊥)
+    go (reading.refused w₀ r) q =
+        let w = refused-low u area w₀ r q in
+        let z : r .number ≡ n = ap code (sym (judged-as u area _ q) ∙ e) in
         (omega (arith, w .0), omega (arith, w .1), λ x. omega (arith, w .1), λ x. omega (arith, w .1))
     go (reading.list P ts es) q =
-        let w = list-most (decision.verdictOf P ts es) (sym (judged-as f area _ q) ∙ e) in
+        let w = list-most (decision.verdictOf P ts es) (sym (judged-as u area _ q) ∙ e) in
         (omega (arith, w .0), omega (arith, w .1), λ x. omega (arith, w .1), λ x. omega (arith, w .1))
     go (reading.run P ts m ss) q =
-        let w = run-most (runAnswer P ts m ss) (sym (judged-as f area _ q) ∙ e) in
+        let w = run-most (runAnswer P ts m ss) (sym (judged-as u area _ q) ∙ e) in
         (omega (arith, w .0), w .1, λ x. omega (arith, w .0), w .2)
     go (reading.psoRun P ts m ss) q =
-        let w = pso-most (psoRunAnswer P m ts (psoSteps ss)) (sym (judged-as f area _ q) ∙ e) in
+        let w = pso-most (psoRunAnswer P m ts (psoSteps ss)) (sym (judged-as u area _ q) ∙ e) in
         (omega (arith, w .0), w .1, λ x. omega (arith, w .0), w .2)
 
 -- the step of 11 is one of the file's program
@@ -504,55 +505,55 @@ step-of P c (Serialise p v) t =
 step-of P c (Update p) t =
     ltb→lt p (P .shape .processes) (and-yes (ltb p (P .shape .processes)) (ltb (c .memory .pointer p) (length (c .memory .channel))) t .0)
 
-pub entered-step : (f : List ℕ) (area k : ℕ) (s : Step) → judged f area ≡ entered k s
+pub entered-step : (u : reading.Input) (area k : ℕ) (s : Step) → judged u area ≡ entered k s
     → (P : Program) × ProgramInRange P × (length (P .transitions) ≤ 256) × StepOf P s
-entered-step f area k s e =
-    let x = refused11 f area k s .0 e in
-    let R = list-read f area (x .reads) in
+entered-step u area k s e =
+    let x = refused11 u area k s .0 e in
+    let R = list-read u area (x .reads) in
     let w = x .holds .way .way in
     (x .program, R .part .program, R .part .transitions, step-of (x .program) (w .configuration) s (w .permitted))
 
 -- ---- demand 2
 
 pub accepted-list : AcceptedList
-accepted-list f area n = list-said f area (lists.safe n)
+accepted-list u area n = list-said u area (lists.safe n)
 
 pub accepted-run : AcceptedRun
-accepted-run f area n k = run-said f area (Reachable n k) (λ x e. let z : _≡_ {A = ℕ} 1 3 = ap kind e in omega arith)
+accepted-run u area n k = run-said u area (Reachable n k) (λ x e. let z : _≡_ {A = ℕ} 1 3 = ap kind e in omega arith)
 
 pub accepted-pso-run : AcceptedPsoRun
-accepted-pso-run f area n k = pso-said f area (Reachable n k) (λ e. let z : _≡_ {A = ℕ} 3 1 = ap kind e in omega arith)
+accepted-pso-run u area n k = pso-said u area (Reachable n k) (λ e. let z : _≡_ {A = ℕ} 3 1 = ap kind e in omega arith)
 
 -- ---- demand 3
 
 pub safety : Safety
-safety f area n e =
-    let x = accepted-list f area n .0 e in
+safety u area n e =
+    let x = accepted-list u area n .0 e in
     record {
       program = x .program;
       targets = x .targets;
       entries = x .entries;
       reads = x .reads;
       holds = λ c i ss d v.
-          safe-visited (x .program) (list-range f area (x .program) (x .targets) (x .entries) (x .reads)) (x .targets) (x .entries) (x .holds .1) i ss v;
+          safe-visited (x .program) (list-range u area (x .program) (x .targets) (x .entries) (x .reads)) (x .targets) (x .entries) (x .holds .1) i ss v;
     }
 
 simulated : (P : Program) → ProgramInRange P → Simulated P
 simulated P R c d e oc od B ss t = simulation P R d oc od B t
 
 pub simulation-holds : Simulation
-simulation-holds f area P ts = (
-  λ es q. simulated P (list-range f area P ts es q),
-  λ m ss q. simulated P (run-range f area P ts m ss q),
-  λ m ss q. simulated P (pso-run-range f area P ts m ss q),
+simulation-holds u area P ts = (
+  λ es q. simulated P (list-range u area P ts es q),
+  λ m ss q. simulated P (run-range u area P ts m ss q),
+  λ m ss q. simulated P (pso-run-range u area P ts m ss q),
 )
 
 in-range : (f : List ℕ) (P : Program) → ProgramInRange P → CountsOf (P .shape) (countsIn f) → CountsOf (P .shape) (countsIn f) × KeepsRanges P (countsIn f)
 in-range f P R C = (C, keeps-ranges P R (countsIn f) C)
 
 pub values-in-range : ValuesInRange
-values-in-range f area P ts = (
-  λ es q. in-range f P (list-range f area P ts es q) (subst (HasCounts f) q (file-counts f area)),
-  λ m ss q. in-range f P (run-range f area P ts m ss q) (subst (HasCounts f) q (file-counts f area)),
-  λ m ss q. in-range f P (pso-run-range f area P ts m ss q) (subst (HasCounts f) q (file-counts f area)),
+values-in-range u area P ts = (
+  λ es q. in-range (u .code) P (list-range u area P ts es q) (subst (HasCounts (u .code)) q (file-counts u area)),
+  λ m ss q. in-range (u .code) P (run-range u area P ts m ss q) (subst (HasCounts (u .code)) q (file-counts u area)),
+  λ m ss q. in-range (u .code) P (pso-run-range u area P ts m ss q) (subst (HasCounts (u .code)) q (file-counts u area)),
 )

@@ -91,10 +91,10 @@ group-more S d g i (suc n) =
 
 pub group-numbered : GroupNumbered
 unfolding sameStates equalStates inGroup
-group-numbered f list sum n p Z k l first = Z .summed .grouped .numbers k l ∙ leading ∙ counted n ∙ ap (λ (c : Configuration). length (group S (entriesOf f list n) c)) (ap g (zero-plus k) ∙ sym (at n 0 k l))
+group-numbered c₀ f list sum n p Z k l first = Z .summed .grouped .numbers k l ∙ leading ∙ counted n ∙ ap (λ (c : Configuration). length (group S (entriesOf f list n) c)) (ap g (zero-plus k) ∙ sym (at n 0 k l))
   where
     S : Shape
-    S = programOf f p .shape
+    S = programOf c₀ p .shape
 
     zero-plus : (x : ℕ) → x ≡ 0 + x
     zero-plus x = omega arith

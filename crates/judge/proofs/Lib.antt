@@ -11,3 +11,4 @@ pub mod SummaryLaws
 pub mod ListLaws
 pub mod JudgeLaws
 pub mod GroupLaws
+pub mod Pairs

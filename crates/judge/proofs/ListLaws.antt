@@ -47,18 +47,18 @@ by-start x y v k e d = ap₂ (λ (o u : Option ℕ). said o u v) e d
 by-neither : (x y : Option ℕ) (v : lists.ListVerdict) → x ≡ none → y ≡ none → said x y v ≡ ofList v
 by-neither x y v e d = ap₂ (λ (o u : Option ℕ). said o u v) e d
 
-module _ (f list sum : List ℕ) (n : ℕ) (p : Program) where
+module _ (g f list sum : List ℕ) (n : ℕ) (p : Program) where
   abbrev P : pws.Program
-  P = programOf f p
+  P = programOf g p
 
   abbrev es : List Configuration
   es = entriesOf f list n
 
   abbrev ts : List (ℕ → ℕ)
-  ts = targetsOf f p
+  ts = targetsOf g p
 
   targets-length : length ts ≡ p .targets .count
-  targets-length = table-length (λ i. stateAt f (p .targets .at + 5 * i)) 0 (p .targets .count)
+  targets-length = table-length (λ i. stateAt g (p .targets .at + 5 * i)) 0 (p .targets .count)
 
   entries-length : length es ≡ n
   entries-length = table-length (λ i. configurationOf (cubeAt f list i)) 0 n
@@ -68,7 +68,7 @@ module _ (f list sum : List ℕ) (n : ℕ) (p : Program) where
 
   -- ---- what the units ask for
 
-  module _ (R : Ready f list sum n p) where
+  module _ (R : Ready g f list sum n p) where
     pub searches : Searches f list sum n (p .shape)
     searches =
         record {
@@ -83,26 +83,26 @@ module _ (f list sum : List ℕ) (n : ℕ) (p : Program) where
 
   -- ---- what they say
 
-  pub held-by : Ready f list sum n p → (k : ℕ) → k < p .targets .count → (states : List ℕ) (r : Bool) → states ≡ targetOf f p k
+  pub held-by : Ready g f list sum n p → (k : ℕ) → k < p .targets .count → (states : List ℕ) (r : Bool) → states ≡ targetOf g p k
       → ((Q : pws.Program) → Q .shape ≡ shapeOf (p .shape) → Searches f list sum n (p .shape) → r ≡ targetHeld Q es (λ q. getD states q 0))
-      → r ≡ heldTest f list n p k
+      → r ≡ heldTest g f list n p k
   held-by R k l states r e h =
       h P refl (searches R)
       ∙ ap (λ (s : List ℕ). targetHeld P es (λ q. getD s q 0)) e
-      ∙ ap (targetHeld P es) (sym (target-again f p k l))
+      ∙ ap (targetHeld P es) (sym (target-again g p k l))
 
-  pub start-by : Ready f list sum n p → (k : ℕ) → k < n → (cube : Cube) (r : Bool) → cube ≡ cubeAt f list k
+  pub start-by : Ready g f list sum n p → (k : ℕ) → k < n → (cube : Cube) (r : Bool) → cube ≡ cubeAt f list k
       → (Small (p .shape) → r ≡ looksStarted (startsOf (p .shape) (p .initial)) (configurationOf cube))
-      → not r ≡ startTest f list n p k
+      → not r ≡ startTest g f list n p k
   start-by R k l cube r e h =
       ap not (h (small R) ∙ ap (λ (c : Cube). looksStarted P (configurationOf c)) e ∙ ap (looksStarted P) (sym (entry-is k l)))
 
-  opening-by : Ready f list sum n p → (k : ℕ) → k < n → (r : Opening)
-      → (Walkable f f list sum n p (cubeAt f list k) → r ≡ openingOf P es (configurationOf (cubeAt f list k)))
+  opening-by : Ready g f list sum n p → (k : ℕ) → k < n → (r : Opening)
+      → (Walkable g f list sum n p (cubeAt f list k) → r ≡ openingOf P es (configurationOf (cubeAt f list k)))
       → openingOf P es (entry es k) ≡ r
   opening-by R k l r h =
       ap (openingOf P es) (entry-is k l)
-      ∙ sym (h (walkable f f list sum n p (cubeAt f list k) (R .count) (R .sizes .transitions) (R .part .program) (searches R .entries)
+      ∙ sym (h (walkable g f list sum n p (cubeAt f list k) (R .count) (R .sizes .transitions) (R .part .program) (searches R .entries)
       (subst (EntryOf P) (entry-is k l) (R .entries k l .of)) (R .cubes k l) (R .summed)))
 
   -- ---- the verdict
@@ -122,7 +122,7 @@ module _ (f list sum : List ℕ) (n : ℕ) (p : Program) where
   abbrev last : lists.ListVerdict
   last = elim z [ some k ↦ lists.entered k (way k) | none ↦ lists.safe (length es) ]
 
-  last-said : enteredSaid f list n p ≡ ofList last
+  last-said : enteredSaid g f list n p ≡ ofList last
   last-said = go z
     where
       go : (o : Option ℕ) → elim o [ some k ↦ entered k (way k) | none ↦ safe n ] ≡ ofList (elim o [ some k ↦ lists.entered k (way k) | none ↦ lists.safe (length es) ])
@@ -132,37 +132,37 @@ module _ (f list sum : List ℕ) (n : ℕ) (p : Program) where
   -- ---- the entries in turn
 
   -- entry k is closed
-  pub closed-here : Ready f list sum n p → (k : ℕ) → k < n → (r : Opening)
-      → (Walkable f f list sum n p (cubeAt f list k) → r ≡ openingOf P es (configurationOf (cubeAt f list k)))
-      → r ≡ Shut → closedTest f list n p k ≡ true
+  pub closed-here : Ready g f list sum n p → (k : ℕ) → k < n → (r : Opening)
+      → (Walkable g f list sum n p (cubeAt f list k) → r ≡ openingOf P es (configurationOf (cubeAt f list k)))
+      → r ≡ Shut → closedTest g f list n p k ≡ true
   closed-here R k l r h e = opening-shut P es (entry es k) (opening-by R k l r h ∙ e)
 
   -- it is the first that is not, and s is its lowest step
-  pub entered-here : Ready f list sum n p → (k : ℕ) → k < n → (r : Opening)
-      → (Walkable f f list sum n p (cubeAt f list k) → r ≡ openingOf P es (configurationOf (cubeAt f list k)))
-      → (s : Step) → r ≡ Through s → SoFar (closedTest f list n p) n k → entered k s ≡ enteredSaid f list n p
+  pub entered-here : Ready g f list sum n p → (k : ℕ) → k < n → (r : Opening)
+      → (Walkable g f list sum n p (cubeAt f list k) → r ≡ openingOf P es (configurationOf (cubeAt f list k)))
+      → (s : Step) → r ≡ Through s → SoFar (closedTest g f list n p) n k → entered k s ≡ enteredSaid g f list n p
   entered-here R k l r h s e w =
       let o = opening-through P es (entry es k) s (opening-by R k l r h ∙ e) in
       sym (ap (λ (z : Option ℕ). elim z [ some k ↦ entered k (way k) | none ↦ safe n ])
       (lowest-some (closed P es) noEntry es n k entries-length (so-far-fails w l (o .0)) l) ∙ ap (entered k) (o .1))
 
   -- all are
-  pub safe-here : (k : ℕ) → SoFar (closedTest f list n p) n k → n ≤ k → safe n ≡ enteredSaid f list n p
+  pub safe-here : (k : ℕ) → SoFar (closedTest g f list n p) n k → n ≤ k → safe n ≡ enteredSaid g f list n p
   safe-here k w l =
       sym (ap (λ (z : Option ℕ). elim z [ some k ↦ entered k (way k) | none ↦ safe n ])
       (lowest-none (closed P es) noEntry es n n entries-length (so-far-all w l) (omega arith)))
 
-  module _ (a : ℕ) (A : LowestFailing (heldTest f list n p) (p .targets .count) a) where
-    pub said-unheld : a < p .targets .count → refused 9 a ≡ listSaid f list n p
+  module _ (a : ℕ) (A : LowestFailing (heldTest g f list n p) (p .targets .count) a) where
+    pub said-unheld : a < p .targets .count → refused 9 a ≡ listSaid g f list n p
     said-unheld l = sym (by-held x y last a (lowest-some (targetHeld P es) noTarget ts (p .targets .count) a targets-length A l))
 
-    module _ (b : ℕ) (B : LowestFailing (startTest f list n p) n b) (l : p .targets .count ≤ a) where
+    module _ (b : ℕ) (B : LowestFailing (startTest g f list n p) n b) (l : p .targets .count ≤ a) where
       all-held : x ≡ none
       all-held = lowest-none (targetHeld P es) noTarget ts (p .targets .count) a targets-length A l
 
-      pub said-started : b < n → refused 10 b ≡ listSaid f list n p
+      pub said-started : b < n → refused 10 b ≡ listSaid g f list n p
       said-started m = sym (by-start x y last b all-held (lowest-some (λ e. not (looksStarted P e)) noEntry es n b entries-length B m))
 
-      pub said-last : n ≤ b → enteredSaid f list n p ≡ listSaid f list n p
+      pub said-last : n ≤ b → enteredSaid g f list n p ≡ listSaid g f list n p
       said-last m =
           last-said ∙ sym (by-neither x y last all-held (lowest-none (λ e. not (looksStarted P e)) noEntry es n b entries-length B m))

@@ -64,7 +64,9 @@ use Rattle.whole_file.specs.EvidencePart.{
   entryThen,
   entriesFrom,
 }
-use Rattle.whole_file.specs.Reading.{Evidence, refusal, entries, steps, claimThen, evidenceFrom, runEvidence, twoParts, partsOf, FileRead, refused, list, run, psoRun, listRead, partsRead, readFile}
+use Rattle.whole_file.specs.declared.evidence.Part.{Part}
+use Rattle.whole_file.specs.declared.evidence.Part.the-variants.{InProgram}
+use Rattle.whole_file.specs.Reading.{Input, evidenceAt, Evidence, refusal, entries, steps, claimThen, evidenceFrom, runEvidence, twoParts, partsOf, FileRead, refused, list, run, psoRun, listRead, partsRead, readFile}
 use Rattle.whole_file.proofs.ReadingLaws.{parts-short, parts-refused, parts-both}
 
 -- ---- what a refusal is
@@ -93,7 +95,7 @@ LowEvidence (entries r) = LowChecked (r .answer)
 LowEvidence (steps claim m n) = LowCounted n
 
 abbrev LowFile : FileRead → Type 0
-LowFile (refused r) = Low r
+LowFile (refused w r) = Low r
 LowFile (list P ts es) = Unit {0}
 LowFile (run P ts m ss) = Unit {0}
 LowFile (psoRun P ts m ss) = Unit {0}
@@ -163,23 +165,23 @@ transitions-low : (s : Shape) (states f : List ℕ) (at : ℕ) → LowCounted (t
 unfolding transitionsFrom transitionNumber
 transitions-low s states f at = row-low _ _ _ (λ k n. checked-low (transitionNumber s states f k n) k (first-low _ _ _ _ _)) 256 at 0
 
-targets-low : (s : Shape) (states f : List ℕ) (at : ℕ) → LowCounted (targetsFrom s states f at)
+targets-low : (alone : Bool) (s : Shape) (states f : List ℕ) (at : ℕ) → LowCounted (targetsFrom alone s states f at)
 unfolding targetsFrom targetNumber
-targets-low s states f at = row-low _ _ _ (λ k n. unless-low f k _ (checked-low (targetNumber s states f k n) k (first-low _ _ _ _ _))) 16 at 0
+targets-low alone s states f at = row-low _ _ _ (λ k n. unless-low f k _ (checked-low (targetNumber s states f k n) k (first-low _ _ _ _ _))) 16 at 0
 
-rows-low : (f : List ℕ) (at : ℕ) (s : Shape) (states initial : List ℕ) → LowChecked (rowsFrom f at s states initial .answer)
+rows-low : (alone : Bool) (f : List ℕ) (at : ℕ) (s : Shape) (states initial : List ℕ) → LowChecked (rowsFrom alone f at s states initial .answer)
 unfolding rowsFrom
-rows-low f at s states initial =
+rows-low alone f at s states initial =
     with-low (transitionsFrom s states f at) _ (transitions-low s states f at) (λ n.
-    with-low (targetsFrom s states f _) _ (targets-low s states f _) (λ m. tt))
+    with-low (targetsFrom alone s states f _) _ (targets-low alone s states f _) (λ m. tt))
 
-rest-low : (f : List ℕ) (at : ℕ) (s : Shape) → LowChecked (restFrom f at s .answer)
+rest-low : (alone : Bool) (f : List ℕ) (at : ℕ) (s : Shape) → LowChecked (restFrom alone f at s .answer)
 unfolding restFrom
-rest-low f at s = or-low (statesFrom f at (s .processes)) _ (states-low f (s .processes) at) (rows-low f _ s _ _)
+rest-low alone f at s = or-low (statesFrom f at (s .processes)) _ (states-low f (s .processes) at) (rows-low alone f _ s _ _)
 
-program-low : (f : List ℕ) (at : ℕ) → LowChecked (programFrom f at .answer)
+program-low : (alone : Bool) (f : List ℕ) (at : ℕ) → LowChecked (programFrom alone f at .answer)
 unfolding programFrom shapeNumber
-program-low f at = or-low (unlessEnd f at (checked (shapeNumber f at) at)) _ (unless-low f at _ (checked-low (shapeNumber f at) at (first-low _ _ _ _ _))) (rest-low f _ _)
+program-low alone f at = or-low (unlessEnd f at (checked (shapeNumber f at) at)) _ (unless-low f at _ (checked-low (shapeNumber f at) at (first-low _ _ _ _ _))) (rest-low alone f _ _)
 
 -- ---- the evidence part
 
@@ -249,44 +251,47 @@ evidence-low f at p area =
 
 -- ---- the whole reading
 
--- 8 in an area that is too short, whatever the file
-pub short-file : (f : List ℕ) (area : ℕ) → area < 65536 → readFile f area ≡ refused (record { number = 8; place = 0 })
+-- 8 in an area that is too short, whatever is judged
+pub short-file : (x : Input) (area : ℕ) → area < 65536 → readFile x area ≡ refused InProgram (record { number = 8; place = 0 })
 unfolding readFile
-short-file f area l = ap (partsRead f) (parts-short f area l)
+short-file x area l = ap (partsRead x) (parts-short x area l)
 
-evidence-file : (f : List ℕ) (p : Program) (e : Evidence) → LowEvidence e → LowFile (partsRead f (twoParts p e))
-evidence-file f p (refusal r) h = h
-evidence-file f p (entries r) h = go (r .answer) h
+evidence-file : (x : Input) (p : Program) (e : Evidence) → LowEvidence e → LowFile (partsRead x (twoParts p e))
+evidence-file x p (refusal r) h = h
+evidence-file x p (entries r) h = go (r .answer) h
   where
-    go : (x : Checked) → LowChecked x → LowFile (listRead f p x r)
+    go : (y : Checked) → LowChecked y → LowFile (listRead x p y r)
     go Fine h = tt
     go (Refused q) h = h
-evidence-file f p (steps claim m (Records n)) h = each-cond LowFile (eqb claim 1) _ _ tt tt
-evidence-file f p (steps claim m (Stopped r)) h = h
+evidence-file x p (steps claim m (Records n)) h = each-cond LowFile (eqb claim 1) _ _ tt tt
+evidence-file x p (steps claim m (Stopped r)) h = h
 
-pub file-low : (f : List ℕ) (area : ℕ) → 65536 ≤ area → LowFile (readFile f area)
+pub file-low : (x : Input) (area : ℕ) → 65536 ≤ area → LowFile (readFile x area)
 unfolding readFile
-file-low f area l = go (programFrom f 0 .answer) refl
+file-low x area l = go (programFrom (x .alone) (x .code) 0 .answer) refl
   where
     p : Program
-    p = programFrom f 0 .program
+    p = programFrom (x .alone) (x .code) 0 .program
 
-    go : (x : Checked) → programFrom f 0 .answer ≡ x → LowFile (partsRead f (partsOf f area))
-    go Fine e = subst (λ y. LowFile (partsRead f y)) (sym (parts-both f area l e)) (evidence-file f p (evidenceFrom f (p .claim) p area) (evidence-low f (p .claim) p area))
-    go (Refused r) e = subst (λ y. LowFile (partsRead f y)) (sym (parts-refused f area r l e)) (subst LowChecked e (program-low f 0))
+    go : (y : Checked) → programFrom (x .alone) (x .code) 0 .answer ≡ y → LowFile (partsRead x (partsOf x area))
+    go Fine e =
+        subst (λ y. LowFile (partsRead x y)) (sym (parts-both x area l e))
+        (evidence-file x p (evidenceFrom (x .file) (evidenceAt x p) p area) (evidence-low (x .file) (evidenceAt x p) p area))
+    go (Refused r) e =
+        subst (λ y. LowFile (partsRead x y)) (sym (parts-refused x area r l e)) (subst LowChecked e (program-low (x .alone) (x .code) 0))
 
 -- the numbers of a refused reading
-pub refused-low : (f : List ℕ) (area : ℕ) (r : Refusal) → readFile f area ≡ refused r → (1 ≤ r .number) × (r .number ≤ 8)
-refused-low f area r e = elim (decLt area 65536) [
-  | yes l ↦ let z : r .number ≡ 8 = ap numberOf (sym e ∙ short-file f area l) in (omega arith, omega arith)
-  | no l ↦ let z : Low r = subst LowFile e (file-low f area (omega arith)) in (omega arith, omega arith)
+pub refused-low : (x : Input) (area : ℕ) (w : Part) (r : Refusal) → readFile x area ≡ refused w r → (1 ≤ r .number) × (r .number ≤ 8)
+refused-low x area w r e = elim (decLt area 65536) [
+  | yes l ↦ let z : r .number ≡ 8 = ap numberOf (sym e ∙ short-file x area l) in (omega arith, omega arith)
+  | no l ↦ let z : Low r = subst LowFile e (file-low x area (omega arith)) in (omega arith, omega arith)
 ]
   where
     numberOf : FileRead → ℕ
-    numberOf (refused r) = r .number
+    numberOf (refused w r) = r .number
     numberOf (list P ts es) = 0
     numberOf (run P ts m ss) = 0
     numberOf (psoRun P ts m ss) = 0
 
-pub refused-large : (f : List ℕ) (area : ℕ) (r : Refusal) → readFile f area ≡ refused r → 65536 ≤ area → r .number ≤ 7
-refused-large f area r e l = let z : Low r = subst LowFile e (file-low f area l) in z .1
+pub refused-large : (x : Input) (area : ℕ) (w : Part) (r : Refusal) → readFile x area ≡ refused w r → 65536 ≤ area → r .number ≤ 7
+refused-large x area w r e l = let z : Low r = subst LowFile e (file-low x area l) in z .1

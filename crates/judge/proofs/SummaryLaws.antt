@@ -47,18 +47,18 @@ table-same g h i (suc n) e = ap₂ {C = List Configuration} (λ x xs. x ∷ xs) 
 pub entries-taken : (f l : List ℕ) (at n : ℕ) → 4 * n ≤ at → entriesOf f (take at l) n ≡ entriesOf f l n
 entries-taken f l at n m = table-same (λ i. configurationOf (cubeAt f (take at l) i)) (λ i. configurationOf (cubeAt f l i)) 0 n (λ k a b. ap configurationOf (cube-taken f l at n m k (omega arith)))
 
-pub listed-taken : (f l : List ℕ) (at n : ℕ) (p : Program) → 4 * n ≤ at → Listed f l n p → Listed f (take at l) n p
-listed-taken f l at n p m L =
+pub listed-taken : (g f l : List ℕ) (at n : ℕ) (p : Program) → 4 * n ≤ at → Listed g f l n p → Listed g f (take at l) n p
+listed-taken g f l at n p m L =
     record {
       sizes = L .sizes;
       part = L .part;
       count = L .count;
-      entries = λ k d. subst (λ (es : List Configuration). EntryRange (programOf f p) (entry es k)) (sym (entries-taken f l at n m)) (L .entries k d);
+      entries = λ k d. subst (λ (es : List Configuration). EntryRange (programOf g p) (entry es k)) (sym (entries-taken f l at n m)) (L .entries k d);
       cubes = λ k d. subst CubeRange (sym (cube-taken f l at n m k d)) (L .cubes k d);
     }
 
-pub said-taken : (f l : List ℕ) (at n : ℕ) (p : Program) → 4 * n ≤ at → listSaid f (take at l) n p ≡ listSaid f l n p
-said-taken f l at n p m = ap (λ (es : List Configuration). ofList (verdictOf (programOf f p) (targetsOf f p) es)) (entries-taken f l at n m)
+pub said-taken : (g f l : List ℕ) (at n : ℕ) (p : Program) → 4 * n ≤ at → listSaid g f (take at l) n p ≡ listSaid g f l n p
+said-taken g f l at n p m = ap (λ (es : List Configuration). ofList (verdictOf (programOf g p) (targetsOf g p) es)) (entries-taken f l at n m)
 
 -- ---- what is written leaves the rest
 
@@ -131,7 +131,7 @@ module _ (f list : List ℕ) (s : Shape) where
 
 -- ---- the list is judged with its summary
 
-module _ (f u : List ℕ) (at n : ℕ) (p : Program) (L : ListReady f u at n p) where
+module _ (g f u : List ℕ) (at n : ℕ) (p : Program) (L : ListReady g f u at n p) where
   abbrev s : Shape
   s = p .shape
 
@@ -184,7 +184,7 @@ module _ (f u : List ℕ) (at n : ℕ) (p : Program) (L : ListReady f u at n p) 
   done-summed : Summed f (take at u) (drop at done) n s
   done-summed = rw done-drop (all-added f (take at u) rest s n (L .listed .count) (omega (arith, rest-length, L .slots)) blank)
 
-  pub done-ready : Ready f (take at done) (drop at done) n p
+  pub done-ready : Ready g f (take at done) (drop at done) n p
   done-ready =
       let R = L .listed in
       rw done-take
@@ -193,8 +193,8 @@ module _ (f u : List ℕ) (at n : ℕ) (p : Program) (L : ListReady f u at n p) 
   pub done-room : at ≤ length done
   done-room = omega (arith, ap length done-is, length-append (take at u) (addedFrom f (take at u) s rest n n), top)
 
-  pub done-said : listSaid f (take at done) n p ≡ listSaid f (take at u) n p
-  done-said = ap (λ (l : List ℕ). listSaid f l n p) done-take
+  pub done-said : listSaid g f (take at done) n p ≡ listSaid g f (take at u) n p
+  done-said = ap (λ (l : List ℕ). listSaid g f l n p) done-take
 
   -- past the slots nothing moved
   pub done-kept : (k : ℕ) → at + 8 * n ≤ k → drop k done ≡ drop k u
@@ -210,11 +210,11 @@ module _ (f u : List ℕ) (at n : ℕ) (p : Program) (L : ListReady f u at n p) 
     pub judged-is : last ≡ summarised f (p .shape) at n (slotsCleared u at n)
     judged-is = b ∙ ap (summarised f (p .shape) at n) a
 
-    pub judged-ready : (at ≤ length last) × Ready f (take at last) (drop at last) n p
+    pub judged-ready : (at ≤ length last) × Ready g f (take at last) (drop at last) n p
     judged-ready = rw judged-is (done-room, done-ready)
 
-    pub judged-said : listSaid f (take at last) n p ≡ listSaid f (take at u) n p
-    judged-said = ap (λ (l : List ℕ). listSaid f (take at l) n p) judged-is ∙ done-said
+    pub judged-said : listSaid g f (take at last) n p ≡ listSaid g f (take at u) n p
+    judged-said = ap (λ (l : List ℕ). listSaid g f (take at l) n p) judged-is ∙ done-said
 
 -- the part that was lent came back cleared
 pub slots-cleared : (u x : List ℕ) (at n k : ℕ) → k ≡ 8 * n → at + 8 * n ≤ length u → x ≡ replicate (length (take k (drop at u))) 0

@@ -6,6 +6,10 @@ use mathlib.Core.Path.{_≡_}
 use mathlib.Core.List.{List, [], _∷_, _++_}
 use Rattle.pws.specs.Order.{QueueBelow}
 use Rattle.pws.specs.declared.Step.the-variants.{Take, Serialise, Update}
+use Rattle.whole_file.specs.declared.evidence.Part.{Part}
+use Rattle.whole_file.specs.declared.evidence.Part.the-variants.{InProgram, InEvidence}
+use Rattle.whole_file.specs.Reading.{Input, combined, pair, readFile}
+use Rattle.by_number.specs.Offending.{offending}
 use Rattle.judge.specs.Judge.{Verdict, safe, reachable, pso, refused, entered, judged}
 
 -- ---- rows and what they say
@@ -13,13 +17,19 @@ use Rattle.judge.specs.Judge.{Verdict, safe, reachable, pso, refused, en
 pub data Row : Type 0 where
   -- a file and its verdict
   file : List ℕ → Verdict → Row
+  -- a program file, an evidence file, and the verdict
+  files : List ℕ → List ℕ → Verdict → Row
+  -- what is judged, and the record that is handed back: its part, where it stands there, and its bytes
+  hands : Input → Part → ℕ → List ℕ → Row
   -- the first queue is below the second, or is not
   below : List ℕ → List ℕ → Row
   notBelow : List ℕ → List ℕ → Row
 
 -- with every work area that is not refused
 unfoldable pub Holds : Row → Type 0
-Holds (file f v) = (area : ℕ) → 65536 ≤ area → judged f area ≡ v
+Holds (file f v) = (area : ℕ) → 65536 ≤ area → judged (combined f) area ≡ v
+Holds (files g f v) = (area : ℕ) → 65536 ≤ area → judged (pair g f) area ≡ v
+Holds (hands x w at bytes) = (area : ℕ) → 65536 ≤ area → offending x (readFile x area) ≡ record { part = w; at = at; bytes = bytes }
 Holds (below xs ys) = QueueBelow xs ys
 Holds (notBelow xs ys) = QueueBelow xs ys → ⊥
 
@@ -257,4 +267,30 @@ cases =
     ∷ file (small ++ target 1 0 ++ claim 2) (refused 6 17)
     ∷ file (small ++ target 1 0 ++ claim 2 ++ takeStep 0) (refused 2 17)
     ∷ file (small ++ target 1 0 ++ claim 3 ++ starting 0) (refused 4 15)
+    -- a program file and an evidence file (document 02, N6): A and G; the same list for a program with a transition
+    ∷ files (small ++ target 1 0) (claim 0 ++ four 1) (safe 4)
+    ∷ files programG (fromZeros ++ takeStep 0 ++ takeStep 1 ++ serialise 0 1 ++ update 1 ++ takeStep 2 ++ takeStep 3) (reachable 6 0)
+    ∷ files (small ++ nop ++ target 1 0) (claim 0 ++ four 1) (entered 0 (Take 0))
+    -- the program file ends before its first 04; an 0F in it is 2; it is read through before the evidence
+    ∷ files small (claim 0 ++ four 1) (refused 6 10)
+    ∷ files (small ++ target 1 0 ++ claim 0 ++ four 1) (claim 0 ++ four 1) (refused 2 15)
+    ∷ files (small ++ target 1 0 ++ target 2 0) [] (refused 4 15)
+    -- evidence begins with 0F, and offsets count within its file
+    ∷ files (small ++ target 1 0) [] (refused 6 0)
+    ∷ files (small ++ target 1 0) (four 1) (refused 2 0)
+    ∷ files (small ++ target 1 0) (claim 0 ++ first 1 ++ waiting 2) (refused 4 18)
+    -- the records that these hand back: the kind byte alone of an unknown kind; a known one whole, in whichever file it stands, or cut at the file's end; the
+    -- 10 of a bad entry; the empty end of the file that ended; and of the evidence or combined file in every other case
+    ∷ hands (pair (small ++ target 1 0) (claim 0 ++ 7 ∷ 0 ∷ [])) InEvidence 2 (7 ∷ [])
+    ∷ hands (pair (small ++ target 1 0 ++ claim 0 ++ four 1) []) InProgram 15 (claim 0)
+    ∷ hands (pair (small ++ target 1 0 ++ first 1) []) InProgram 15 (entry 1)
+    ∷ hands (pair (small ++ target 1 0) (first 1)) InEvidence 0 (entry 1)
+    ∷ hands (combined (small ++ target 1 0 ++ claim 0 ++ first 1 ++ waiting 2)) InEvidence 33 (waiting 2)
+    ∷ hands (combined (1 ∷ 1 ∷ [])) InProgram 0 (1 ∷ 1 ∷ [])
+    ∷ hands (pair (small ++ target 1 0) (15 ∷ [])) InEvidence 0 (15 ∷ [])
+    ∷ hands (pair (small ++ target 1 0) (claim 0 ++ entry 1 ++ first 1)) InEvidence 2 (entry 1)
+    ∷ hands (pair small (claim 0 ++ four 1)) InProgram 10 []
+    ∷ hands (pair (small ++ target 1 0) []) InEvidence 0 []
+    ∷ hands (combined caseA) InEvidence 103 []
+    ∷ hands (pair (small ++ nop ++ target 1 0) (claim 0 ++ four 1)) InEvidence 88 []
     ∷ []

@@ -1,4 +1,5 @@
--- The demands, as statements about the verdict of a file. The theorems are in proofs/Demands, under the same names in small letters. A
+-- The demands, as statements about the verdict of what is judged: x is one file (`combined f`), or a program file and an evidence file (`pair g f`,
+-- document 02, N6). The theorems are in proofs/Demands, under the same names in small letters. A
 -- configuration, a step and a sequence of steps are the machine's (pws/specs), with no bound of any kind; `area` is the length of any work area.
 -- Of a file whose claim is 2 they speak of the PSO machine (pso/specs). What the answers to claims 0 and 1 say of it stands in specs/PsoDemands.
 use Prim.Native.Nat.{ℕ, _<_, _≤_}
@@ -20,29 +21,30 @@ use Rattle.pws.specs.Sequences.{Takes, Visited, Answers}
 use Rattle.pws.specs.Ranges.{CountsOf, KeepsRanges}
 use Rattle.lists.specs.Verdict.{target, SafeList, Unheld, Started, Entered}
 use Rattle.program_part.specs.Bytes.{byte}
+use Rattle.whole_file.specs.declared.evidence.Part.{Part}
 use Rattle.whole_file.specs.Reading as reading
 use Rattle.replay.specs.declared.step.Cause.the-variants.{State, Queue, Value, Nothing}
 use Rattle.psoreplay.specs.Answers.{PsoReached, PsoStopped, PsoMissed}
 use Rattle.judge.specs.Judge.{Verdict, safe, reachable, pso, refused, entered, Judged, judged}
 use Rattle.judge.specs.PsoRuns.{OfPsoRun, PsoHalts}
 
--- ---- what the bytes of a file give
+-- ---- what the bytes give
 
 -- they give a program, targets and entries, of which F holds
-pub record OfList (f : List ℕ) (area : ℕ) (F : Program → List (ℕ → ℕ) → List Configuration → Type 0) : Type 0 where
+pub record OfList (x : reading.Input) (area : ℕ) (F : Program → List (ℕ → ℕ) → List Configuration → Type 0) : Type 0 where
   pub program : Program
   pub targets : List (ℕ → ℕ)
   pub entries : List Configuration
-  pub reads : reading.readFile f area ≡ reading.list program targets entries
+  pub reads : reading.readFile x area ≡ reading.list program targets entries
   pub holds : F program targets entries
 
 -- they give a program, targets, a starting memory and steps, of which F holds
-pub record OfRun (f : List ℕ) (area : ℕ) (F : Program → List (ℕ → ℕ) → List ℕ → List Step → Type 0) : Type 0 where
+pub record OfRun (x : reading.Input) (area : ℕ) (F : Program → List (ℕ → ℕ) → List ℕ → List Step → Type 0) : Type 0 where
   pub program : Program
   pub targets : List (ℕ → ℕ)
   pub memory : List ℕ
   pub steps : List Step
-  pub reads : reading.readFile f area ≡ reading.run program targets memory steps
+  pub reads : reading.readFile x area ≡ reading.run program targets memory steps
   pub holds : F program targets memory steps
 
 -- ---- what the machine does with a run's steps
@@ -158,96 +160,96 @@ StepNumber n = (n ≡ 12) ⊎ ((15 ≤ n) × (n ≤ 18))
 
 -- `judged` computes a verdict of the file, and there is no other
 abbrev pub OneAnswer : Type 0
-OneAnswer = (f : List ℕ) (area : ℕ) → Judged f area (judged f area) × ((v : Verdict) → Judged f area v → v ≡ judged f area)
+OneAnswer = (x : reading.Input) (area : ℕ) → Judged x area (judged x area) × ((v : Verdict) → Judged x area v → v ≡ judged x area)
 
 -- 8
 abbrev pub Refused8 : Type 0
-Refused8 = (f : List ℕ) (area k : ℕ) → (judged f area ≡ refused 8 k) ↔ ((area < 65536) × (k ≡ 0))
+Refused8 = (x : reading.Input) (area k : ℕ) → (judged x area ≡ refused 8 k) ↔ ((area < 65536) × (k ≡ 0))
 
--- 1 to 7: the reading of the records says so, in an area that is large enough
+-- 1 to 7: the reading of the records says so, in an area that is large enough; the record stands in the program part or in the evidence part
 abbrev pub RefusedReading : Type 0
-RefusedReading = (f : List ℕ) (area n k : ℕ) → n ≤ 8 → (judged f area ≡ refused n k) ↔ (reading.readFile f area ≡ reading.refused (record { number = n; place = k }))
+RefusedReading = (x : reading.Input) (area n k : ℕ) → n ≤ 8 → (judged x area ≡ refused n k) ↔ ((w : Part) × (reading.readFile x area ≡ reading.refused w (record { number = n; place = k })))
 
 -- 9: k is the lowest target with a configuration, in hand, that is not above the list
 abbrev pub Refused9 : Type 0
-Refused9 = (f : List ℕ) (area k : ℕ) → (judged f area ≡ refused 9 k) ↔ OfList f area (λ P ts es. Unheld P ts es k)
+Refused9 = (x : reading.Input) (area k : ℕ) → (judged x area ≡ refused 9 k) ↔ OfList x area (λ P ts es. Unheld P ts es k)
 
 -- 10: k is the lowest entry that a start, in hand, is above; every target is held
 abbrev pub Refused10 : Type 0
-Refused10 = (f : List ℕ) (area k : ℕ) → (judged f area ≡ refused 10 k) ↔ OfList f area (λ P ts es. Started P ts es k)
+Refused10 = (x : reading.Input) (area k : ℕ) → (judged x area ≡ refused 10 k) ↔ OfList x area (λ P ts es. Started P ts es k)
 
 -- 11: k is the lowest entry above which some step leads from outside the list, and s the lowest such step (document 02, N13): a
 -- configuration outside, in hand, gets above entry k through s, and none does through a lower step. Every target is held and no start is
 -- above an entry.
 abbrev pub Refused11 : Type 0
-Refused11 = (f : List ℕ) (area k : ℕ) (s : Step) → (judged f area ≡ entered k s) ↔ OfList f area (λ P ts es. Entered P ts es k s)
+Refused11 = (x : reading.Input) (area k : ℕ) (s : Step) → (judged x area ≡ entered k s) ↔ OfList x area (λ P ts es. Entered P ts es k s)
 
 -- 12, 16, 17, 15 and 18: the machine takes the steps before number k, and step k fails for this reason first. A run of either machine gets
 -- them, but for 17, of which the PSO machine knows nothing.
 abbrev pub Refused12 : Type 0
 Refused12 =
-    (f : List ℕ) (area k : ℕ) → (judged f area ≡ refused 12 k)
-    ↔ (OfRun f area (λ P ts m ss. Stops OtherState P m ss k) ⊎ OfPsoRun f area (λ P ts m us. PsoStopped P m us k State))
+    (x : reading.Input) (area k : ℕ) → (judged x area ≡ refused 12 k)
+    ↔ (OfRun x area (λ P ts m ss. Stops OtherState P m ss k) ⊎ OfPsoRun x area (λ P ts m us. PsoStopped P m us k State))
 
 abbrev pub Refused16 : Type 0
 Refused16 =
-    (f : List ℕ) (area k : ℕ) → (judged f area ≡ refused 16 k)
-    ↔ (OfRun f area (λ P ts m ss. Stops QueueWaits P m ss k) ⊎ OfPsoRun f area (λ P ts m us. PsoStopped P m us k Queue))
+    (x : reading.Input) (area k : ℕ) → (judged x area ≡ refused 16 k)
+    ↔ (OfRun x area (λ P ts m ss. Stops QueueWaits P m ss k) ⊎ OfPsoRun x area (λ P ts m us. PsoStopped P m us k Queue))
 
 abbrev pub Refused17 : Type 0
-Refused17 = (f : List ℕ) (area k : ℕ) → (judged f area ≡ refused 17 k) ↔ OfRun f area (λ P ts m ss. Stops PointerBehind P m ss k)
+Refused17 = (x : reading.Input) (area k : ℕ) → (judged x area ≡ refused 17 k) ↔ OfRun x area (λ P ts m ss. Stops PointerBehind P m ss k)
 
 -- so 17 is never said under claim 2
 abbrev pub NoPointer : Type 0
-NoPointer = (f : List ℕ) (area k : ℕ) → OfPsoRun f area (λ P ts m us. Unit {0}) → judged f area ≡ refused 17 k → ⊥
+NoPointer = (x : reading.Input) (area k : ℕ) → OfPsoRun x area (λ P ts m us. Unit {0}) → judged x area ≡ refused 17 k → ⊥
 
 abbrev pub Refused15 : Type 0
 Refused15 =
-    (f : List ℕ) (area k : ℕ) → (judged f area ≡ refused 15 k)
-    ↔ (OfRun f area (λ P ts m ss. Stops OtherValue P m ss k) ⊎ OfPsoRun f area (λ P ts m us. PsoStopped P m us k Value))
+    (x : reading.Input) (area k : ℕ) → (judged x area ≡ refused 15 k)
+    ↔ (OfRun x area (λ P ts m ss. Stops OtherValue P m ss k) ⊎ OfPsoRun x area (λ P ts m us. PsoStopped P m us k Value))
 
 abbrev pub Refused18 : Type 0
 Refused18 =
-    (f : List ℕ) (area k : ℕ) → (judged f area ≡ refused 18 k)
-    ↔ (OfRun f area (λ P ts m ss. Stops NothingThere P m ss k) ⊎ OfPsoRun f area (λ P ts m us. PsoStopped P m us k Nothing))
+    (x : reading.Input) (area k : ℕ) → (judged x area ≡ refused 18 k)
+    ↔ (OfRun x area (λ P ts m ss. Stops NothingThere P m ss k) ⊎ OfPsoRun x area (λ P ts m us. PsoStopped P m us k Nothing))
 
 -- together: one of them is said of step k exactly when the machine takes the steps before it and cannot take it
 abbrev pub RefusedStep : Type 0
 RefusedStep =
-    (f : List ℕ) (area k : ℕ) → ((n : ℕ) × StepNumber n × (judged f area ≡ refused n k))
-    ↔ (OfRun f area (λ P ts m ss. Stops Cannot P m ss k) ⊎ OfPsoRun f area (λ P ts m us. PsoHalts P m us k))
+    (x : reading.Input) (area k : ℕ) → ((n : ℕ) × StepNumber n × (judged x area ≡ refused n k))
+    ↔ (OfRun x area (λ P ts m ss. Stops Cannot P m ss k) ⊎ OfPsoRun x area (λ P ts m us. PsoHalts P m us k))
 
 -- 13
 
 abbrev pub Refused13 : Type 0
 Refused13 =
-    (f : List ℕ) (area n : ℕ) → (judged f area ≡ refused 13 n)
-    ↔ (OfRun f area (λ P ts m ss. Misses P ts m ss n) ⊎ OfPsoRun f area (λ P ts m us. PsoMissed P m ts us n))
+    (x : reading.Input) (area n : ℕ) → (judged x area ≡ refused 13 n)
+    ↔ (OfRun x area (λ P ts m ss. Misses P ts m ss n) ⊎ OfPsoRun x area (λ P ts m us. PsoMissed P m ts us n))
 
 -- and there is no other number; 11 is said with its step
 abbrev pub NoOther : Type 0
-NoOther = (f : List ℕ) (area n k : ℕ) → judged f area ≡ refused n k → (1 ≤ n) × (n ≤ 18) × (n ≡ 11 → ⊥) × (n ≡ 14 → ⊥)
+NoOther = (x : reading.Input) (area n k : ℕ) → judged x area ≡ refused n k → (1 ≤ n) × (n ≤ 18) × (n ≡ 11 → ⊥) × (n ≡ 14 → ⊥)
 
 -- ---- demand 2: what is accepted
 
 -- a list, if and only if the configurations above it hold every target one, no starting one, and every one a single step before them
 abbrev pub AcceptedList : Type 0
-AcceptedList = (f : List ℕ) (area n : ℕ) → (judged f area ≡ safe n) ↔ OfList f area (λ P ts es. (n ≡ length es) × SafeList P ts es)
+AcceptedList = (x : reading.Input) (area n : ℕ) → (judged x area ≡ safe n) ↔ OfList x area (λ P ts es. (n ≡ length es) × SafeList P ts es)
 
 -- a run, if and only if the machine can take every step in turn from a start with the file's memory and stops in a target
 abbrev pub AcceptedRun : Type 0
-AcceptedRun = (f : List ℕ) (area n k : ℕ) → (judged f area ≡ reachable n k) ↔ OfRun f area (λ P ts m ss. Reaches P ts m ss n k)
+AcceptedRun = (x : reading.Input) (area n k : ℕ) → (judged x area ≡ reachable n k) ↔ OfRun x area (λ P ts m ss. Reaches P ts m ss n k)
 
 -- claim 2: if and only if the PSO machine does (document 02, N7)
 abbrev pub AcceptedPsoRun : Type 0
-AcceptedPsoRun = (f : List ℕ) (area n k : ℕ) → (judged f area ≡ pso n k) ↔ OfPsoRun f area (λ P ts m us. PsoReached P m ts us n k)
+AcceptedPsoRun = (x : reading.Input) (area n k : ℕ) → (judged x area ≡ pso n k) ↔ OfPsoRun x area (λ P ts m us. PsoReached P m ts us n k)
 
 -- ---- demand 3
 
 -- In a file that is accepted as safe, with whatever work area, no sequence of steps, of any length and from any start of any memory, visits a
 -- configuration in a target, or one above the list: not at its start and not after any step that the machine takes.
 abbrev pub Safety : Type 0
-Safety = (f : List ℕ) (area n : ℕ) → judged f area ≡ safe n → OfList f area (λ P ts es.
+Safety = (x : reading.Input) (area n : ℕ) → judged x area ≡ safe n → OfList x area (λ P ts es.
     (c : Configuration) → Start P c → (ss : List Step) (d : Configuration) → Visited P c ss d
     → ((k : ℕ) → k < length ts → InTarget (P .shape) (target ts k) d → ⊥) × (AboveList (P .shape) es d → ⊥))
 
@@ -258,14 +260,14 @@ Simulated P = (c d e : Configuration) → ConfigurationOf P c → ConfigurationO
 
 abbrev pub Simulation : Type 0
 Simulation =
-    (f : List ℕ) (area : ℕ) (P : Program) (ts : List (ℕ → ℕ))
-    → ((es : List Configuration) → reading.readFile f area ≡ reading.list P ts es → Simulated P)
-    × ((m : List ℕ) (ss : List Step) → reading.readFile f area ≡ reading.run P ts m ss → Simulated P)
-    × ((m : List ℕ) (ss : List Step) → reading.readFile f area ≡ reading.psoRun P ts m ss → Simulated P)
+    (x : reading.Input) (area : ℕ) (P : Program) (ts : List (ℕ → ℕ))
+    → ((es : List Configuration) → reading.readFile x area ≡ reading.list P ts es → Simulated P)
+    × ((m : List ℕ) (ss : List Step) → reading.readFile x area ≡ reading.run P ts m ss → Simulated P)
+    × ((m : List ℕ) (ss : List Step) → reading.readFile x area ≡ reading.psoRun P ts m ss → Simulated P)
 
 -- ---- document 02, N5: values in the ranges of their variables
 
--- the four counts of the shape record, with which a file begins
+-- the four counts of the shape record, with which the file of the program begins
 abbrev pub countsIn : List ℕ → List ℕ
 countsIn f = byte f 3 ∷ byte f 4 ∷ byte f 5 ∷ byte f 6 ∷ []
 
@@ -274,7 +276,7 @@ countsIn f = byte f 3 ∷ byte f 4 ∷ byte f 5 ∷ byte f 6 ∷ []
 -- not, and as a run of either machine.
 abbrev pub ValuesInRange : Type 0
 ValuesInRange =
-    (f : List ℕ) (area : ℕ) (P : Program) (ts : List (ℕ → ℕ))
-    → ((es : List Configuration) → reading.readFile f area ≡ reading.list P ts es → CountsOf (P .shape) (countsIn f) × KeepsRanges P (countsIn f))
-    × ((m : List ℕ) (ss : List Step) → reading.readFile f area ≡ reading.run P ts m ss → CountsOf (P .shape) (countsIn f) × KeepsRanges P (countsIn f))
-    × ((m : List ℕ) (ss : List Step) → reading.readFile f area ≡ reading.psoRun P ts m ss → CountsOf (P .shape) (countsIn f) × KeepsRanges P (countsIn f))
+    (x : reading.Input) (area : ℕ) (P : Program) (ts : List (ℕ → ℕ))
+    → ((es : List Configuration) → reading.readFile x area ≡ reading.list P ts es → CountsOf (P .shape) (countsIn (x .code)) × KeepsRanges P (countsIn (x .code)))
+    × ((m : List ℕ) (ss : List Step) → reading.readFile x area ≡ reading.run P ts m ss → CountsOf (P .shape) (countsIn (x .code)) × KeepsRanges P (countsIn (x .code)))
+    × ((m : List ℕ) (ss : List Step) → reading.readFile x area ≡ reading.psoRun P ts m ss → CountsOf (P .shape) (countsIn (x .code)) × KeepsRanges P (countsIn (x .code)))

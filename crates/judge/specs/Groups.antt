@@ -33,5 +33,5 @@ GroupAgrees = (S : Shape) (es : List Configuration) (d : Configuration)
 
 -- the first entry of a group has its number in the summary
 abbrev pub GroupNumbered : Type 0
-GroupNumbered = (f list sum : List ℕ) (n : ℕ) (p : Program) → Ready f list sum n p → (k : ℕ) → k < n → leads f list (p .shape) k ≡ true
-    → countAt sum k ≡ length (group (programOf f p .shape) (entriesOf f list n) (entry (entriesOf f list n) k))
+GroupNumbered = (g f list sum : List ℕ) (n : ℕ) (p : Program) → Ready g f list sum n p → (k : ℕ) → k < n → leads f list (p .shape) k ≡ true
+    → countAt sum k ≡ length (group (programOf g p .shape) (entriesOf f list n) (entry (entriesOf f list n) k))

@@ -1,4 +1,5 @@
--- The whole judgement (document 01, "Verdicts and refusal table"): what is said of a file, and what is left in the work area.
+-- The whole judgement (document 01, "Verdicts and refusal table"): what is said of a file, or of a program file and
+-- an evidence file (document 02, N6), and what is left in the work area.
 use Prim.Native.Nat.{ℕ, _+_, _*_}
 use mathlib.Core.Path.{_≡_}
 use mathlib.Core.List.{List, _++_}
@@ -51,24 +52,24 @@ ofPsoRun (Missed n) = refused 13 n
 -- A refused reading ends the judgement with its number and place. Of a list is said what is true of it over all configurations; a run is
 -- replayed in its machine.
 abbrev pub FileJudged : reading.FileRead → Verdict → Type 0
-FileJudged (reading.refused r) v = v ≡ refused (r .number) (r .place)
+FileJudged (reading.refused w r) v = v ≡ refused (r .number) (r .place)
 FileJudged (reading.list P ts es) v = (l : lists.ListVerdict) × lists.ListJudged P ts es l × (v ≡ ofList l)
 FileJudged (reading.run P ts m ss) v = v ≡ ofRun (runAnswer P ts m ss)
 FileJudged (reading.psoRun P ts m ss) v = v ≡ ofPsoRun (psoRunAnswer P m ts (psoSteps ss))
 
--- v is the verdict of the file f, with a work area of so many bytes
-unfoldable pub Judged : List ℕ → ℕ → Verdict → Type 0
-Judged f area v = FileJudged (reading.readFile f area) v
+-- v is the verdict of x, one file or a program file and an evidence file, with a work area of so many bytes
+unfoldable pub Judged : reading.Input → ℕ → Verdict → Type 0
+Judged x area v = FileJudged (reading.readFile x area) v
 
 -- the same by computation: `one-answer` says that it is the verdict, and the only one
 abbrev pub ofFile : reading.FileRead → Verdict
-ofFile (reading.refused r) = refused (r .number) (r .place)
+ofFile (reading.refused w r) = refused (r .number) (r .place)
 ofFile (reading.list P ts es) = ofList (decision.verdictOf P ts es)
 ofFile (reading.run P ts m ss) = ofRun (runAnswer P ts m ss)
 ofFile (reading.psoRun P ts m ss) = ofPsoRun (psoRunAnswer P m ts (psoSteps ss))
 
-unfoldable pub judged : List ℕ → ℕ → Verdict
-judged f area = ofFile (reading.readFile f area)
+unfoldable pub judged : reading.Input → ℕ → Verdict
+judged x area = ofFile (reading.readFile x area)
 
 -- ---- the work area afterwards
 

@@ -6,3 +6,4 @@ pub mod Cases
 pub mod Answers
 pub mod Ready
 pub mod Groups
+pub mod Pairs

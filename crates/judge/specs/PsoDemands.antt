@@ -9,6 +9,7 @@ use Rattle.pso.specs.declared.PsoStep.{PsoStep}
 use Rattle.pso.specs.Machine.{PsoConfiguration}
 use Rattle.pso.specs.Runs.{PsoStart, PsoVisited, PsoInTarget, PsoReachable}
 use Rattle.equivalence.specs.Equivalence.{PwsReachable}
+use Rattle.whole_file.specs.Reading.{Input}
 use Rattle.judge.specs.Judge.{safe, reachable, pso, judged}
 use Rattle.judge.specs.PsoRuns.{OfPsoRun}
 use Rattle.judge.specs.Demands.{OfList, OfRun}
@@ -16,14 +17,14 @@ use Rattle.judge.specs.Demands.{OfList, OfRun}
 -- In a file that is accepted as safe, with whatever work area, no sequence of steps of the PSO machine, of any length and from any
 -- memory, visits a configuration in a target: not at its start and not after any step that the machine takes.
 abbrev pub PsoSafety : Type 0
-PsoSafety = (f : List ℕ) (area n : ℕ) → judged f area ≡ safe n → OfList f area (λ P ts es.
+PsoSafety = (x : Input) (area n : ℕ) → judged x area ≡ safe n → OfList x area (λ P ts es.
     (memory : List ℕ) (d : PsoConfiguration) → PsoStart P memory d → (us : List PsoStep) (e : PsoConfiguration) → PsoVisited P d us e
     → (k : ℕ) → k < length ts → PsoInTarget (P .shape) (target ts k) e → ⊥)
 
 -- In a file that is accepted as reachable, a run of the PSO machine reaches the same target from the file's memory.
 abbrev pub PsoReachability : Type 0
-PsoReachability = (f : List ℕ) (area n k : ℕ) → judged f area ≡ reachable n k → OfRun f area (λ P ts m ss. PsoReachable P m (target ts k))
+PsoReachability = (x : Input) (area n k : ℕ) → judged x area ≡ reachable n k → OfRun x area (λ P ts m ss. PsoReachable P m (target ts k))
 
 -- In a file that is accepted under claim 2, a run of the PWS machine reaches the same target from the file's memory.
 abbrev pub PwsReachability : Type 0
-PwsReachability = (f : List ℕ) (area n k : ℕ) → judged f area ≡ pso n k → OfPsoRun f area (λ P ts m us. PwsReachable P m (target ts k))
+PwsReachability = (x : Input) (area n k : ℕ) → judged x area ≡ pso n k → OfPsoRun x area (λ P ts m us. PwsReachable P m (target ts k))

@@ -15,12 +15,12 @@ use Rattle.whole_file.specs.Reading as reading
 use Rattle.psoreplay.specs.Answers.{psoSteps}
 
 -- they give a program, targets, a starting memory and steps of the PSO machine, of which F holds
-pub record OfPsoRun (f : List ℕ) (area : ℕ) (F : Program → List (ℕ → ℕ) → List ℕ → List PsoStep → Type 0) : Type 0 where
+pub record OfPsoRun (x : reading.Input) (area : ℕ) (F : Program → List (ℕ → ℕ) → List ℕ → List PsoStep → Type 0) : Type 0 where
   pub program : Program
   pub targets : List (ℕ → ℕ)
   pub memory : List ℕ
   pub records : List Step
-  pub reads : reading.readFile f area ≡ reading.psoRun program targets memory records
+  pub reads : reading.readFile x area ≡ reading.psoRun program targets memory records
   pub holds : F program targets memory (psoSteps records)
 
 -- from a start with the memory m the machine takes the steps before that of number k, and may not take that one

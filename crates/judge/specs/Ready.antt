@@ -1,4 +1,4 @@
--- What the code knows of a file that was read. No statement rests on these definitions.
+-- What the code knows of what was read: the program from the bytes g, the entries from the bytes f. No statement rests on these definitions.
 use Prim.Native.Nat.{ℕ, _+_, _*_, _-_, _<_, _≤_}
 use mathlib.Core.Path.{_≡_}
 use mathlib.Core.Bool.{Bool, not}
@@ -17,51 +17,51 @@ use Rattle.summary.specs.Summary.{Summed}
 use Rattle.judge.specs.Judge.{Verdict, safe, entered, ofList}
 
 -- a list of n entries, as it was read
-pub record Listed (f list : List ℕ) (n : ℕ) (p : Program) : Type 0 where
+pub record Listed (g f list : List ℕ) (n : ℕ) (p : Program) : Type 0 where
   pub sizes : ProgramSizes p
-  pub part : ProgramPartRead (programOf f p) (targetsOf f p)
+  pub part : ProgramPartRead (programOf g p) (targetsOf g p)
   pub count : n ≤ 524288
-  pub entries : (k : ℕ) → k < n → EntryRange (programOf f p) (entry (entriesOf f list n) k)
+  pub entries : (k : ℕ) → k < n → EntryRange (programOf g p) (entry (entriesOf f list n) k)
   pub cubes : (k : ℕ) → k < n → CubeRange (cubeAt f list k)
 
 -- in the upper part of a work area, with its offsets below `at` and room for its summary from there on
-pub record ListReady (f upper : List ℕ) (at n : ℕ) (p : Program) : Type 0 where
+pub record ListReady (g f upper : List ℕ) (at n : ℕ) (p : Program) : Type 0 where
   pub offsets : 4 * n ≤ at
   pub room : at ≤ length upper
   pub slots : 8 * n ≤ length upper - at
-  pub listed : Listed f (take at upper) n p
+  pub listed : Listed g f (take at upper) n p
 
 -- the slots of n entries from `at` on are 0
 unfoldable pub slotsCleared : List ℕ → ℕ → ℕ → List ℕ
 slotsCleared upper at n = take at upper ++ (replicate (8 * n) 0 ++ drop (at + 8 * n) upper)
 
 -- a list of n entries with its summary
-pub record Ready (f list sum : List ℕ) (n : ℕ) (p : Program) : Type 0 where
+pub record Ready (g f list sum : List ℕ) (n : ℕ) (p : Program) : Type 0 where
   pub summed : Summed f list sum n (p .shape)
   pub sizes : ProgramSizes p
-  pub part : ProgramPartRead (programOf f p) (targetsOf f p)
+  pub part : ProgramPartRead (programOf g p) (targetsOf g p)
   pub count : n ≤ 524288
-  pub entries : (k : ℕ) → k < n → EntryRange (programOf f p) (entry (entriesOf f list n) k)
+  pub entries : (k : ℕ) → k < n → EntryRange (programOf g p) (entry (entriesOf f list n) k)
   pub cubes : (k : ℕ) → k < n → CubeRange (cubeAt f list k)
 
 -- ---- the tests of numbers 9, 10 and 11, by number
 
-abbrev pub heldTest : List ℕ → List ℕ → ℕ → Program → ℕ → Bool
-heldTest f list n p k = targetHeld (programOf f p) (entriesOf f list n) (target (targetsOf f p) k)
+abbrev pub heldTest : List ℕ → List ℕ → List ℕ → ℕ → Program → ℕ → Bool
+heldTest g f list n p k = targetHeld (programOf g p) (entriesOf f list n) (target (targetsOf g p) k)
 
-abbrev pub startTest : List ℕ → List ℕ → ℕ → Program → ℕ → Bool
-startTest f list n p k = not (looksStarted (programOf f p) (entry (entriesOf f list n) k))
+abbrev pub startTest : List ℕ → List ℕ → List ℕ → ℕ → Program → ℕ → Bool
+startTest g f list n p k = not (looksStarted (programOf g p) (entry (entriesOf f list n) k))
 
-abbrev pub closedTest : List ℕ → List ℕ → ℕ → Program → ℕ → Bool
-closedTest f list n p k = closed (programOf f p) (entriesOf f list n) (entry (entriesOf f list n) k)
+abbrev pub closedTest : List ℕ → List ℕ → List ℕ → ℕ → Program → ℕ → Bool
+closedTest g f list n p k = closed (programOf g p) (entriesOf f list n) (entry (entriesOf f list n) k)
 
 -- the verdict of a list all of whose targets are held, and none of whose entries a start is above
-abbrev pub enteredSaid : List ℕ → List ℕ → ℕ → Program → Verdict
-enteredSaid f list n p = elim (lowest (closed (programOf f p) (entriesOf f list n)) (entriesOf f list n)) [
-  | some k ↦ entered k (openStep (programOf f p) (entriesOf f list n) (entry (entriesOf f list n) k))
+abbrev pub enteredSaid : List ℕ → List ℕ → List ℕ → ℕ → Program → Verdict
+enteredSaid g f list n p = elim (lowest (closed (programOf g p) (entriesOf f list n)) (entriesOf f list n)) [
+  | some k ↦ entered k (openStep (programOf g p) (entriesOf f list n) (entry (entriesOf f list n) k))
   | none ↦ safe n
 ]
 
 -- the verdict of the list
-abbrev pub listSaid : List ℕ → List ℕ → ℕ → Program → Verdict
-listSaid f list n p = ofList (verdictOf (programOf f p) (targetsOf f p) (entriesOf f list n))
+abbrev pub listSaid : List ℕ → List ℕ → List ℕ → ℕ → Program → Verdict
+listSaid g f list n p = ofList (verdictOf (programOf g p) (targetsOf g p) (entriesOf f list n))

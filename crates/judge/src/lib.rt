@@ -8,15 +8,16 @@ ghost use Rattle.summary.specs.Groups.{summarised};
 ghost use Rattle.pws.specs.Program.{ProgramInRange};
 ghost use Rattle.program_part.specs.ProgramPart.{programOf, targetsOf};
 ghost use Rattle.whole_file.specs.EvidencePart.{stepsOf};
-ghost use Rattle.whole_file.specs.Reading.{runRead};
+ghost use Rattle.whole_file.specs.Reading.{input, combined, pair, runRead, readFile};
+ghost use Rattle.by_number.specs.Offending.{offending};
 ghost use Rattle.judge.specs.Judge.{ofFile, judged, usedOf, areaAfter};
-ghost use Rattle.judge.specs.Answers.{verdictIn, inC, Answered};
+ghost use Rattle.judge.specs.Answers.{verdictIn, offendingIn, saidInC, Answered};
 ghost use Rattle.judge.specs.Ready.{Ready, ListReady, slotsCleared, listSaid};
 use crate::answer::Answer;
 use crate::answer::Verdict;
 use crate::answer::pso_answer;
 use crate::answer::run_answer;
-use crate::answer::verdict_of;
+use crate::answer::shown;
 use crate::list::list_answer;
 use program_part::places::slot_place;
 use program_part::places::word_place;
@@ -29,6 +30,7 @@ use replay::area::clear;
 use replay::run::replay;
 use summary::summarise;
 use whole_file::evidence::Contents;
+use whole_file::evidence::Part;
 use whole_file::evidence::entries_allowed;
 use whole_file::evidence::read;
 
@@ -68,83 +70,125 @@ fn clear_slots(upper: &mut [u8], at: usize, n: usize)
 }
 
 // The units over a list and its summary.
-fn summed_answer(file: &[u8], upper: &[u8], at: usize, n: usize, program: Program) -> Answer
-    requires { ⌜ (at ≤ length (now upper)) × Ready (now file) (take at (now upper)) (drop at (now upper)) n program ⌝ }
-    ensures { λ r. ⌜ verdictIn r ≡ listSaid (now (file .entry)) (take at (now (upper .entry))) n program ⌝ }
+fn summed_answer(
+    code: &[u8],
+    file: &[u8],
+    upper: &[u8],
+    at: usize,
+    n: usize,
+    program: Program,
+) -> Answer
+    requires { ⌜ (at ≤ length (now upper)) × Ready (now code) (now file) (take at (now upper)) (drop at (now upper)) n program ⌝ }
+    ensures { λ r. ⌜ verdictIn r ≡ listSaid (now (code .entry)) (now (file .entry)) (take at (now (upper .entry))) n program ⌝ }
 {
-    list_answer(file, &upper[..at], &upper[at..], n, program)
+    list_answer(code, file, &upper[..at], &upper[at..], n, program)
 }
 
 // A list: its summary is made behind its offsets, which stand below `at`, and then it is judged.
-fn list_judged(file: &[u8], upper: &mut [u8], at: usize, n: usize, program: Program) -> Answer
-    requires { ⌜ ListReady (now file) (now upper) at n program ⌝ }
-    ensures { λ r. ⌜ verdictIn r ≡ listSaid (now (file .entry)) (take at (now (upper .entry))) n program ⌝ }
+fn list_judged(
+    code: &[u8],
+    file: &[u8],
+    upper: &mut [u8],
+    at: usize,
+    n: usize,
+    program: Program,
+) -> Answer
+    requires { ⌜ ListReady (now code) (now file) (now upper) at n program ⌝ }
+    ensures { λ r. ⌜ verdictIn r ≡ listSaid (now (code .entry)) (now (file .entry)) (take at (now (upper .entry))) n program ⌝ }
     ensures { λ r. ⌜ now (upper .exit) ≡ summarised (now (file .entry)) (program .shape) at n (slotsCleared (now (upper .entry)) at n) ⌝ }
 {
     clear_slots(upper, at, n);
     let shape = program.shape;
     summarise(file, upper, at, n, shape);
-    summed_answer(file, upper, at, n, program)
+    summed_answer(code, file, upper, at, n, program)
 }
 
 // A run, in the machine of its claim; afterwards the lower part is 0.
-fn replay_answer(file: &[u8], contents: Contents, lower: &mut [u8]) -> Answer
+fn replay_answer(code: &[u8], file: &[u8], contents: Contents, lower: &mut [u8]) -> Answer
     ensures { λ r. ⌜ now (lower .exit) ≡ replicate (length (now (lower .entry))) 0 ⌝ }
-    ensures { λ r. ⌜ (ProgramInRange (programOf (now (file .entry)) (contents .program)) → contents .evidence .count ≤ 1024 → length (now (lower .entry)) ≡ 16384 → verdictIn r ≡ ofFile (runRead (contents .claim) (programOf (now (file .entry)) (contents .program)) (targetsOf (now (file .entry)) (contents .program)) (contents .memory) (stepsOf (now (file .entry)) (contents .evidence .at) (contents .evidence .count)))) ⌝ }
+    ensures { λ r. ⌜ (ProgramInRange (programOf (now (code .entry)) (contents .program)) → contents .evidence .count ≤ 1024 → length (now (lower .entry)) ≡ 16384 → verdictIn r ≡ ofFile (runRead (contents .claim) (programOf (now (code .entry)) (contents .program)) (targetsOf (now (code .entry)) (contents .program)) (contents .memory) (stepsOf (now (file .entry)) (contents .evidence .at) (contents .evidence .count)))) ⌝ }
 {
     if contents.claim == 1 {
-        return run_answer(replay(file, file, contents, lower));
+        return run_answer(replay(code, file, contents, lower));
     }
     let program = contents.program;
     let memory = contents.memory;
     let steps = contents.evidence;
-    pso_answer(replay_steps(file, file, program, memory, steps.at, steps.count, lower))
+    pso_answer(replay_steps(code, file, program, memory, steps.at, steps.count, lower))
 }
 
-// The judgement in an area that is large enough. The part of it that the judgement does not use is untouched.
-fn judge_file(file: &[u8], work: &mut [u8]) -> Answer
+// The judgement in an area that is large enough. `code` is the file that holds the program and `file` the one that holds the evidence: the same,
+// or a program file (`alone`) and an evidence file. The part of the area that the judgement does not use is untouched.
+fn judge_file(alone: bool, code: &[u8], file: &[u8], work: &mut [u8]) -> Answer
     requires { ⌜ 65536 ≤ length (now work) ⌝ }
-    ensures { λ r. ⌜ verdictIn r ≡ judged (now (file .entry)) (length (now (work .entry))) ⌝ }
+    ensures { λ r. ⌜ verdictIn r ≡ judged (input alone (now (code .entry)) (now (file .entry))) (length (now (work .entry))) ⌝ }
+    ensures { λ r. ⌜ offendingIn (input alone (now (code .entry)) (now (file .entry))) r ≡ offending (input alone (now (code .entry)) (now (file .entry))) (readFile (input alone (now (code .entry)) (now (file .entry))) (length (now (work .entry)))) ⌝ }
     ensures { λ r. ⌜ drop (usedOf (length (now (work .entry)))) (now (work .exit)) ≡ drop (usedOf (length (now (work .entry)))) (now (work .entry)) ⌝ }
 {
-    let reading = read(file, work);
+    let reading = read(alone, code, file, work);
     let answer = reading.answer;
     let Checked::Fine = answer else {
-        return Answer::Unread(refusal_of(answer));
+        let part = reading.part;
+        return Answer::Unread {
+            part: part,
+            refusal: refusal_of(answer),
+        };
     };
     let contents = reading.contents;
     if contents.claim == 0 {
         let program = contents.program;
         let entries = contents.evidence;
         let at = summary_place(work.len());
-        return list_judged(file, &mut work[16384..], at, entries.count, program);
+        return list_judged(code, file, &mut work[16384..], at, entries.count, program);
     }
-    replay_answer(file, contents, &mut work[..16384])
+    replay_answer(code, file, contents, &mut work[..16384])
 }
 
-// The answer for a file. Afterwards the first 16,384 bytes of the work area and twelve for each entry allowed are 0, and the rest is untouched;
-// after 8 all of it is.
-fn judge_and_clear(file: &[u8], work: &mut [u8]) -> Answer
-    ensures { λ r. ⌜ verdictIn r ≡ judged (now (file .entry)) (length (now (work .entry))) ⌝ }
+// The answer. Afterwards the first 16,384 bytes of the work area and twelve for each entry allowed are 0, and the rest is untouched; after 8 all
+// of it is.
+fn judge_and_clear(alone: bool, code: &[u8], file: &[u8], work: &mut [u8]) -> Answer
+    ensures { λ r. ⌜ verdictIn r ≡ judged (input alone (now (code .entry)) (now (file .entry))) (length (now (work .entry))) ⌝ }
+    ensures { λ r. ⌜ offendingIn (input alone (now (code .entry)) (now (file .entry))) r ≡ offending (input alone (now (code .entry)) (now (file .entry))) (readFile (input alone (now (code .entry)) (now (file .entry))) (length (now (work .entry)))) ⌝ }
     ensures { λ r. ⌜ now (work .exit) ≡ areaAfter (now (work .entry)) ⌝ }
 {
     let n = work.len();
     if n < 65536 {
-        return Answer::Unread(Refusal {
-            number: 8,
-            place: 0,
-        });
+        return Answer::Unread {
+            part: Part::InProgram,
+            refusal: Refusal {
+                number: 8,
+                place: 0,
+            },
+        };
     }
-    let answer = judge_file(file, work);
+    let answer = judge_file(alone, code, file, work);
     clear_used(work, used_of(n));
     answer
 }
 
-// The verdict of a file, as C has it. The crate `exports` hands this function on.
+// And the verdict as C has it.
+fn judge_input<'a>(alone: bool, code: &'a [u8], file: &'a [u8], work: &mut [u8]) -> Verdict
+    ensures { λ r. ⌜ r ≡ saidInC (input alone (now (code .entry)) (now (file .entry))) (length (now (work .entry))) ⌝ }
+    ensures { λ r. ⌜ now (work .exit) ≡ areaAfter (now (work .entry)) ⌝ }
+{
+    let answer = judge_and_clear(alone, code, file, work);
+    shown(alone, code, file, answer)
+}
+
+// The verdict of a combined file, as C has it. The crate `exports` hands this function on, and the next.
 pub fn judge(file: &[u8], work: &mut [u8]) -> Verdict
-    ensures judged { λ r. ⌜ Answered (now (file .entry)) (length (now (work .entry))) r ⌝ }
-    ensures computed { λ r. ⌜ r ≡ inC (judged (now (file .entry)) (length (now (work .entry)))) ⌝ }
+    ensures judged { λ r. ⌜ Answered (combined (now (file .entry))) (length (now (work .entry))) r ⌝ }
+    ensures computed { λ r. ⌜ r ≡ saidInC (combined (now (file .entry))) (length (now (work .entry))) ⌝ }
     ensures area { λ r. ⌜ now (work .exit) ≡ areaAfter (now (work .entry)) ⌝ }
 {
-    verdict_of(judge_and_clear(file, work))
+    judge_input(false, file, file, work)
+}
+
+// The verdict of an evidence file for the program of a program file (document 02, N6).
+pub fn judge_pair<'a>(program: &'a [u8], evidence: &'a [u8], work: &mut [u8]) -> Verdict
+    ensures judged { λ r. ⌜ Answered (pair (now (program .entry)) (now (evidence .entry))) (length (now (work .entry))) r ⌝ }
+    ensures computed { λ r. ⌜ r ≡ saidInC (pair (now (program .entry)) (now (evidence .entry))) (length (now (work .entry))) ⌝ }
+    ensures area { λ r. ⌜ now (work .exit) ≡ areaAfter (now (work .entry)) ⌝ }
+{
+    judge_input(true, program, evidence, work)
 }

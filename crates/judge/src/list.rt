@@ -14,15 +14,22 @@ use targets::looks_started;
 use targets::target_held;
 
 // The lowest target that is not held, or the number of targets.
-fn lowest_unheld(file: &[u8], list: &[u8], sum: &[u8], n: usize, program: Program) -> usize
-    requires { ⌜ Ready (now file) (now list) (now sum) n program ⌝ }
-    ensures { λ r. ⌜ LowestFailing (heldTest (now (file .entry)) (now (list .entry)) n program) (program .targets .count) r ⌝ }
+fn lowest_unheld(
+    code: &[u8],
+    file: &[u8],
+    list: &[u8],
+    sum: &[u8],
+    n: usize,
+    program: Program,
+) -> usize
+    requires { ⌜ Ready (now code) (now file) (now list) (now sum) n program ⌝ }
+    ensures { λ r. ⌜ LowestFailing (heldTest (now (code .entry)) (now (file .entry)) (now (list .entry)) n program) (program .targets .count) r ⌝ }
 {
     let shape = program.shape;
     let targets = program.targets;
     let count = targets.count;
     for k in 0..count {
-        let states = target_of(file, program, k);
+        let states = target_of(code, program, k);
         if !target_held(file, list, sum, n, shape, states) {
             return k;
         }
@@ -31,9 +38,16 @@ fn lowest_unheld(file: &[u8], list: &[u8], sum: &[u8], n: usize, program: Progra
 }
 
 // The lowest entry that a start is above, or the number of entries.
-fn lowest_started(file: &[u8], list: &[u8], sum: &[u8], n: usize, program: Program) -> usize
-    requires { ⌜ Ready (now file) (now list) (now sum) n program ⌝ }
-    ensures { λ r. ⌜ LowestFailing (startTest (now (file .entry)) (now (list .entry)) n program) n r ⌝ }
+fn lowest_started(
+    code: &[u8],
+    file: &[u8],
+    list: &[u8],
+    sum: &[u8],
+    n: usize,
+    program: Program,
+) -> usize
+    requires { ⌜ Ready (now code) (now file) (now list) (now sum) n program ⌝ }
+    ensures { λ r. ⌜ LowestFailing (startTest (now (code .entry)) (now (file .entry)) (now (list .entry)) n program) n r ⌝ }
 {
     let shape = program.shape;
     let initial = program.initial;
@@ -47,12 +61,19 @@ fn lowest_started(file: &[u8], list: &[u8], sum: &[u8], n: usize, program: Progr
 }
 
 // The lowest entry with a way in from outside the list, and the lowest step of it; safe if there is none.
-fn lowest_entered(file: &[u8], list: &[u8], sum: &[u8], n: usize, program: Program) -> Answer
-    requires { ⌜ Ready (now file) (now list) (now sum) n program ⌝ }
-    ensures { λ r. ⌜ verdictIn r ≡ enteredSaid (now (file .entry)) (now (list .entry)) n program ⌝ }
+fn lowest_entered(
+    code: &[u8],
+    file: &[u8],
+    list: &[u8],
+    sum: &[u8],
+    n: usize,
+    program: Program,
+) -> Answer
+    requires { ⌜ Ready (now code) (now file) (now list) (now sum) n program ⌝ }
+    ensures { λ r. ⌜ verdictIn r ≡ enteredSaid (now (code .entry)) (now (file .entry)) (now (list .entry)) n program ⌝ }
 {
     for k in 0..n {
-        let opening = open_step(file, file, list, sum, n, program, k);
+        let opening = open_step(code, file, list, sum, n, program, k);
         if let Opening::Through { step } = opening {
             return Answer::Entered {
                 entry: k,
@@ -65,23 +86,24 @@ fn lowest_entered(file: &[u8], list: &[u8], sum: &[u8], n: usize, program: Progr
 
 // The numbers are tested in this order.
 pub(crate) fn list_answer(
+    code: &[u8],
     file: &[u8],
     list: &[u8],
     sum: &[u8],
     n: usize,
     program: Program,
 ) -> Answer
-    requires { ⌜ Ready (now file) (now list) (now sum) n program ⌝ }
-    ensures { λ r. ⌜ verdictIn r ≡ listSaid (now (file .entry)) (now (list .entry)) n program ⌝ }
+    requires { ⌜ Ready (now code) (now file) (now list) (now sum) n program ⌝ }
+    ensures { λ r. ⌜ verdictIn r ≡ listSaid (now (code .entry)) (now (file .entry)) (now (list .entry)) n program ⌝ }
 {
     let targets = program.targets;
-    let unheld = lowest_unheld(file, list, sum, n, program);
+    let unheld = lowest_unheld(code, file, list, sum, n, program);
     if unheld < targets.count {
         return Answer::Unheld { target: unheld };
     }
-    let started = lowest_started(file, list, sum, n, program);
+    let started = lowest_started(code, file, list, sum, n, program);
     if started < n {
         return Answer::Started { entry: started };
     }
-    lowest_entered(file, list, sum, n, program)
+    lowest_entered(code, file, list, sum, n, program)
 }

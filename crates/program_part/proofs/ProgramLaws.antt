@@ -40,6 +40,6 @@ module _ (s : Shape) (states : List ℕ) (f : List ℕ) (at : ℕ) where
   unfolding transitionsFrom
   transitions-most n e = omega (arith, row-most _ _ _ 256 at 0 n e)
 
-  pub targets-most : (m : ℕ) → targetsFrom s states f at ≡ Records m → m ≤ 16
+  pub targets-most : (alone : Bool) (m : ℕ) → targetsFrom alone s states f at ≡ Records m → m ≤ 16
   unfolding targetsFrom
-  targets-most m e = omega (arith, row-most _ _ _ 16 at 0 m e)
+  targets-most alone m e = omega (arith, row-most _ _ _ 16 at 0 m e)

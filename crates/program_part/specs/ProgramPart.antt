@@ -1,5 +1,6 @@
--- The program part of a file, from a place in it on: one 01; an 02 for each process; 0 to 256 of 03; 1 to 16 of 04; up to the claim
--- (document 01, "Records"). A file that ends before the claim is 6.
+-- The program part of a file, from a place in it on: one 01; an 02 for each process; 0 to 256 of 03; 1 to 16 of 04 (document 01, "Records").
+-- In a combined file it ends at the claim, and a file that ends before that is 6. In a program file (document 02, N6) it ends with the file, which is 6 if it
+-- ends before its first 04; an 0F there is 2, as every other kind but 04 is. `alone` says that the file is a program file.
 use Prim.Native.Nat.{ℕ, zero, suc, _+_, _*_}
 use mathlib.Core.Bool.{Bool, true, false, cond, _&&_, not}
 use mathlib.Core.List.{List, [], _∷_}
@@ -67,13 +68,13 @@ rowFrom ends check size (suc left) at n =
 unfoldable pub transitionsFrom : Shape → List ℕ → List ℕ → ℕ → Counted
 transitionsFrom s states f at = rowFrom (λ k n. not (isKind f k 3)) (λ k n. checked (transitionNumber s states f k n) k) (λ k. 8) 256 at 0
 
--- the claim stands here, after at least one target
-unfoldable pub atClaim : List ℕ → ℕ → ℕ → Bool
-atClaim f at n = isKind f at 15 && leb 1 n
+-- the part ends here, after at least one target: with the file, or at the claim
+unfoldable pub atEnd : Bool → List ℕ → ℕ → ℕ → Bool
+atEnd alone f at n = cond alone (leb (length f) at) (isKind f at 15) && leb 1 n
 
--- the 04s, up to the claim
-unfoldable pub targetsFrom : Shape → List ℕ → List ℕ → ℕ → Counted
-targetsFrom s states f at = rowFrom (atClaim f) (λ k n. unlessEnd f k (checked (targetNumber s states f k n) k)) (λ k. 5) 16 at 0
+-- the 04s, up to where the part ends
+unfoldable pub targetsFrom : Bool → Shape → List ℕ → List ℕ → ℕ → Counted
+targetsFrom alone s states f at = rowFrom (atEnd alone f) (λ k n. unlessEnd f k (checked (targetNumber s states f k n) k)) (λ k. 5) 16 at 0
 
 -- ---- the whole part: where everything stands, or the first refusal
 
@@ -100,10 +101,10 @@ withCount (Records n) x = x n
 withCount (Stopped r) x = programRefused r
 
 -- the 03s and 04s
-unfoldable pub rowsFrom : List ℕ → ℕ → Shape → List ℕ → List ℕ → ProgramRead
-rowsFrom f at s states initial =
+unfoldable pub rowsFrom : Bool → List ℕ → ℕ → Shape → List ℕ → List ℕ → ProgramRead
+rowsFrom alone f at s states initial =
     withCount (transitionsFrom s states f at) (λ n.
-    withCount (targetsFrom s states f (at + 8 * n)) (λ m.
+    withCount (targetsFrom alone s states f (at + 8 * n)) (λ m.
     record {
       answer = Fine;
       program =
@@ -118,14 +119,14 @@ rowsFrom f at s states initial =
     }))
 
 -- and the 02s before them
-unfoldable pub restFrom : List ℕ → ℕ → Shape → ProgramRead
-restFrom f at s =
+unfoldable pub restFrom : Bool → List ℕ → ℕ → Shape → ProgramRead
+restFrom alone f at s =
     orRefused (statesFrom f at (s .processes)) (λ _.
-    rowsFrom f (at + 3 * s .processes) s (ofProcesses f at 1 (s .processes)) (ofProcesses f at 2 (s .processes)))
+    rowsFrom alone f (at + 3 * s .processes) s (ofProcesses f at 1 (s .processes)) (ofProcesses f at 2 (s .processes)))
 
 -- and the 01 before these
-unfoldable pub programFrom : List ℕ → ℕ → ProgramRead
-programFrom f at = orRefused (unlessEnd f at (checked (shapeNumber f at) at)) (λ _. restFrom f (at + 7) (shapeAt f at))
+unfoldable pub programFrom : Bool → List ℕ → ℕ → ProgramRead
+programFrom alone f at = orRefused (unlessEnd f at (checked (shapeNumber f at) at)) (λ _. restFrom alone f (at + 7) (shapeAt f at))
 
 -- ---- what stands there
 

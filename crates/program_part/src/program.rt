@@ -1,10 +1,11 @@
-// The program part of a file: kinds 01 to 04 in their order (document 01, "Records").
+// The program part of a file: kinds 01 to 04 in their order (document 01, "Records"). `alone` says that the file is a program file, which ends with
+// this part (document 02, N6); in a combined file the claim follows.
 ghost use mathlib.Core.Path.{_≡_};
 ghost use Prim.Native.Nat.{_+_, _≤_};
 ghost use mathlib.Core.Bool.{cond};
 ghost use lib.ListN.{length, getD};
 ghost use Rattle.program_part.specs.Records.{shapeAt, valueCount};
-ghost use Rattle.program_part.specs.ProgramPart.{refusalOf, stopOf, unlessEnd, statesFrom, ofProcesses, transitionsFrom, atClaim, targetsFrom, programRefused, rowsFrom, restFrom, programFrom};
+ghost use Rattle.program_part.specs.ProgramPart.{refusalOf, stopOf, unlessEnd, statesFrom, ofProcesses, transitionsFrom, atEnd, targetsFrom, programRefused, rowsFrom, restFrom, programFrom};
 use crate::bytes::both;
 use crate::bytes::field;
 use crate::bytes::wide;
@@ -45,7 +46,7 @@ pub struct Row {
     pub count: usize,
 }
 
-// Where the program part's records stand, and where the claim does.
+// Where the program part's records stand, and where the claim does (in a program file, its end).
 pub struct Program {
     pub shape: Shape,
     pub states: [u8; 4],
@@ -148,19 +149,22 @@ fn transitions_from(file: &[u8], at: usize, shape: Shape, states: [u8; 4]) -> Co
     Counted::Records(n)
 }
 
-fn at_claim(file: &[u8], at: usize, n: usize) -> bool
-    ensures { λ r. ⌜ r ≡ atClaim (now (file .entry)) at n ⌝ }
+fn at_end(alone: bool, file: &[u8], at: usize, n: usize) -> bool
+    ensures { λ r. ⌜ r ≡ atEnd alone (now (file .entry)) at n ⌝ }
 {
+    if alone {
+        return both(file.len() <= at, 1 <= n);
+    }
     both(is_kind(file, at, 15), 1 <= n)
 }
 
-// The 04s, up to the claim.
-fn targets_from(file: &[u8], at: usize, shape: Shape, states: [u8; 4]) -> Counted
-    ensures { λ r. ⌜ r ≡ targetsFrom shape states (now (file .entry)) at ⌝ }
+// The 04s, up to where the part ends.
+fn targets_from(alone: bool, file: &[u8], at: usize, shape: Shape, states: [u8; 4]) -> Counted
+    ensures { λ r. ⌜ r ≡ targetsFrom alone shape states (now (file .entry)) at ⌝ }
 {
     let mut k = at;
     let mut n = 0;
-    while !at_claim(file, k, n) {
+    while !at_end(alone, file, k, n) {
         let answer = unless_end(file, k, check_target(file, k, shape, states, n));
         let Checked::Fine = answer else {
             return Counted::Stopped(refusal_of(answer));
@@ -242,16 +246,23 @@ fn initial_of(file: &[u8], at: usize, n: usize) -> [u8; 4]
 }
 
 // The 03s and 04s.
-fn read_rows(file: &[u8], at: usize, shape: Shape, states: [u8; 4], initial: [u8; 4]) -> ProgramRead
+fn read_rows(
+    alone: bool,
+    file: &[u8],
+    at: usize,
+    shape: Shape,
+    states: [u8; 4],
+    initial: [u8; 4],
+) -> ProgramRead
     requires { ⌜ at ≤ length (now file) + 12 ⌝ }
-    ensures { λ r. ⌜ r ≡ rowsFrom (now (file .entry)) at shape states initial ⌝ }
+    ensures { λ r. ⌜ r ≡ rowsFrom alone (now (file .entry)) at shape states initial ⌝ }
 {
     let transitions = transitions_from(file, at, shape, states);
     let Counted::Records(n) = transitions else {
         return program_refused(stop_of(transitions));
     };
     let next = at + 8 * n;
-    let targets = targets_from(file, next, shape, states);
+    let targets = targets_from(alone, file, next, shape, states);
     let Counted::Records(m) = targets else {
         return program_refused(stop_of(targets));
     };
@@ -269,9 +280,9 @@ fn read_rows(file: &[u8], at: usize, shape: Shape, states: [u8; 4], initial: [u8
 }
 
 // And the 02s before them.
-fn read_rest(file: &[u8], at: usize, shape: Shape) -> ProgramRead
+fn read_rest(alone: bool, file: &[u8], at: usize, shape: Shape) -> ProgramRead
     requires { ⌜ (at ≤ length (now file)) × (shape .processes ≤ 4) ⌝ }
-    ensures { λ r. ⌜ r ≡ restFrom (now (file .entry)) at shape ⌝ }
+    ensures { λ r. ⌜ r ≡ restFrom alone (now (file .entry)) at shape ⌝ }
 {
     let n = shape.processes;
     let all = states_from(file, at, n);
@@ -280,17 +291,17 @@ fn read_rest(file: &[u8], at: usize, shape: Shape) -> ProgramRead
     };
     let states = states_of(file, at, n);
     let initial = initial_of(file, at, n);
-    read_rows(file, at + 3 * n, shape, states, initial)
+    read_rows(alone, file, at + 3 * n, shape, states, initial)
 }
 
 // The program part, from a place in the file on.
-pub fn read_program(file: &[u8], at: usize) -> ProgramRead
-    ensures { λ r. ⌜ r ≡ programFrom (now (file .entry)) at ⌝ }
+pub fn read_program(alone: bool, file: &[u8], at: usize) -> ProgramRead
+    ensures { λ r. ⌜ r ≡ programFrom alone (now (file .entry)) at ⌝ }
 {
     let opening = unless_end(file, at, check_shape(file, at));
     let Checked::Fine = opening else {
         return program_refused(refusal_of(opening));
     };
     let shape = shape_at(file, at);
-    read_rest(file, at + 7, shape)
+    read_rest(alone, file, at + 7, shape)
 }

@@ -30,13 +30,13 @@ use Rattle.program_part.specs.Records.{
   stepNumber,
   stepAt,
 }
-use Rattle.program_part.specs.ProgramPart.{unlessEnd, statesFrom, rowFrom, transitionsFrom, atClaim, targetsFrom, rowsFrom, restFrom, programFrom}
+use Rattle.program_part.specs.ProgramPart.{unlessEnd, statesFrom, rowFrom, transitionsFrom, atEnd, targetsFrom, rowsFrom, restFrom, programFrom}
 use Rattle.whole_file.specs.EvidencePart.{stepsFrom, stepsOf}
 use Rattle.whole_file.specs.Reading.{runEvidence, evidenceFrom, partsOf, readFile}
 use Rattle.replay.specs.Cases.{ofRun, Holds, Each, no-row, row, cases}
 
 pub cases-hold : Each Holds cases
-unfolding Holds ofRun readFile partsOf evidenceFrom runEvidence startNumber startNames startName programFrom restFrom rowsFrom statesFrom transitionsFrom targetsFrom atClaim rowFrom unlessEnd stepsFrom stepsOf stepAt stepNumber stepNames stepBody claimNumber targetNumber stateNames stateName transitionNumber transitionNames operationNames operationOf allZero valueExists statesNumber shapeNumber countInRange countsInRange countIfAbsent countsIfAbsent inRange isKind checked firstNumber cut
+unfolding Holds ofRun readFile partsOf evidenceFrom runEvidence startNumber startNames startName programFrom restFrom rowsFrom statesFrom transitionsFrom targetsFrom atEnd rowFrom unlessEnd stepsFrom stepsOf stepAt stepNumber stepNames stepBody claimNumber targetNumber stateNames stateName transitionNumber transitionNames operationNames operationOf allZero valueExists statesNumber shapeNumber countInRange countsInRange countIfAbsent countsIfAbsent inRange isKind checked firstNumber cut
 cases-hold =
     row refl
     (row refl

@@ -4,7 +4,7 @@ use Prim.Native.Nat.{ℕ}
 use mathlib.Core.Path.{_≡_}
 use mathlib.Core.Option.{Option, none, some}
 use mathlib.Core.List.{List, [], _∷_, _++_}
-use Rattle.whole_file.specs.Reading.{FileRead, refused, list, run, psoRun, readFile}
+use Rattle.whole_file.specs.Reading.{combined, FileRead, refused, list, run, psoRun, readFile}
 use Rattle.replay.specs.Replay.{RunVerdict, reachable, stopped, missed, runVerdict}
 
 -- ---- rows and what they say
@@ -15,14 +15,14 @@ pub record Row : Type 0 where
 
 -- the verdict of a file that is a run
 unfoldable pub ofRun : FileRead → Option RunVerdict
-ofRun (refused r) = none
+ofRun (refused w r) = none
 ofRun (list P ts es) = none
 ofRun (run P ts m ss) = some (runVerdict P ts m ss)
 ofRun (psoRun P ts m ss) = none
 
 -- with the smallest work area
 unfoldable pub Holds : Row → Type 0
-Holds r = ofRun (readFile (r .file) 65536) ≡ some (r .verdict)
+Holds r = ofRun (readFile (combined (r .file)) 65536) ≡ some (r .verdict)
 
 pub data Each (F : Row → Type 0) : List Row → Type 0 where
   no-row : Each F []

@@ -21,7 +21,7 @@ use Rattle.program_part.specs.Bytes.{byte, cut}
 use Rattle.program_part.specs.Records.{checked, claimNumber, startNumber, memoryAt, isKind, shapeAt, shapeNumber}
 use Rattle.program_part.specs.ProgramPart.{unlessEnd, statesFrom, ofProcesses, transitionsFrom, targetsFrom, orRefused, withCount, rowsFrom, restFrom, programFrom}
 use Rattle.whole_file.specs.EvidencePart.{stepsFrom, EntriesRead, entriesFrom, entriesAllowed}
-use Rattle.whole_file.specs.Reading.{Evidence, refusal, entries, steps, claimThen, evidenceArea, runEvidence, evidenceFrom, Parts, noParts, twoParts, partsOf}
+use Rattle.whole_file.specs.Reading.{Input, evidenceAt, Evidence, refusal, entries, steps, claimThen, evidenceArea, runEvidence, evidenceFrom, Parts, noParts, twoParts, partsOf}
 use Rattle.program_part.proofs.RecordLaws.{fine-refused, good, cut-fits, unless-fine}
 use Rattle.program_part.proofs.ProgramLaws.{shape-fine}
 
@@ -82,14 +82,14 @@ run-area f p w claim at = go (unlessEnd f at (checked (startNumber (p .shape) f 
 
 -- ---- the program part, when nothing of it is refused
 
-pub record ProgramFine (f : List ℕ) (at : ℕ) : Type 0 where
+pub record ProgramFine (alone : Bool) (f : List ℕ) (at : ℕ) : Type 0 where
   pub transitions : ℕ
   pub targets : ℕ
   pub shape : unlessEnd f at (checked (shapeNumber f at) at) ≡ Fine
   pub states : statesFrom f (at + 7) (shapeAt f at .processes) ≡ Fine
   pub rows : transitionsFrom (shapeAt f at) (ofProcesses f (at + 7) 1 (shapeAt f at .processes)) f (at + 7 + 3 * shapeAt f at .processes) ≡ Records transitions
-  pub aims : targetsFrom (shapeAt f at) (ofProcesses f (at + 7) 1 (shapeAt f at .processes)) f (at + 7 + 3 * shapeAt f at .processes + 8 * transitions) ≡ Records targets
-  pub same : programFrom f at .program
+  pub aims : targetsFrom alone (shapeAt f at) (ofProcesses f (at + 7) 1 (shapeAt f at .processes)) f (at + 7 + 3 * shapeAt f at .processes + 8 * transitions) ≡ Records targets
+  pub same : programFrom alone f at .program
       ≡ record {
         shape = shapeAt f at;
         states = ofProcesses f (at + 7) 1 (shapeAt f at .processes);
@@ -99,7 +99,7 @@ pub record ProgramFine (f : List ℕ) (at : ℕ) : Type 0 where
         claim = at + 7 + 3 * shapeAt f at .processes + 8 * transitions + 5 * targets;
       }
 
-module _ (f : List ℕ) (at : ℕ) (q : programFrom f at .answer ≡ Fine) where
+module _ (alone : Bool) (f : List ℕ) (at : ℕ) (q : programFrom alone f at .answer ≡ Fine) where
   abbrev s : Shape
   s = shapeAt f at
 
@@ -110,40 +110,46 @@ module _ (f : List ℕ) (at : ℕ) (q : programFrom f at .answer ≡ Fine) where
   first = at + 7 + 3 * s .processes
 
   by-targets : (n : ℕ) (m : Counted) → unlessEnd f at (checked (shapeNumber f at) at) ≡ Fine → statesFrom f (at + 7) (s .processes) ≡ Fine
-      → transitionsFrom s states f first ≡ Records n → targetsFrom s states f (first + 8 * n) ≡ m → ProgramFine f at
+      → transitionsFrom s states f first ≡ Records n → targetsFrom alone s states f (first + 8 * n) ≡ m → ProgramFine alone f at
   unfolding programFrom restFrom rowsFrom
   by-targets n (Stopped r) a b c d = absurd (fine-refused {r = r} (sym q ∙ rw (a, b, c, d)))
   by-targets n (Records m) a b c d = record { transitions = n; targets = m; shape = a; states = b; rows = c; aims = d; same = rw (a, b, c, d) }
 
   by-parts : (x y : Checked) (n : Counted) → unlessEnd f at (checked (shapeNumber f at) at) ≡ x → statesFrom f (at + 7) (s .processes) ≡ y
-      → transitionsFrom s states f first ≡ n → ProgramFine f at
+      → transitionsFrom s states f first ≡ n → ProgramFine alone f at
   unfolding programFrom restFrom rowsFrom
   by-parts (Refused r) y n a b c = absurd (fine-refused {r = r} (sym q ∙ rw a))
   by-parts Fine (Refused r) n a b c = absurd (fine-refused {r = r} (sym q ∙ rw (a, b)))
   by-parts Fine Fine (Stopped r) a b c = absurd (fine-refused {r = r} (sym q ∙ rw (a, b, c)))
-  by-parts Fine Fine (Records n) a b c = by-targets n (targetsFrom s states f (first + 8 * n)) a b c refl
+  by-parts Fine Fine (Records n) a b c = by-targets n (targetsFrom alone s states f (first + 8 * n)) a b c refl
 
-  pub program-fine : ProgramFine f at
+  pub program-fine : ProgramFine alone f at
   program-fine = by-parts _ _ _ refl refl refl
 
 -- the shape is one that document 01 allows
-pub shape-range : (f : List ℕ) (at : ℕ) → programFrom f at .answer ≡ Fine → (programFrom f at .program .shape .processes ≤ 4) × (programFrom f at .program .shape .variables ≤ 4)
-shape-range f at q =
-    let P = program-fine f at q in
+pub shape-range : (alone : Bool) (f : List ℕ) (at : ℕ) → programFrom alone f at .answer ≡ Fine
+    → (programFrom alone f at .program .shape .processes ≤ 4) × (programFrom alone f at .program .shape .variables ≤ 4)
+shape-range alone f at q =
+    let P = program-fine alone f at q in
     let w = shape-fine f at (P .shape) in
     rw (P .same) (w .1, w .2)
 
 -- ---- the whole
 
-module _ (f : List ℕ) (area : ℕ) where
-  pub parts-short : area < 65536 → partsOf f area ≡ noParts (record { number = 8; place = 0 })
+module _ (x : Input) (area : ℕ) where
+  -- the program part
+  abbrev part : ProgramRead
+  part = programFrom (x .alone) (x .code) 0
+
+  pub parts-short : area < 65536 → partsOf x area ≡ noParts (record { number = 8; place = 0 })
   unfolding partsOf
   parts-short l = rw (lt-ltb area 65536 l)
 
-  pub parts-refused : (r : Refusal) → 65536 ≤ area → programFrom f 0 .answer ≡ Refused r → partsOf f area ≡ noParts r
+  pub parts-refused : (r : Refusal) → 65536 ≤ area → part .answer ≡ Refused r → partsOf x area ≡ noParts r
   unfolding partsOf
   parts-refused r l e = rw (le-ltb area 65536 l, e)
 
-  pub parts-both : 65536 ≤ area → programFrom f 0 .answer ≡ Fine → partsOf f area ≡ twoParts (programFrom f 0 .program) (evidenceFrom f (programFrom f 0 .program .claim) (programFrom f 0 .program) area)
+  pub parts-both : 65536 ≤ area → part .answer ≡ Fine
+      → partsOf x area ≡ twoParts (part .program) (evidenceFrom (x .file) (evidenceAt x (part .program)) (part .program) area)
   unfolding partsOf
   parts-both l e = rw (le-ltb area 65536 l, e)

@@ -1,5 +1,5 @@
--- The reading of a file: its contents, or a refusal's number and place (document 01, "Records" and the refusal table). Number 8 is tested
--- before all; then the program part, then the evidence part.
+-- The reading of what is judged: its contents, or a refusal's number and place (document 01, "Records" and the refusal table). Number 8 is tested
+-- before all; then the program part is read through, then the evidence part.
 use Prim.Native.Nat.{ℕ, zero, suc, _+_, _*_}
 use mathlib.Core.Bool.{Bool, true, false, cond}
 use mathlib.Core.List.{List, [], _∷_, _++_}
@@ -15,12 +15,37 @@ use Rattle.program_part.specs.declared.program.Counted.{Counted}
 use Rattle.program_part.specs.declared.program.Counted.the-variants.{Records, Stopped}
 use Rattle.program_part.specs.declared.program.Program.{Program}
 use Rattle.program_part.specs.declared.program.ProgramRead.{ProgramRead}
+use Rattle.whole_file.specs.declared.evidence.Part.{Part}
+use Rattle.whole_file.specs.declared.evidence.Part.the-variants.{InProgram, InEvidence}
 use Rattle.whole_file.specs.declared.evidence.Reading.{Reading}
 use Rattle.program_part.specs.Bytes.{choose, byte}
 use Rattle.program_part.specs.Records.{checked, claimNumber, startNumber, memoryAt}
 use Rattle.program_part.specs.ProgramPart.{unlessEnd, noProgram, programFrom, programOf, targetsOf}
 use Rattle.whole_file.specs.EvidencePart.{stepsFrom, stepsOf, EntriesRead, entriesFrom, entriesAllowed, wroteFrom}
 use Rattle.whole_file.specs.Tally.{countOf}
+
+-- ---- what is judged (document 02, N6)
+
+-- the bytes that hold the program, those that hold the evidence, and whether the program has a file of its own
+pub record Input : Type 0 where
+  pub code : List ℕ
+  pub file : List ℕ
+  pub alone : Bool
+
+abbrev pub input : Bool → List ℕ → List ℕ → Input
+input alone g f = record { code = g; file = f; alone = alone }
+
+-- one file holds both
+abbrev pub combined : List ℕ → Input
+combined f = input false f f
+
+-- a program file and an evidence file
+abbrev pub pair : List ℕ → List ℕ → Input
+pair g f = input true g f
+
+-- where the evidence begins in its file: at the claim that ends the program part, or with the evidence file
+abbrev pub evidenceAt : Input → Program → ℕ
+evidenceAt x p = cond (x .alone) 0 (p .claim)
 
 -- ---- the parts
 
@@ -60,14 +85,16 @@ programThen r x = answered (r .answer)
     answered Fine = twoParts (r .program) (x (r .program))
     answered (Refused q) = noParts q
 
-unfoldable pub partsOf : List ℕ → ℕ → Parts
-partsOf f area =
-    choose (ltb area 65536) (λ _. noParts (record { number = 8; place = 0 })) (λ _. programThen (programFrom f 0) (λ p. evidenceFrom f (p .claim) p area))
+unfoldable pub partsOf : Input → ℕ → Parts
+partsOf x area =
+    choose (ltb area 65536) (λ _. noParts (record { number = 8; place = 0 }))
+    (λ _. programThen (programFrom (x .alone) (x .code) 0) (λ p. evidenceFrom (x .file) (evidenceAt x p) p area))
 
--- ---- what a file says
+-- ---- what it says
 
 pub data FileRead : Type 0 where
-  refused : Refusal → FileRead
+  -- in which part, and why
+  refused : Part → Refusal → FileRead
   -- program, targets, entries
   list : pws.Program → List (ℕ → ℕ) → List Configuration → FileRead
   -- program, targets, the memory that the run starts from, steps
@@ -75,27 +102,28 @@ pub data FileRead : Type 0 where
   -- the same, of the PSO machine (document 02, N7)
   psoRun : pws.Program → List (ℕ → ℕ) → List ℕ → List Step → FileRead
 
-abbrev pub listRead : List ℕ → Program → Checked → EntriesRead → FileRead
-listRead f p Fine r = list (programOf f p) (targetsOf f p) (r .entries)
-listRead f p (Refused q) r = refused q
+abbrev pub listRead : Input → Program → Checked → EntriesRead → FileRead
+listRead x p Fine r = list (programOf (x .code) p) (targetsOf (x .code) p) (r .entries)
+listRead x p (Refused q) r = refused InEvidence q
 
 -- claim 1 or claim 2
 abbrev pub runRead : ℕ → pws.Program → List (ℕ → ℕ) → List ℕ → List Step → FileRead
 runRead claim P ts m ss = cond (eqb claim 1) (run P ts m ss) (psoRun P ts m ss)
 
-abbrev pub evidenceRead : List ℕ → Program → Evidence → FileRead
-evidenceRead f p (refusal r) = refused r
-evidenceRead f p (entries r) = listRead f p (r .answer) r
-evidenceRead f p (steps claim m (Records n)) = runRead claim (programOf f p) (targetsOf f p) m (stepsOf f (p .claim + 2 + 5) n)
-evidenceRead f p (steps claim m (Stopped r)) = refused r
+abbrev pub evidenceRead : Input → Program → Evidence → FileRead
+evidenceRead x p (refusal r) = refused InEvidence r
+evidenceRead x p (entries r) = listRead x p (r .answer) r
+evidenceRead x p (steps claim m (Records n)) =
+    runRead claim (programOf (x .code) p) (targetsOf (x .code) p) m (stepsOf (x .file) (evidenceAt x p + 2 + 5) n)
+evidenceRead x p (steps claim m (Stopped r)) = refused InEvidence r
 
-abbrev pub partsRead : List ℕ → Parts → FileRead
-partsRead f (noParts r) = refused r
-partsRead f (twoParts p e) = evidenceRead f p e
+abbrev pub partsRead : Input → Parts → FileRead
+partsRead x (noParts r) = refused InProgram r
+partsRead x (twoParts p e) = evidenceRead x p e
 
--- the file's contents, or the first refusal
-unfoldable pub readFile : List ℕ → ℕ → FileRead
-readFile f area = partsRead f (partsOf f area)
+-- the contents, or the first refusal
+unfoldable pub readFile : Input → ℕ → FileRead
+readFile x area = partsRead x (partsOf x area)
 
 -- ---- what the code hands on, and what it leaves in the work area
 
@@ -103,27 +131,36 @@ readFile f area = partsRead f (partsOf f area)
 abbrev pub noMemory : List ℕ
 noMemory = 0 ∷ 0 ∷ 0 ∷ 0 ∷ []
 
-abbrev pub readingRefused : Refusal → Reading
-readingRefused r =
-    record { answer = Refused r; contents = record { program = noProgram; claim = 0; memory = noMemory; evidence = record { at = 0; count = 0 } } }
+abbrev pub readingRefused : Part → Refusal → Reading
+readingRefused w r =
+    record {
+      answer = Refused r;
+      part = w;
+      contents = record { program = noProgram; claim = 0; memory = noMemory; evidence = record { at = 0; count = 0 } };
+    }
 
 -- a starting memory, and n records of evidence from `at` on
 abbrev pub readingWith : Program → ℕ → List ℕ → ℕ → ℕ → Reading
 readingWith p claim memory at n =
-    record { answer = Fine; contents = record { program = p; claim = claim; memory = memory; evidence = record { at = at; count = n } } }
+    record {
+      answer = Fine;
+      part = InEvidence;
+      contents = record { program = p; claim = claim; memory = memory; evidence = record { at = at; count = n } };
+    }
 
 abbrev pub countReading : Program → ℕ → List ℕ → ℕ → Counted → Reading
 countReading p claim memory at (Records n) = readingWith p claim memory at n
-countReading p claim memory at (Stopped r) = readingRefused r
+countReading p claim memory at (Stopped r) = readingRefused InEvidence r
 
-abbrev pub evidenceReading : Program → Evidence → Reading
-evidenceReading p (refusal r) = readingRefused r
-evidenceReading p (entries r) = countReading p 0 noMemory (p .claim + 2) (countOf r)
-evidenceReading p (steps claim m n) = countReading p claim m (p .claim + 2 + 5) n
+-- `at` is the place of the claim
+abbrev pub evidenceReading : ℕ → Program → Evidence → Reading
+evidenceReading at p (refusal r) = readingRefused InEvidence r
+evidenceReading at p (entries r) = countReading p 0 noMemory (at + 2) (countOf r)
+evidenceReading at p (steps claim m n) = countReading p claim m (at + 2 + 5) n
 
-abbrev pub readingOf : Parts → Reading
-readingOf (noParts r) = readingRefused r
-readingOf (twoParts p e) = evidenceReading p e
+abbrev pub readingOf : Input → Parts → Reading
+readingOf x (noParts r) = readingRefused InProgram r
+readingOf x (twoParts p e) = evidenceReading (evidenceAt x p) p e
 
 -- offsets stand from byte 16,384 on; nothing else is touched
 abbrev pub listArea : List ℕ → List ℕ → List ℕ

@@ -1,9 +1,10 @@
-// The evidence part of a file, and the whole reading (document 01, "Records" and the refusal table).
+// The evidence part, and the whole reading (document 01, "Records" and the refusal table; document 02, N6).
 ghost use mathlib.Core.Path.{_≡_};
-ghost use Prim.Native.Nat.{_+_, _≤_, _<_};
+ghost use Prim.Native.Nat.{ℕ, _+_, _≤_, _<_};
+ghost use mathlib.Core.Bool.{cond};
 ghost use lib.ListN.{length};
 ghost use Rattle.whole_file.specs.EvidencePart.{entriesAllowed};
-ghost use Rattle.whole_file.specs.Reading.{partsOf, runEvidence, evidenceFrom, evidenceReading, countReading, readingOf, readingRefused, areaRead, evidenceArea};
+ghost use Rattle.whole_file.specs.Reading.{input, partsOf, runEvidence, evidenceFrom, evidenceReading, countReading, readingOf, readingRefused, areaRead, evidenceArea};
 use crate::list::entries_from;
 use crate::start::check_start;
 use crate::start::memory_at;
@@ -31,17 +32,26 @@ pub struct Contents {
     pub evidence: Row,
 }
 
+// The part of what is judged that a refused record stands in.
+pub enum Part {
+    InProgram,
+    InEvidence,
+}
+
+// The part is that of the refusal, where there is one.
 pub struct Reading {
     pub answer: Checked,
+    pub part: Part,
     pub contents: Contents,
 }
 
-fn reading_refused(refusal: Refusal) -> Reading
-    ensures { λ r. ⌜ r ≡ readingRefused refusal ⌝ }
+fn reading_refused(part: Part, refusal: Refusal) -> Reading
+    ensures { λ r. ⌜ r ≡ readingRefused part refusal ⌝ }
 {
     let none = [0u8; 4];
     Reading {
         answer: Checked::Refused(refusal),
+        part: part,
         contents: Contents {
             program: Program {
                 shape: Shape {
@@ -73,10 +83,11 @@ fn reading_with(
     ensures { λ r. ⌜ r ≡ countReading program claim memory at counted ⌝ }
 {
     let Counted::Records(n) = counted else {
-        return reading_refused(stop_of(counted));
+        return reading_refused(Part::InEvidence, stop_of(counted));
     };
     Reading {
         answer: Checked::Fine,
+        part: Part::InEvidence,
         contents: Contents {
             program: program,
             claim: claim,
@@ -99,13 +110,12 @@ pub fn entries_allowed(area: usize) -> usize
 
 // A run, from the place after its claim on.
 fn read_run(file: &[u8], program: Program, claim: u8, at: usize) -> Reading
-    requires { ⌜ at ≡ program .claim + 2 ⌝ }
-    ensures { λ r. ⌜ r ≡ evidenceReading program (runEvidence (now (file .entry)) claim at program) ⌝ }
+    ensures { λ r. ⌜ ((k : ℕ) → at ≡ k + 2 → r ≡ evidenceReading k program (runEvidence (now (file .entry)) claim at program)) ⌝ }
 {
     let shape = program.shape;
     let start = unless_end(file, at, check_start(file, at, shape));
     let Checked::Fine = start else {
-        return reading_refused(refusal_of(start));
+        return reading_refused(Part::InEvidence, refusal_of(start));
     };
     let memory = memory_at(file, at);
     let transitions = program.transitions;
@@ -114,16 +124,15 @@ fn read_run(file: &[u8], program: Program, claim: u8, at: usize) -> Reading
     reading_with(program, claim, memory, first, taken)
 }
 
-// From the claim on.
-fn read_evidence(file: &[u8], program: Program, work: &mut [u8]) -> Reading
+// From the claim on, which stands at a place in its file.
+fn read_evidence(file: &[u8], at: usize, program: Program, work: &mut [u8]) -> Reading
     requires { ⌜ (65536 ≤ length (now work)) × (program .shape .processes ≤ 4) × (program .shape .variables ≤ 4) ⌝ }
-    ensures { λ r. ⌜ r ≡ evidenceReading program (evidenceFrom (now (file .entry)) (program .claim) program (length (now (work .entry)))) ⌝ }
-    ensures { λ r. ⌜ now (work .exit) ≡ evidenceArea (evidenceFrom (now (file .entry)) (program .claim) program (length (now (work .entry)))) (now (work .entry)) ⌝ }
+    ensures { λ r. ⌜ r ≡ evidenceReading at program (evidenceFrom (now (file .entry)) at program (length (now (work .entry)))) ⌝ }
+    ensures { λ r. ⌜ now (work .exit) ≡ evidenceArea (evidenceFrom (now (file .entry)) at program (length (now (work .entry)))) (now (work .entry)) ⌝ }
 {
-    let at = program.claim;
     let claim = unless_end(file, at, check_claim(file, at));
     let Checked::Fine = claim else {
-        return reading_refused(refusal_of(claim));
+        return reading_refused(Part::InEvidence, refusal_of(claim));
     };
     let shape = program.shape;
     let said = field(file, at, 1);
@@ -137,22 +146,34 @@ fn read_evidence(file: &[u8], program: Program, work: &mut [u8]) -> Reading
     read_run(file, program, said, at + 2)
 }
 
-// The file's contents or the first refusal; the offsets of its entries go into the work area, from byte 16,384 on.
-pub fn read(file: &[u8], work: &mut [u8]) -> Reading
-    ensures { λ r. ⌜ r ≡ readingOf (partsOf (now (file .entry)) (length (now (work .entry)))) ⌝ }
-    ensures { λ r. ⌜ now (work .exit) ≡ areaRead (partsOf (now (file .entry)) (length (now (work .entry)))) (now (work .entry)) ⌝ }
+// Where the evidence begins in its file: at the claim that ends the program part, or with a file of its own.
+fn evidence_at(alone: bool, program: Program) -> usize
+    ensures { λ r. ⌜ r ≡ cond alone 0 (program .claim) ⌝ }
+{
+    if alone { 0 } else { program.claim }
+}
+
+// The contents or the first refusal. `code` is the file that holds the program and `file` the one that holds the evidence: the same, or
+// a program file (`alone`) and an evidence file. The offsets of entries go into the work area, from byte 16,384 on.
+pub fn read(alone: bool, code: &[u8], file: &[u8], work: &mut [u8]) -> Reading
+    ensures { λ r. ⌜ r ≡ readingOf (input alone (now (code .entry)) (now (file .entry))) (partsOf (input alone (now (code .entry)) (now (file .entry))) (length (now (work .entry)))) ⌝ }
+    ensures { λ r. ⌜ now (work .exit) ≡ areaRead (partsOf (input alone (now (code .entry)) (now (file .entry))) (length (now (work .entry)))) (now (work .entry)) ⌝ }
 {
     if work.len() < 65536 {
-        return reading_refused(Refusal {
-            number: 8,
-            place: 0,
-        });
+        return reading_refused(
+            Part::InProgram,
+            Refusal {
+                number: 8,
+                place: 0,
+            },
+        );
     }
-    let part = read_program(file, 0);
+    let part = read_program(alone, code, 0);
     let answer = part.answer;
     let Checked::Fine = answer else {
-        return reading_refused(refusal_of(answer));
+        return reading_refused(Part::InProgram, refusal_of(answer));
     };
     let program = part.program;
-    read_evidence(file, program, work)
+    let at = evidence_at(alone, program);
+    read_evidence(file, at, program, work)
 }

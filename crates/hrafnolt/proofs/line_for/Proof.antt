@@ -1,8 +1,9 @@
 use mathlib.Core.Path.{refl, sym}
 use lib.ListN.{length}
 use borrow.Author.Needs.{needs}
+use Rattle.whole_file.specs.Reading.{combined}
 use Rattle.judge.specs.Judge.{refused, judged}
-use Rattle.hrafnolt.proofs.LineLaws.{judged-known, over-said, judged-said}
+use Rattle.hrafnolt.proofs.LineLaws.{judged-known, over-said, judged-said, bare}
 use Rattle.hrafnolt.proofs.line_for.Statement.{statement}
 use Rattle.hrafnolt.proofs.line_for.Tie as tie
 
@@ -25,4 +26,4 @@ line-for-spec = tie.close (tie.spec
     -- same-length-2 90:1
     (λ c. search needs)
     -- returns-2 90:1
-    (λ c. (c .before .before .put-line2 .ensures .0, judged-said (c .before .before .before .before .before .before .before .before .before .before .before .args .input .now) _ (length (c .before .before .before .before .before .before .before .work-area .result)) (sym (c .before .before .before .before .before .before .before .work-area .ensures)) (c .before .before .before .before .before .before .before .before .if1 .left) (c .before .before .put-line2 .ensures .1 (judged (c .before .before .before .before .before .before .before .before .before .before .before .args .input .now) (length (c .before .before .before .before .before .before .before .work-area .result))) (c .before .before .before .before .before .judge .ensures .1 .0) (judged-known (c .before .before .before .before .before .before .before .before .before .before .before .args .input .now) (length (c .before .before .before .before .before .before .before .work-area .result)))))))
+    (λ c. (c .before .before .put-line2 .ensures .0, judged-said (c .before .before .before .before .before .before .before .before .before .before .before .args .input .now) _ (length (c .before .before .before .before .before .before .before .work-area .result)) (sym (c .before .before .before .before .before .before .before .work-area .ensures)) (c .before .before .before .before .before .before .before .before .if1 .left) (c .before .before .put-line2 .ensures .1 (judged (combined (c .before .before .before .before .before .before .before .before .before .before .before .args .input .now)) (length (c .before .before .before .before .before .before .before .work-area .result))) (bare (combined (c .before .before .before .before .before .before .before .before .before .before .before .args .input .now)) (length (c .before .before .before .before .before .before .before .work-area .result)) _ (c .before .before .before .before .before .judge .ensures .1 .0)) (judged-known (combined (c .before .before .before .before .before .before .before .before .before .before .before .args .input .now)) (length (c .before .before .before .before .before .before .before .work-area .result)))))))

@@ -17,7 +17,7 @@ put-line-spec = tie.close (tie.spec
     -- same-length
     (λ c. search needs)
     -- returns
-    (λ c. (counts (c .before .before .put .result) (c .before .before .put .last .0) (omega (arith, c .before .before .put .ensures .0, c .before .before .before .before .before .before .before .before .before .put-number .ensures .0, c .before .before .before .before .before .before .before .before .before .before .before .before .before .put-word .ensures .0, c .before .before .before .before .before .before .before .before .before .before .before .before .before .before .before .before .pre)), λ v e K. one-line _ _ _ _ v e (c .before .before .before .before .before .if1 .taken) (c .before .before .before .before .before .before .before .before .before .before .before .before .before .put-word .ensures .1) (c .before .before .before .before .before .before .before .before .before .put-number .ensures .1) (c .before .before .put .ensures .1)))
+    (λ c. (counts (c .before .before .put .result) (c .before .before .put .last .0) (omega (arith, c .before .before .put .ensures .0, c .before .before .before .before .before .before .before .before .before .put-number .ensures .0, c .before .before .before .before .before .before .before .before .before .before .before .before .before .put-word .ensures .0, c .before .before .before .before .before .before .before .before .before .before .before .before .before .before .before .before .pre)), λ v e K. one-line _ _ _ (c .before .before .before .before .before .before .before .before .before .before .before .before .before .before .before .before .args .verdict) v e (c .before .before .before .before .before .if1 .taken) (c .before .before .before .before .before .before .before .before .before .before .before .before .before .put-word .ensures .1) (c .before .before .before .before .before .before .before .before .before .put-number .ensures .1) (c .before .before .put .ensures .1)))
     -- put-number-requires-2
     (λ c κs. search needs)
     -- slice-aggregate-put-2
@@ -27,7 +27,7 @@ put-line-spec = tie.close (tie.spec
     -- same-length-2
     (λ c. search needs)
     -- returns-2
-    (λ c. (counts (c .before .before .put2 .result) (c .before .before .put2 .last .0) (omega (arith, c .before .before .put2 .ensures .0, c .before .before .before .before .before .before .before .before .before .put-number2 .ensures .0, c .before .before .before .before .before .before .before .before .before .before .before .before .before .before .before .put-number .ensures .0, c .before .before .before .before .before .before .before .before .before .before .before .before .before .before .before .before .before .before .before .put-word .ensures .0, c .before .before .before .before .before .before .before .before .before .before .before .before .before .before .before .before .before .before .before .before .before .before .pre)), λ v e K. two-lines _ _ _ _ _ v e (c .before .before .before .before .before .before .before .before .before .before .before .if1 .left) (c .before .before .before .before .before .if2 .taken) (c .before .before .before .before .before .before .before .before .before .before .before .before .before .before .before .before .before .before .before .put-word .ensures .1) (c .before .before .before .before .before .before .before .before .before .before .before .before .before .before .before .put-number .ensures .1) (c .before .before .before .before .before .before .before .before .before .put-number2 .ensures .1) (c .before .before .put2 .ensures .1)))
+    (λ c. (counts (c .before .before .put2 .result) (c .before .before .put2 .last .0) (omega (arith, c .before .before .put2 .ensures .0, c .before .before .before .before .before .before .before .before .before .put-number2 .ensures .0, c .before .before .before .before .before .before .before .before .before .before .before .before .before .before .before .put-number .ensures .0, c .before .before .before .before .before .before .before .before .before .before .before .before .before .before .before .before .before .before .before .put-word .ensures .0, c .before .before .before .before .before .before .before .before .before .before .before .before .before .before .before .before .before .before .before .before .before .before .pre)), λ v e K. two-lines _ _ _ _ (c .before .before .before .before .before .before .before .before .before .before .before .before .before .before .before .before .before .before .before .before .before .before .args .verdict) v e (c .before .before .before .before .before .before .before .before .before .before .before .if1 .left) (c .before .before .before .before .before .if2 .taken) (c .before .before .before .before .before .before .before .before .before .before .before .before .before .before .before .before .before .before .before .put-word .ensures .1) (c .before .before .before .before .before .before .before .before .before .before .before .before .before .before .before .put-number .ensures .1) (c .before .before .before .before .before .before .before .before .before .put-number2 .ensures .1) (c .before .before .put2 .ensures .1)))
     -- step-of-requires
     (λ c κs. search needs)
     -- put-step-requires
@@ -39,4 +39,4 @@ put-line-spec = tie.close (tie.spec
     -- same-length-3
     (λ c. search needs)
     -- returns-3
-    (λ c. (counts (c .before .before .put3 .result) (c .before .before .put3 .last .0) (omega (arith, c .before .before .put3 .ensures .0, c .before .before .before .before .before .before .before .put-step .ensures .0, c .before .before .before .before .before .before .before .before .before .before .before .before .before .before .put-number2 .ensures .0, c .before .before .before .before .before .before .before .before .before .before .before .before .before .before .before .before .before .before .before .before .put-number .ensures .0, c .before .before .before .before .before .before .before .before .before .before .before .before .before .before .before .before .before .before .before .before .before .before .before .before .put-word .ensures .0, c .before .before .before .before .before .before .before .before .before .before .before .before .before .before .before .before .before .before .before .before .before .before .before .before .before .before .before .pre)), λ v e K. step-line _ _ _ _ _ _ v e K (c .before .before .before .before .before .before .before .before .before .before .if2 .left) (c .before .before .before .before .before .before .before .before .before .before .before .before .before .before .before .before .before .before .before .before .before .before .before .before .put-word .ensures .1) (c .before .before .before .before .before .before .before .before .before .before .before .before .before .before .before .before .before .before .before .before .put-number .ensures .1) (c .before .before .before .before .before .before .before .before .before .before .before .before .before .before .put-number2 .ensures .1) _ (c .before .before .before .before .before .before .before .before .step-of .ensures) (c .before .before .before .before .before .before .before .put-step .ensures .1) (c .before .before .put3 .ensures .1))))
+    (λ c. (counts (c .before .before .put3 .result) (c .before .before .put3 .last .0) (omega (arith, c .before .before .put3 .ensures .0, c .before .before .before .before .before .before .before .put-step .ensures .0, c .before .before .before .before .before .before .before .before .before .before .before .before .before .before .put-number2 .ensures .0, c .before .before .before .before .before .before .before .before .before .before .before .before .before .before .before .before .before .before .before .before .put-number .ensures .0, c .before .before .before .before .before .before .before .before .before .before .before .before .before .before .before .before .before .before .before .before .before .before .before .before .put-word .ensures .0, c .before .before .before .before .before .before .before .before .before .before .before .before .before .before .before .before .before .before .before .before .before .before .before .before .before .before .before .pre)), λ v e K. step-line _ _ _ _ _ (c .before .before .before .before .before .before .before .before .before .before .before .before .before .before .before .before .before .before .before .before .before .before .before .before .before .before .before .args .verdict) v e K (c .before .before .before .before .before .before .before .before .before .before .if2 .left) (c .before .before .before .before .before .before .before .before .before .before .before .before .before .before .before .before .before .before .before .before .before .before .before .before .put-word .ensures .1) (c .before .before .before .before .before .before .before .before .before .before .before .before .before .before .before .before .before .before .before .before .put-number .ensures .1) (c .before .before .before .before .before .before .before .before .before .before .before .before .before .before .put-number2 .ensures .1) _ (c .before .before .before .before .before .before .before .before .step-of .ensures) (c .before .before .before .before .before .before .before .put-step .ensures .1) (c .before .before .put3 .ensures .1))))

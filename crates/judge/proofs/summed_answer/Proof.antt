@@ -11,7 +11,7 @@ use Rattle.judge.proofs.list.list_answer.Reads as list-answer-reads
 
 -- src/lib.rt:57:23
 slice-aggregate-list-answer : tie.Need-slice-aggregate-list-answer
-slice-aggregate-list-answer c = sym (length-take-le _ _ (c .before .before .before .pre .0))
+slice-aggregate-list-answer c = sym (length-take-le _ _ (c .before .before .before .before .pre .0))
 
 -- src/lib.rt:57:37
 sub-list-answer : tie.Need-sub-list-answer
@@ -27,7 +27,7 @@ part-list-answer-end c = search needs
 
 -- src/lib.rt:57:5
 list-answer-requires : tie.Need-list-answer-requires
-list-answer-requires c κs = rw rest-part (c .before .before .before .before .pre .1)
+list-answer-requires c κs = rw rest-part (c .before .before .before .before .before .pre .1)
 
 -- src/lib.rt:53:1
 returns : tie.Need-returns

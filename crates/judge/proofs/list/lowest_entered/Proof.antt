@@ -8,10 +8,10 @@ use Rattle.judge.proofs.list.lowest_entered.Statement.{statement}
 use Rattle.judge.proofs.list.lowest_entered.Tie as tie
 
 abbrev Inv-loop : tie.InvT-loop
-Inv-loop file list sum n program k₀ k = SoFar (closedTest file list n program) n k
+Inv-loop code file list sum n program k₀ k = SoFar (closedTest code file list n program) n k
 
 abbrev μ-loop : tie.MeasureT-loop
-μ-loop file list sum n program k₀ k = n - k
+μ-loop code file list sum n program k₀ k = n - k
 
 pub lowest-entered-spec : {M : Type 1} → statement M
 lowest-entered-spec = tie.close (tie.spec
@@ -24,7 +24,7 @@ lowest-entered-spec = tie.close (tie.spec
     -- enum-known-opening
     (λ c. search needs)
     -- returns
-    (λ c. entered-here (c .before .before .before .before .before .before .before .before .before .args .file .now) (c .before .before .before .before .before .before .before .before .before .args .list .now) (c .before .before .before .before .before .before .before .before .before .args .sum .now) (c .before .before .before .before .before .before .before .before .before .args .n) (c .before .before .before .before .before .before .before .before .before .args .program) (c .before .before .before .before .before .before .before .before .before .pre) (c .before .before .before .before .before .loop .k) (c .before .before .before .before .loop-test .taken) _ (c .before .before .before .open-step .ensures) _ (c .before .opening .given .1) (c .before .before .before .before .before .loop .inv))
+    (λ c. entered-here (c .before .before .before .before .before .before .before .before .before .before .args .code .now) (c .before .before .before .before .before .before .before .before .before .before .args .file .now) (c .before .before .before .before .before .before .before .before .before .before .args .list .now) (c .before .before .before .before .before .before .before .before .before .before .args .sum .now) (c .before .before .before .before .before .before .before .before .before .before .args .n) (c .before .before .before .before .before .before .before .before .before .before .args .program) (c .before .before .before .before .before .before .before .before .before .before .pre) (c .before .before .before .before .before .loop .k) (c .before .before .before .before .loop-test .taken) _ (c .before .before .before .open-step .ensures) _ (c .before .opening .given .1) (c .before .before .before .before .before .loop .inv))
     -- enum-told
     (λ c. search needs)
     -- add-k
@@ -32,6 +32,6 @@ lowest-entered-spec = tie.close (tie.spec
     -- loop-less
     (λ c. search needs)
     -- loop-again
-    (λ c. so-far-next (c .before .before .before .before .loop .inv) (c .before .before .before .loop-test .taken) (closed-here (c .before .before .before .before .before .before .before .before .args .file .now) (c .before .before .before .before .before .before .before .before .args .list .now) (c .before .before .before .before .before .before .before .before .args .sum .now) (c .before .before .before .before .before .before .before .before .args .n) (c .before .before .before .before .before .before .before .before .args .program) (c .before .before .before .before .before .before .before .before .pre) (c .before .before .before .before .loop .k) (c .before .before .before .loop-test .taken) _ (c .before .before .open-step .ensures) (c .enum-told .given .1)))
+    (λ c. so-far-next (c .before .before .before .before .loop .inv) (c .before .before .before .loop-test .taken) (closed-here (c .before .before .before .before .before .before .before .before .before .args .code .now) (c .before .before .before .before .before .before .before .before .before .args .file .now) (c .before .before .before .before .before .before .before .before .before .args .list .now) (c .before .before .before .before .before .before .before .before .before .args .sum .now) (c .before .before .before .before .before .before .before .before .before .args .n) (c .before .before .before .before .before .before .before .before .before .args .program) (c .before .before .before .before .before .before .before .before .before .pre) (c .before .before .before .before .loop .k) (c .before .before .before .loop-test .taken) _ (c .before .before .open-step .ensures) (c .enum-told .given .1)))
     -- returns-2
-    (λ c. safe-here (c .before .before .before .before .before .args .file .now) (c .before .before .before .before .before .args .list .now) (c .before .before .before .before .before .args .sum .now) (c .before .before .before .before .before .args .n) (c .before .before .before .before .before .args .program) (c .before .loop .k) (c .before .loop .inv) (omega (arith, c .loop-test .left))))
+    (λ c. safe-here (c .before .before .before .before .before .before .args .code .now) (c .before .before .before .before .before .before .args .file .now) (c .before .before .before .before .before .before .args .list .now) (c .before .before .before .before .before .before .args .sum .now) (c .before .before .before .before .before .before .args .n) (c .before .before .before .before .before .before .args .program) (c .before .loop .k) (c .before .loop .inv) (omega (arith, c .loop-test .left))))

@@ -13,10 +13,10 @@ use Rattle.judge.proofs.list.lowest_started.Statement.{statement}
 use Rattle.judge.proofs.list.lowest_started.Tie as tie
 
 abbrev Inv-loop : tie.InvT-loop
-Inv-loop file list sum n shape initial k₀ k = SoFar (λ j. not (looksStarted (startsOf shape initial) (entry (entriesOf file list n) j))) n k
+Inv-loop code file list sum n shape initial k₀ k = SoFar (λ j. not (looksStarted (startsOf shape initial) (entry (entriesOf file list n) j))) n k
 
 abbrev μ-loop : tie.MeasureT-loop
-μ-loop file list sum n shape initial k₀ k = n - k
+μ-loop code file list sum n shape initial k₀ k = n - k
 
 pub lowest-started-spec : {M : Type 1} → statement M
 lowest-started-spec = tie.close (tie.spec
@@ -29,12 +29,12 @@ lowest-started-spec = tie.close (tie.spec
     -- looks-started-requires 40:12
     (λ c κs. search needs)
     -- returns 41:13
-    (λ c. so-far-fails (c .before .before .before .before .loop .inv) (c .before .before .before .loop-test .taken) (sym (start-by (c .before .before .before .before .before .before .before .before .before .before .args .file .now) (c .before .before .before .before .before .before .before .before .before .before .args .list .now) (c .before .before .before .before .before .before .before .before .before .before .args .sum .now) (c .before .before .before .before .before .before .before .before .before .before .args .n) (c .before .before .before .before .before .before .before .before .before .before .args .program) (c .before .before .before .before .before .before .before .before .before .before .pre) (c .before .before .before .before .loop .k) (c .before .before .before .loop-test .taken) _ _ (c .before .before .entry-at .ensures) (c .before .looks-started .ensures)) ∙ ap not (c .if1 .taken)))
+    (λ c. so-far-fails (c .before .before .before .before .loop .inv) (c .before .before .before .loop-test .taken) (sym (start-by (c .before .before .before .before .before .before .before .before .before .before .before .args .code .now) (c .before .before .before .before .before .before .before .before .before .before .before .args .file .now) (c .before .before .before .before .before .before .before .before .before .before .before .args .list .now) (c .before .before .before .before .before .before .before .before .before .before .before .args .sum .now) (c .before .before .before .before .before .before .before .before .before .before .before .args .n) (c .before .before .before .before .before .before .before .before .before .before .before .args .program) (c .before .before .before .before .before .before .before .before .before .before .before .pre) (c .before .before .before .before .loop .k) (c .before .before .before .loop-test .taken) _ _ (c .before .before .entry-at .ensures) (c .before .looks-started .ensures)) ∙ ap not (c .if1 .taken)))
     -- add-k 38:9
     (λ c. search needs)
     -- loop-less 38:5
     (λ c. search needs)
     -- loop-again 38:5
-    (λ c. so-far-next (c .before .before .before .before .loop .inv) (c .before .before .before .loop-test .taken) (sym (start-by (c .before .before .before .before .before .before .before .before .before .before .args .file .now) (c .before .before .before .before .before .before .before .before .before .before .args .list .now) (c .before .before .before .before .before .before .before .before .before .before .args .sum .now) (c .before .before .before .before .before .before .before .before .before .before .args .n) (c .before .before .before .before .before .before .before .before .before .before .args .program) (c .before .before .before .before .before .before .before .before .before .before .pre) (c .before .before .before .before .loop .k) (c .before .before .before .loop-test .taken) _ _ (c .before .before .entry-at .ensures) (c .before .looks-started .ensures)) ∙ ap not (c .if1 .left)))
+    (λ c. so-far-next (c .before .before .before .before .loop .inv) (c .before .before .before .loop-test .taken) (sym (start-by (c .before .before .before .before .before .before .before .before .before .before .before .args .code .now) (c .before .before .before .before .before .before .before .before .before .before .before .args .file .now) (c .before .before .before .before .before .before .before .before .before .before .before .args .list .now) (c .before .before .before .before .before .before .before .before .before .before .before .args .sum .now) (c .before .before .before .before .before .before .before .before .before .before .before .args .n) (c .before .before .before .before .before .before .before .before .before .before .before .args .program) (c .before .before .before .before .before .before .before .before .before .before .before .pre) (c .before .before .before .before .loop .k) (c .before .before .before .loop-test .taken) _ _ (c .before .before .entry-at .ensures) (c .before .looks-started .ensures)) ∙ ap not (c .if1 .left)))
     -- returns-2 32:1
     (λ c. so-far-all (c .before .loop .inv) (omega (arith, c .loop-test .left))))

@@ -10,10 +10,10 @@ use Rattle.judge.proofs.list.lowest_unheld.Statement.{statement}
 use Rattle.judge.proofs.list.lowest_unheld.Tie as tie
 
 abbrev Inv-loop : tie.InvT-loop
-Inv-loop file list sum n program shape count k₀ k = SoFar (heldTest file list n program) count k
+Inv-loop code file list sum n program shape count k₀ k = SoFar (heldTest code file list n program) count k
 
 abbrev μ-loop : tie.MeasureT-loop
-μ-loop file list sum n program shape count k₀ k = count - k
+μ-loop code file list sum n program shape count k₀ k = count - k
 
 pub lowest-unheld-spec : {M : Type 1} → statement M
 lowest-unheld-spec = tie.close (tie.spec
@@ -26,12 +26,12 @@ lowest-unheld-spec = tie.close (tie.spec
     -- target-held-requires 24:13
     (λ c κs. search needs)
     -- returns 25:13
-    (λ c. so-far-fails (c .before .before .before .before .loop .inv) (c .before .before .before .loop-test .taken) (sym (held-by (c .before .before .before .before .before .before .before .before .before .before .args .file .now) (c .before .before .before .before .before .before .before .before .before .before .args .list .now) (c .before .before .before .before .before .before .before .before .before .before .args .sum .now) (c .before .before .before .before .before .before .before .before .before .before .args .n) (c .before .before .before .before .before .before .before .before .before .before .args .program) (c .before .before .before .before .before .before .before .before .before .before .pre) (c .before .before .before .before .loop .k) (c .before .before .before .loop-test .taken) _ _ (c .before .before .target-of .ensures) (c .before .target-held .ensures)) ∙ not-true _ (c .if1 .taken)))
+    (λ c. so-far-fails (c .before .before .before .before .loop .inv) (c .before .before .before .loop-test .taken) (sym (held-by (c .before .before .before .before .before .before .before .before .before .before .before .args .code .now) (c .before .before .before .before .before .before .before .before .before .before .before .args .file .now) (c .before .before .before .before .before .before .before .before .before .before .before .args .list .now) (c .before .before .before .before .before .before .before .before .before .before .before .args .sum .now) (c .before .before .before .before .before .before .before .before .before .before .before .args .n) (c .before .before .before .before .before .before .before .before .before .before .before .args .program) (c .before .before .before .before .before .before .before .before .before .before .before .pre) (c .before .before .before .before .loop .k) (c .before .before .before .loop-test .taken) _ _ (c .before .before .target-of .ensures) (c .before .target-held .ensures)) ∙ not-true _ (c .if1 .taken)))
     -- add-k 22:9
     (λ c. search needs)
     -- loop-less 22:5
     (λ c. search needs)
     -- loop-again 22:5
-    (λ c. so-far-next (c .before .before .before .before .loop .inv) (c .before .before .before .loop-test .taken) (sym (held-by (c .before .before .before .before .before .before .before .before .before .before .args .file .now) (c .before .before .before .before .before .before .before .before .before .before .args .list .now) (c .before .before .before .before .before .before .before .before .before .before .args .sum .now) (c .before .before .before .before .before .before .before .before .before .before .args .n) (c .before .before .before .before .before .before .before .before .before .before .args .program) (c .before .before .before .before .before .before .before .before .before .before .pre) (c .before .before .before .before .loop .k) (c .before .before .before .loop-test .taken) _ _ (c .before .before .target-of .ensures) (c .before .target-held .ensures)) ∙ not-false _ (c .if1 .left)))
+    (λ c. so-far-next (c .before .before .before .before .loop .inv) (c .before .before .before .loop-test .taken) (sym (held-by (c .before .before .before .before .before .before .before .before .before .before .before .args .code .now) (c .before .before .before .before .before .before .before .before .before .before .before .args .file .now) (c .before .before .before .before .before .before .before .before .before .before .before .args .list .now) (c .before .before .before .before .before .before .before .before .before .before .before .args .sum .now) (c .before .before .before .before .before .before .before .before .before .before .before .args .n) (c .before .before .before .before .before .before .before .before .before .before .before .args .program) (c .before .before .before .before .before .before .before .before .before .before .before .pre) (c .before .before .before .before .loop .k) (c .before .before .before .loop-test .taken) _ _ (c .before .before .target-of .ensures) (c .before .target-held .ensures)) ∙ not-false _ (c .if1 .left)))
     -- returns-2 15:1
     (λ c. so-far-all (c .before .loop .inv) (omega (arith, c .loop-test .left))))

@@ -10,23 +10,23 @@ use Rattle.program_part.specs.declared.program.Checked.{Checked}
 use Rattle.program_part.specs.declared.program.Checked.the-variants.{Fine, Refused}
 use Rattle.program_part.specs.declared.program.Counted.the-variants.{Stopped}
 use Rattle.program_part.specs.Records.{checked, targetNumber}
-use Rattle.program_part.specs.ProgramPart.{refusalOf, unlessEnd, rowFrom, atClaim, targetsFrom}
+use Rattle.program_part.specs.ProgramPart.{refusalOf, unlessEnd, rowFrom, atEnd, targetsFrom}
 use Rattle.program_part.proofs.RecordLaws.{cut-fits, unless-fine, target-fine, row-ends, row-stops, row-step}
 use Rattle.program_part.proofs.program.targets_from.Statement.{statement}
 use Rattle.program_part.proofs.program.targets_from.Tie as tie
 
-abbrev ends : List ℕ → ℕ → ℕ → Bool
-ends f = atClaim f
+abbrev ends : Bool → List ℕ → ℕ → ℕ → Bool
+ends alone f = atEnd alone f
 
 abbrev check : Shape → List ℕ → List ℕ → ℕ → ℕ → Checked
 check s states f k n = unlessEnd f k (checked (targetNumber s states f k n) k)
 
 abbrev Inv-loop : tie.InvT-loop
-Inv-loop file at shape states k₀ n₀ k n =
-    (n ≤ 16) × (rowFrom (ends file) (check shape states file) (λ k. 5) (16 - n) k n ≡ targetsFrom shape states file at)
+Inv-loop alone file at shape states k₀ n₀ k n =
+    (n ≤ 16) × (rowFrom (ends alone file) (check shape states file) (λ k. 5) (16 - n) k n ≡ targetsFrom alone shape states file at)
 
 abbrev μ-loop : tie.MeasureT-loop
-μ-loop file at shape states k₀ n₀ k n = 16 - n
+μ-loop alone file at shape states k₀ n₀ k n = 16 - n
 
 pub targets-from-spec : {M : Type 1} → statement M
 unfolding targetsFrom
@@ -35,7 +35,7 @@ targets-from-spec = tie.close (tie.spec
     μ-loop
     -- loop-holds
     (λ c. (search needs, refl))
-    -- at-claim-requires
+    -- at-end-requires
     (λ c κs. search needs)
     -- check-target-requires
     (λ c κs. search needs)
@@ -53,10 +53,10 @@ targets-from-spec = tie.close (tie.spec
     let k = c .before .before .before .before .before .before .before .loop .k in
     let n = c .before .before .before .before .before .before .before .loop .n in
     let r = c .before .enum-told2 .given .0 .0 in
-    let d′ : atClaim f k n ≡ false = sym (c .before .before .before .before .before .before .at-claim .ensures) ∙ not-true _ (c .before .before .before .before .before .if1 .taken) in
+    let d′ : atEnd (a .alone) f k n ≡ false = sym (c .before .before .before .before .before .before .at-end .ensures) ∙ not-true _ (c .before .before .before .before .before .if1 .taken) in
     let e : check (a .shape) (a .states) f k n ≡ Refused r = cc in
     ap Stopped (c .refusal-of .ensures ∙ ap refusalOf (c .before .enum-told2 .given .1))
-    ∙ sym (row-stops (ends f) (check (a .shape) (a .states) f) (λ k. 5) (16 - n) k n r d′ e) ∙ c .before .before .before .before .before .before .before .loop .inv .1)
+    ∙ sym (row-stops (ends (a .alone) f) (check (a .shape) (a .states) f) (λ k. 5) (16 - n) k n r d′ e) ∙ c .before .before .before .before .before .before .before .loop .inv .1)
     -- add-k
     (λ c. let a = c .before .before .before .before .before .before .before .before .args in
     let f = a .file .now in
@@ -78,14 +78,14 @@ targets-from-spec = tie.close (tie.spec
     let f = a .file .now in
     let k = c .before .before .before .before .before .before .loop .k in
     let n = c .before .before .before .before .before .before .loop .n in
-    let d′ : atClaim f k n ≡ false = sym (c .before .before .before .before .before .at-claim .ensures) ∙ not-true _ (c .before .before .before .before .if1 .taken) in
+    let d′ : atEnd (a .alone) f k n ≡ false = sym (c .before .before .before .before .before .at-end .ensures) ∙ not-true _ (c .before .before .before .before .if1 .taken) in
     let e : check (a .shape) (a .states) f k n ≡ Fine = cc in
     let l = leb-false 16 n (target-fine f k (a .shape) (a .states) n (unless-fine f k _ e .1) .room) in
-    (omega arith, sym (row-step (ends f) (check (a .shape) (a .states) f) (λ k. 5) 16 k n l d′ e) ∙ c .before .before .before .before .before .before .loop .inv .1))
+    (omega arith, sym (row-step (ends (a .alone) f) (check (a .shape) (a .states) f) (λ k. 5) 16 k n l d′ e) ∙ c .before .before .before .before .before .before .loop .inv .1))
     -- returns-2
     (λ c. let a = c .before .before .before .before .args in
     let f = a .file .now in
     let k = c .before .before .loop .k in
     let n = c .before .before .loop .n in
-    let d′ : atClaim f k n ≡ true = sym (c .before .at-claim .ensures) ∙ not-false _ (c .if1 .left) in
-    sym (row-ends (ends f) (check (a .shape) (a .states) f) (λ k. 5) (16 - n) k n d′) ∙ c .before .before .loop .inv .1))
+    let d′ : atEnd (a .alone) f k n ≡ true = sym (c .before .at-end .ensures) ∙ not-false _ (c .if1 .left) in
+    sym (row-ends (ends (a .alone) f) (check (a .shape) (a .states) f) (λ k. 5) (16 - n) k n d′) ∙ c .before .before .loop .inv .1))

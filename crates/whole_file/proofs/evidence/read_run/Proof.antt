@@ -2,6 +2,7 @@ use Rattle.whole_file.proofs.ReadingLaws.{start-refused, run-steps, sta
 use Rattle.whole_file.specs.Reading.{readingRefused, countReading, evidenceReading}
 use Rattle.program_part.specs.ProgramPart.{refusalOf, unlessEnd}
 use Rattle.program_part.specs.Records.{checked, startNumber, memoryAt}
+use Rattle.whole_file.specs.declared.evidence.Part.the-variants.{InEvidence}
 use Rattle.whole_file.specs.EvidencePart.{stepsFrom}
 use Rattle.program_part.specs.declared.program.Checked.the-variants.{Fine, Refused}
 use Rattle.program_part.specs.declared.program.Counted.{Counted}
@@ -32,7 +33,7 @@ read-run-spec = tie.close (tie.spec
     -- reading-refused-requires
     (λ c κs. search needs)
     -- returns
-    (λ c. let a = c .before .before .before .before .before .before .before .before .args in let f = a .file .now in let p = a .program in let r = c .before .before .enum-told2 .given .0 .0 in let u : unlessEnd f (a .at) (checked (startNumber (p .shape) f (a .at)) (a .at)) ≡ Refused r = sym (ap (unlessEnd f (a .at)) (c .before .before .before .before .before .check-start .ensures)) ∙ sym (c .before .before .before .before .unless-end .ensures) ∙ c .before .before .enum-told2 .given .1 in c .reading-refused .ensures ∙ ap readingRefused (c .before .refusal-of .ensures ∙ ap refusalOf (c .before .before .enum-told2 .given .1)) ∙ sym (ap (evidenceReading p) (start-refused f (a .claim) (a .at) p r u)))
+    (λ c. λ k h. let a = c .before .before .before .before .before .before .before .before .args in let f = a .file .now in let p = a .program in let r = c .before .before .enum-told2 .given .0 .0 in let u : unlessEnd f (a .at) (checked (startNumber (p .shape) f (a .at)) (a .at)) ≡ Refused r = sym (ap (unlessEnd f (a .at)) (c .before .before .before .before .before .check-start .ensures)) ∙ sym (c .before .before .before .before .unless-end .ensures) ∙ c .before .before .enum-told2 .given .1 in c .reading-refused .ensures ∙ ap (readingRefused InEvidence) (c .before .refusal-of .ensures ∙ ap refusalOf (c .before .before .enum-told2 .given .1)) ∙ sym (ap (evidenceReading k p) (start-refused f (a .claim) (a .at) p r u)))
     -- memory-at-requires
     (λ c κs. search needs)
     -- add-first
@@ -42,4 +43,4 @@ read-run-spec = tie.close (tie.spec
     -- reading-with-requires
     (λ c κs. search needs)
     -- returns-2
-    (λ c. let a = c .before .before .before .before .before .before .before .before .before .before .args in let f = a .file .now in let p = a .program in let e = run-steps f (a .claim) (a .at) p (fine (c .before .before .before .before)) in c .reading-with .ensures ∙ ap₂ (λ (m : List ℕ) (n : Counted). countReading p (a .claim) m (a .at + 5) n) (c .before .before .before .memory-at .ensures) (c .before .steps-from .ensures) ∙ ap (λ (k : ℕ). countReading p (a .claim) (memoryAt f (a .at)) (k + 5) (stepsFrom (p .shape) (p .transitions .count) f (a .at + 5))) (c .before .before .before .before .before .before .before .before .before .before .pre) ∙ sym (ap (evidenceReading p) e)))
+    (λ c. λ k h. let a = c .before .before .before .before .before .before .before .before .before .before .args in let f = a .file .now in let p = a .program in let e = run-steps f (a .claim) (a .at) p (fine (c .before .before .before .before)) in c .reading-with .ensures ∙ ap₂ (λ (m : List ℕ) (n : Counted). countReading p (a .claim) m (a .at + 5) n) (c .before .before .before .memory-at .ensures) (c .before .steps-from .ensures) ∙ ap (λ (i : ℕ). countReading p (a .claim) (memoryAt f (a .at)) (i + 5) (stepsFrom (p .shape) (p .transitions .count) f (a .at + 5))) h ∙ sym (ap (evidenceReading k p) e)))

@@ -1,4 +1,5 @@
 use Rattle.whole_file.specs.Reading.{readingRefused, countReading}
+use Rattle.whole_file.specs.declared.evidence.Part.the-variants.{InEvidence}
 use Rattle.program_part.specs.ProgramPart.{stopOf}
 use mathlib.Core.Path.{_≡_, sym, ap, _∙_, refl}
 use borrow.Author.Needs.{needs}
@@ -16,6 +17,6 @@ reading-with-spec = tie.close (tie.spec
     -- reading-refused-requires 492:9
     (λ c κs. search needs)
     -- returns
-    (λ c. let a = c .before .before .before .before .args in c .reading-refused .ensures ∙ ap readingRefused (c .before .stop-of .ensures ∙ ap stopOf (c .before .before .enum-told .given .1)) ∙ sym (ap (countReading (a .program) (a .claim) (a .memory) (a .at)) (c .before .before .enum-told .given .1)))
+    (λ c. let a = c .before .before .before .before .args in c .reading-refused .ensures ∙ ap (readingRefused InEvidence) (c .before .stop-of .ensures ∙ ap stopOf (c .before .before .enum-told .given .1)) ∙ sym (ap (countReading (a .program) (a .claim) (a .memory) (a .at)) (c .before .before .enum-told .given .1)))
     -- returns-2
     (λ c. rw (c .before .counted .given .1)))
