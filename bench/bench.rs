@@ -89,7 +89,7 @@ impl Bench {
             let first = used();
             loop {
                 let start = used();
-                line = judge(file, usize::MAX).to_string();
+                line = judge(file, usize::MAX).verdict.to_string();
                 separate = separate.min(used() - start);
                 if used() - first >= ROUND {
                     break;

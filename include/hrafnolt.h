@@ -23,10 +23,17 @@ extern "C" {
  *     11 has a step too, the lowest through which a configuration outside the list gets above the entry: transitions by number, serialise
  *     by process then variable, update by process. Its line is `refused 11 SECOND STEP`, the step as t0, s01 or u0.
  * step_kind, step_first and step_second are that step, and 0 for every other answer:
- *     HRAFNOLT_TRANSITION number 0, HRAFNOLT_SERIALISE process variable, HRAFNOLT_UPDATE process 0. */
+ *     HRAFNOLT_TRANSITION number 0, HRAFNOLT_SERIALISE process variable, HRAFNOLT_UPDATE process 0.
+ * record_file, record_at and record_length are the offending record, a part of one of the lent files: record_length bytes from offset
+ * record_at on, in the program or combined file (HRAFNOLT_PROGRAM_FILE) or in the evidence file (HRAFNOLT_EVIDENCE_FILE).
+ *     1, 2, 3, 4, 5, 7: the record at the place, cut where its file ends; of a kind that no file has, the kind byte alone. Of 7 it is the
+ *     entry's own 10. The place counts within the record's file, so record_at is equal to it.
+ *     6: the empty end of the file that ended: record_at is its length, record_length is 0.
+ *     Every other answer: the empty end of the evidence or combined file. */
 struct hrafnolt_verdict {
     uint64_t kind, first, second;
     uint64_t step_kind, step_first, step_second;
+    uint64_t record_file, record_at, record_length;
 };
 
 enum { HRAFNOLT_SAFE = 0, HRAFNOLT_REACHABLE = 1, HRAFNOLT_REFUSED = 2, HRAFNOLT_PSO = 3 };
@@ -34,11 +41,15 @@ enum { HRAFNOLT_SAFE = 0, HRAFNOLT_REACHABLE = 1, HRAFNOLT_REFUSED = 2, HRAFNOLT
 /* The kinds of a step, as in its record. */
 enum { HRAFNOLT_TRANSITION = 0x20, HRAFNOLT_SERIALISE = 0x21, HRAFNOLT_UPDATE = 0x22 };
 
+/* The file that a record stands in. A combined file counts as the program file. */
+enum { HRAFNOLT_PROGRAM_FILE = 0, HRAFNOLT_EVIDENCE_FILE = 1 };
+
 /* Bytes of a work area: the least that is not refused with 8, and the most that is ever used (524,288 entries). */
 #define HRAFNOLT_WORK_LEAST ((size_t)65536)
 #define HRAFNOLT_WORK_MOST ((size_t)(16384 + 12 * 524288))
 
-/* A work area that holds every entry that a file of this length can have. */
+/* A work area that holds every entry that a file of this length can have. For a pair the length of the evidence file is enough: a program
+ * file has no entries. */
 static inline size_t hrafnolt_work_enough(size_t file_len)
 {
     size_t entries = file_len / 9; /* an entry has at least nine bytes */
@@ -48,7 +59,7 @@ static inline size_t hrafnolt_work_enough(size_t file_len)
     return bytes < HRAFNOLT_WORK_LEAST ? HRAFNOLT_WORK_LEAST : bytes;
 }
 
-/* Judges file[0 .. file_len) with work[0 .. work_len) as its work area.
+/* Judges the combined file file[0 .. file_len) with work[0 .. work_len) as its work area.
  *
  * What the proof takes for granted and a C caller must keep:
  * - file is not null and names file_len readable bytes (any non-null pointer does for an empty file);
@@ -60,6 +71,17 @@ static inline size_t hrafnolt_work_enough(size_t file_len)
  * The contents of work do not matter when it is lent. Afterwards its first 16,384 bytes and twelve more for each entry allowed are 0 and
  * the rest is as it was; after refusal 8 all of it is as it was. The file is only read. */
 struct hrafnolt_verdict hrafnolt_judge(const uint8_t *file, size_t file_len, uint8_t *work, size_t work_len);
+
+/* Judges the evidence file evidence[0 .. evidence_len) against the program file program[0 .. program_len), for groups that share a program.
+ * The program file holds the records 01 to 04 and ends; the evidence file begins at its claim, 0F. The program file is read through first: it is
+ * 6 if it ends before its first 04, and an 0F in it is 2. Cut before its claim, a combined file is such a pair, with the same verdict.
+ *
+ * What a C caller must keep is the same: program and evidence are not null and name so many readable bytes, work is as above and overlaps
+ * neither of them, nobody writes to any of them during the call, and each length is at most PTRDIFF_MAX. Program and evidence may
+ * overlap, or be the same bytes, since both are only read. So may calls at the same time share them, each with its own work area: an answer
+ * and what its area holds afterwards depend on the bytes of these two files and on work_len, and on nothing else. */
+struct hrafnolt_verdict hrafnolt_judge_pair(const uint8_t *program, size_t program_len, const uint8_t *evidence, size_t evidence_len,
+                                            uint8_t *work, size_t work_len);
 
 /* ---- runs as drawings (request N12)
  *

@@ -1,9 +1,12 @@
-/* Calls the exported function as a C program would, on files from standard input, and checks the lent areas after each call.
- * Standard input: for each file its work area's size and its length (64 bits each, least significant byte first) and its bytes.
- * Standard output: for each file its line, or `fault: ..` if an area is not as the contract says.
+/* Calls the exported judges as a C program would, on files from standard input, and checks the lent areas after each call.
+ * Standard input: for each call the work area's size, the length of the program file, or all ones for a combined file, and the length of
+ * the evidence or combined file (64 bits each, least significant byte first), and the bytes of the two files.
+ * Standard output: for each call its line and its record, `LINE, record FILE OFFSET LENGTH`, or `fault: ..` if an area is not as the contract
+ * says, or if the answer depends on what it must not depend on.
  *
- * The file and the work area each end at a page that can't be touched, and lie in pages of their own after another such page; the file's
- * pages are read only during the call. The work area is filled with a pattern that has no 0, and so is what lies before it. */
+ * Each file and the work area end at a page that can't be touched, and lie in pages of their own after another such page; the files' pages
+ * are read only during the call. The work area is filled with a pattern that has no 0, another one for each call, and so is what lies
+ * before it. Now and then a call is made again with an area that holds something else, and a pair again with its two files in one piece. */
 #define _GNU_SOURCE
 #include "hrafnolt.h"
 
@@ -19,6 +22,13 @@
 struct region {
     uint8_t *end; /* the first byte of the page after it */
     size_t room;
+};
+
+/* A file in a region of its own, and what it held before the call. */
+struct lent {
+    struct region region;
+    uint8_t *bytes, *copy;
+    size_t length, copy_room;
 };
 
 static size_t page;
@@ -44,6 +54,38 @@ static void make_room(struct region *region, size_t room)
     need(mprotect(all + page, room, PROT_READ | PROT_WRITE) == 0, "mprotect");
     region->end = all + page + room;
     region->room = room;
+}
+
+/* Room for a file of this length, up against the end of its region. */
+static void make_file(struct lent *file, size_t length)
+{
+    make_room(&file->region, length + 1);
+    if (length > file->copy_room) {
+        file->copy = realloc(file->copy, length);
+        need(file->copy != NULL, "realloc");
+        file->copy_room = length;
+    }
+    file->bytes = file->region.end - length;
+    file->length = length;
+}
+
+static void read_file(struct lent *file, size_t length)
+{
+    make_file(file, length);
+    need(fread(file->bytes, 1, length, stdin) == length, "standard input");
+    if (length > 0)
+        memcpy(file->copy, file->bytes, length);
+}
+
+static void protect(const struct lent *file, int how)
+{
+    size_t touched = (file->length + page) / page * page;
+    need(mprotect(file->region.end - touched, touched, how) == 0, "mprotect");
+}
+
+static int changed(const struct lent *file)
+{
+    return file->length > 0 && memcmp(file->bytes, file->copy, file->length) != 0;
 }
 
 /* What a work area is filled with, and what it must be after the call where it is zeroed. */
@@ -78,64 +120,101 @@ static int step_right(struct hrafnolt_verdict v)
     return v.step_kind == HRAFNOLT_SERIALISE || ((v.step_kind == HRAFNOLT_TRANSITION || v.step_kind == HRAFNOLT_UPDATE) && v.step_second == 0);
 }
 
-static int get(void *to, size_t length)
+/* The record lies within its file. */
+static int record_right(struct hrafnolt_verdict v, size_t program_len, size_t file_len, int pair)
 {
-    return fread(to, 1, length, stdin) == length;
+    size_t length = pair && v.record_file == 0 ? program_len : file_len;
+    return v.record_file <= (uint64_t)pair && v.record_at <= length && v.record_length <= length - v.record_at;
+}
+
+/* One call, with a pattern of its own in the work area: what is wrong with what it left, or null. */
+static const char *call(const struct lent *program, const struct lent *file, struct region *works, size_t work_len, size_t turn,
+                        struct hrafnolt_verdict *v)
+{
+    const uint8_t *filling = pattern + turn % 251;
+    uint8_t *work = works->end - work_len;
+    memcpy(work, filling, work_len);
+    memset(work - page, 0xA5, page);
+    *v = program == NULL ? hrafnolt_judge(file->bytes, file->length, work, work_len)
+                         : hrafnolt_judge_pair(program->bytes, program->length, file->bytes, file->length, work, work_len);
+    size_t zeroed = v->kind == HRAFNOLT_REFUSED && v->first == 8 ? 0 : 16384 + 12 * entries_allowed(work_len);
+    for (size_t i = 0; i < page; i++)
+        if (work[(ptrdiff_t)i - (ptrdiff_t)page] != 0xA5)
+            return "a byte before the work area was changed";
+    if (zeroed > work_len)
+        return "accepted a work area that is too small";
+    if (memcmp(work, zeros, zeroed) != 0)
+        return "the work area is not 0 where it must be";
+    if (memcmp(work + zeroed, filling + zeroed, work_len - zeroed) != 0)
+        return "the work area was touched where it must not be";
+    return NULL;
+}
+
+/* The same bytes again, with other contents of the work area, and a pair also in one piece, where the evidence lies directly behind the
+ * program: the answer must be the same. */
+static const char *call_again(const struct lent *program, const struct lent *file, struct region *works, size_t work_len, size_t turn,
+                              const struct hrafnolt_verdict *v)
+{
+    static struct lent whole;
+    struct hrafnolt_verdict w;
+    const char *fault = call(program, file, works, work_len, turn + 100, &w);
+    if (fault == NULL && memcmp(&w, v, sizeof w) != 0)
+        return "the answer depends on what the work area held";
+    if (fault != NULL || program == NULL)
+        return fault;
+    make_file(&whole, program->length + file->length);
+    memcpy(whole.bytes, program->bytes, program->length);
+    memcpy(whole.bytes + program->length, file->bytes, file->length);
+    struct lent first = {.bytes = whole.bytes, .length = program->length};
+    struct lent second = {.bytes = whole.bytes + program->length, .length = file->length};
+    fault = call(&first, &second, works, work_len, turn, &w);
+    if (fault == NULL && memcmp(&w, v, sizeof w) != 0)
+        return "the answer depends on where the files lie";
+    return fault;
 }
 
 int main(void)
 {
-    struct region files = {0}, works = {0};
-    uint8_t *copy = NULL;
-    size_t copy_room = 0;
-    uint64_t head[2];
+    struct lent programs = {0}, files = {0};
+    struct region works = {0};
+    uint64_t head[3];
     page = (size_t)sysconf(_SC_PAGESIZE);
-    while (get(head, sizeof head)) {
-        size_t work_len = head[0], file_len = head[1];
-        make_room(&files, file_len + 1);
+    for (size_t turn = 0; fread(head, 1, sizeof head, stdin) == sizeof head; turn++) {
+        size_t work_len = head[0];
+        int pair = head[1] != UINT64_MAX;
+        struct lent *program = pair ? &programs : NULL;
+        struct hrafnolt_verdict v;
+        if (pair)
+            read_file(&programs, head[1]);
+        read_file(&files, head[2]);
         make_room(&works, work_len + page);
-        if (file_len > copy_room) {
-            copy = realloc(copy, file_len);
-            need(copy != NULL, "realloc");
-            copy_room = file_len;
-        }
-        uint8_t *file = files.end - file_len, *work = works.end - work_len;
-        need(get(file, file_len), "standard input");
-        if (file_len > 0)
-            memcpy(copy, file, file_len);
-        make_pattern(work_len + 1);
-        memcpy(work, pattern, work_len);
-        memset(work - page, 0xA5, page);
+        make_pattern(work_len + 500);
 
-        size_t touched = (file_len + page) / page * page;
-        need(mprotect(files.end - touched, touched, PROT_READ) == 0, "mprotect");
-        struct hrafnolt_verdict v = hrafnolt_judge(file, file_len, work, work_len);
-        need(mprotect(files.end - touched, touched, PROT_READ | PROT_WRITE) == 0, "mprotect");
+        if (pair)
+            protect(&programs, PROT_READ);
+        protect(&files, PROT_READ);
+        const char *fault = call(program, &files, &works, work_len, turn, &v);
+        if (fault == NULL && turn % 16 == 0 && work_len + head[2] < 200000)
+            fault = call_again(program, &files, &works, work_len, turn, &v);
+        if (pair)
+            protect(&programs, PROT_READ | PROT_WRITE);
+        protect(&files, PROT_READ | PROT_WRITE);
 
-        size_t zeroed = v.kind == HRAFNOLT_REFUSED && v.first == 8 ? 0 : 16384 + 12 * entries_allowed(work_len);
-        const char *fault = NULL;
-        if (file_len > 0 && memcmp(file, copy, file_len) != 0)
-            fault = "the file was changed";
-        for (size_t i = 0; i < page; i++)
-            if (work[(ptrdiff_t)i - (ptrdiff_t)page] != 0xA5)
-                fault = "a byte before the work area was changed";
-        if (zeroed > work_len)
-            fault = "accepted a work area that is too small";
-        else if (memcmp(work, zeros, zeroed) != 0)
-            fault = "the work area is not 0 where it must be";
-        else if (memcmp(work + zeroed, pattern + zeroed, work_len - zeroed) != 0)
-            fault = "the work area was touched where it must not be";
-        if (v.kind > HRAFNOLT_PSO)
+        if (changed(&files) || (pair && changed(&programs)))
+            fault = "a file was changed";
+        else if (v.kind > HRAFNOLT_PSO)
             fault = "no such kind of verdict";
         else if (v.kind == HRAFNOLT_SAFE && v.second != 0)
             fault = "safe has one number only";
         else if (!step_right(v))
             fault = "the step is not one, or there is one beside another answer than 11";
+        else if (!record_right(v, programs.length, head[2], pair))
+            fault = "the record is no part of a file";
         if (fault != NULL)
             printf("fault: %s\n", fault);
         else {
             print_line(stdout, v);
-            printf("\n");
+            printf(", record %" PRIu64 " %" PRIu64 " %" PRIu64 "\n", v.record_file, v.record_at, v.record_length);
         }
         fflush(stdout);
     }

@@ -5,7 +5,7 @@
 
 mod search;
 
-use reference::{writing, Machine};
+use reference::{writing, Lent, Machine};
 use std::io::{Read, Write};
 
 fn main() {
@@ -14,11 +14,8 @@ fn main() {
     let mut file = Vec::new();
     std::io::stdin().read_to_end(&mut file).expect("standard input");
     let (program, _) = reference::read(&file, 524_288)
-        .or_else(|_| {
-            file.extend([0x0f, 0]);
-            reference::read(&file, 0)
-        })
-        .unwrap_or_else(|(n, place)| panic!("refused {} {}", n, place));
+        .or_else(|_| reference::read(Lent::Pair(&file, &[0x0f, 0]), 0))
+        .unwrap_or_else(|refusal| panic!("refused {} {}", refusal.number, refusal.place));
     let out = match words[1].as_str() {
         "safe" => search::closed_list(&program, &[], number).map(|list| writing::list_file(&program, &list)),
         kind => match search::shortest_run(&program, if kind == "pso" { Machine::Pso } else { Machine::Pws }, &program.memories(), number) {

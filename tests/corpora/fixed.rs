@@ -46,7 +46,7 @@ pub fn full_files() -> Vec<Full> {
 }
 
 /// Offsets of the records, and the file's length.
-fn boundaries(file: &[u8]) -> Vec<usize> {
+pub fn boundaries(file: &[u8]) -> Vec<usize> {
     let mut at = 0;
     let mut all = vec![0];
     while at < file.len() {

@@ -1,20 +1,24 @@
-//! compare cases FILE [JUDGES]     the hand-worked lines
+//! compare cases FILE [JUDGES]     the hand-worked lines and records
 //! compare brute SEED COUNT        the separate judge's two algorithms against each other
 //! compare reach SEED [JUDGES]     small programs without loops: a forward search finds a run, or else a backward search a safe list
 //! compare corpora SEED [JUDGES]   the corpora
-//! JUDGES: --caller PROGRAM (the exported function through C), --program PROGRAM (standard input to one line), --files PROGRAM
-//! (hrafnolt-files: what its -w prints under each refusal 9 and 11 is held to the machine and the order).
+//! JUDGES: --caller PROGRAM (the exported functions through C), --program PROGRAM (standard input to one line), --files PROGRAM
+//! (hrafnolt-files: what its -w prints under each refusal 9 and 11 is held to the machine and the order, what its -r prints to the record).
 //! --first: stop at the first difference.
-//! Every line is compared with the separate judge's. Exit status 0 if all agree.
+//! Every line and offending record is compared with the separate judge's, for each combined file, and for the pair that it is when it is
+//! cut at its claim. Exit status 0 if all agree.
 
 mod fixed;
 mod groups;
 mod outside;
+mod pairs;
 mod random;
 mod search;
 mod seeded;
+mod shown;
 
-use reference::{brute, cubes, judge, judge_input, writing, Configuration, Machine, Program, Step, Verdict, AREA_LEAST, AREA_MOST};
+use reference::{brute, cubes, judge, judge_input, writing};
+use reference::{Answer, Configuration, Lent, Machine, Program, Step, Verdict, AREA_LEAST, AREA_MOST};
 use seeded::Random;
 use std::collections::{BTreeMap, HashMap};
 use std::io::{BufRead, BufReader, Read, Write};
@@ -34,12 +38,20 @@ impl Caller {
         Caller { child, input, output }
     }
 
-    fn line(&mut self, file: &[u8], area: usize) -> String {
-        let mut head = (area as u64).to_le_bytes().to_vec();
-        head.extend((file.len() as u64).to_le_bytes());
-        head.extend(file);
+    /// The line and the record, in the protocol of tests/caller.
+    fn line(&mut self, lent: Lent, area: usize) -> String {
+        let (program, file) = match lent {
+            Lent::Combined(file) => (None, file),
+            Lent::Pair(program, evidence) => (Some(program), evidence),
+        };
+        let mut sent = Vec::with_capacity(24 + program.map_or(0, |program| program.len()) + file.len());
+        for number in [area as u64, program.map_or(u64::MAX, |program| program.len() as u64), file.len() as u64] {
+            sent.extend(number.to_le_bytes());
+        }
+        sent.extend(program.unwrap_or(&[]));
+        sent.extend(file);
         let mut line = String::new();
-        let sent = self.input.write_all(&head).and_then(|_| self.input.flush());
+        let sent = self.input.write_all(&sent).and_then(|_| self.input.flush());
         if sent.is_err() || self.output.read_line(&mut line).unwrap_or(0) == 0 {
             return format!("the caller ended: {:?}", self.child.wait());
         }
@@ -67,20 +79,30 @@ struct Judges {
     /// Stop at the first difference.
     first: bool,
     program: Option<String>,
-    files: Option<outside::Files>,
+    files: Option<shown::Files>,
     judged: usize,
+    pairs: usize,
     by_caller: usize,
     by_program: usize,
     failed: usize,
     lines: BTreeMap<String, usize>,
+    met: pairs::Met,
 }
 
 impl Judges {
-    fn fail(&mut self, what: &str, who: &str, wanted: &str, got: &str, file: &[u8], area: usize) {
+    fn fail<'a>(&mut self, what: &str, who: &str, wanted: &str, got: &str, lent: impl Into<Lent<'a>>, area: usize) {
         self.failed += 1;
         if self.failed <= 20 {
-            let kept = format!("target/tests/differs-{}", self.failed);
-            let _ = std::fs::write(&kept, file);
+            let mut kept = format!("target/tests/differs-{}", self.failed);
+            let file = match lent.into() {
+                Lent::Combined(file) => file,
+                Lent::Pair(program, evidence) => {
+                    let _ = std::fs::write(format!("{}.program", kept), program);
+                    kept = format!("{}.program, {}", kept, kept);
+                    evidence
+                }
+            };
+            let _ = std::fs::write(format!("target/tests/differs-{}", self.failed), file);
             println!("{}: area {}: {} says '{}', wanted '{}' ({}, {} bytes)", what, area, who, got, wanted, kept, file.len());
         }
         if self.first || got.starts_with("the caller ended") {
@@ -89,21 +111,56 @@ impl Judges {
         }
     }
 
-    /// Faults in what hrafnolt-files says of a configuration outside.
-    fn unshown(&mut self, faults: Vec<outside::Fault>) {
-        for outside::Fault { what, file, said, fault } in faults {
-            self.fail(&what, "hrafnolt-files -w", &fault, &said, &file, AREA_MOST);
+    /// Faults in what hrafnolt-files says.
+    fn unshown(&mut self, faults: Vec<shown::Fault>) {
+        for shown::Fault { shown, said, fault } in faults {
+            self.fail(&shown.what, "hrafnolt-files -r -w", &fault, &said, shown.lent(), AREA_MOST);
         }
     }
 
-    /// Judges one file everywhere and compares with the wanted line.
-    fn compare(&mut self, what: &str, file: &[u8], area: usize, wanted: Verdict, program_too: bool) {
-        self.judged += 1;
-        if let (Some(files), Verdict::Refused(9, _) | Verdict::Open(..)) = (&mut self.files, wanted) {
-            let faults = files.add(what, file, wanted);
+    /// What is lent, through C and in hrafnolt-files.
+    fn exported(&mut self, what: &str, lent: Lent, area: usize, wanted: Answer) {
+        if let Some(files) = &mut self.files {
+            let faults = files.add(what, lent, wanted);
             self.unshown(faults);
         }
-        let kind = match wanted {
+        self.met.add(lent, wanted);
+        if let Some(caller) = &mut self.caller {
+            self.by_caller += 1;
+            let got = caller.line(lent, area);
+            let wanted = wanted.to_string();
+            if got != wanted {
+                self.fail(what, "the exported function", &wanted, &got, lent, area);
+            }
+        }
+    }
+
+    fn compare_pair(&mut self, what: &str, program: &[u8], evidence: &[u8], area: usize, wanted: Answer) {
+        self.pairs += 1;
+        self.exported(what, Lent::Pair(program, evidence), area, wanted);
+    }
+
+    /// The pair that a combined file is when it is cut: its answer follows from that of the combined file. So a list need not be judged a
+    /// second time here, and of long lists the exported function judges every tenth as a pair.
+    fn compare_cut(&mut self, what: &str, file: &[u8], area: usize, combined: Answer) {
+        let (at, wanted) = pairs::cut(file, combined);
+        let lent = Lent::Pair(&file[..at], &file[at..]);
+        let long = file.len() > 5_000 && matches!(combined.verdict, Verdict::Safe(_) | Verdict::Refused(9 | 10, _) | Verdict::Open(..));
+        if !long {
+            let got = judge(lent, area);
+            if got != wanted {
+                self.fail(what, "the separate judge of the pair", &wanted.to_string(), &got.to_string(), lent, area);
+            }
+        }
+        if !long || self.judged % 10 == 0 {
+            self.compare_pair(what, &file[..at], &file[at..], area, wanted);
+        }
+    }
+
+    /// Judges one combined file everywhere and compares with the answer wanted.
+    fn compare(&mut self, what: &str, file: &[u8], area: usize, wanted: Answer, program_too: bool) {
+        self.judged += 1;
+        let kind = match wanted.verdict {
             Verdict::Safe(_) => "safe".to_string(),
             Verdict::Reachable(..) => "reachable".to_string(),
             Verdict::Pso(..) => "pso".to_string(),
@@ -111,14 +168,8 @@ impl Judges {
             Verdict::Open(..) => "11".to_string(),
         };
         *self.lines.entry(kind).or_default() += 1;
-        let wanted = wanted.to_string();
-        if let Some(caller) = &mut self.caller {
-            self.by_caller += 1;
-            let got = caller.line(file, area);
-            if got != wanted {
-                self.fail(what, "the exported function", &wanted, &got, file, area);
-            }
-        }
+        self.exported(what, Lent::Combined(file), area, wanted);
+        self.compare_cut(what, file, area, wanted);
         if program_too && self.program.is_some() {
             self.by_program += 1;
             let wanted = judge_input(file).to_string();
@@ -127,6 +178,16 @@ impl Judges {
                 self.fail(what, "the program", &wanted, &got, file, AREA_LEAST);
             }
         }
+    }
+
+    /// The same where the machine, and not the separate judge, says what is wanted of a run.
+    fn compare_known(&mut self, what: &str, file: &[u8], area: usize, wanted: Verdict, program_too: bool) {
+        let answer = Answer::without_record(Lent::Combined(file), wanted);
+        let got = judge(file, area);
+        if got != answer {
+            self.fail(what, "the separate judge", &answer.to_string(), &got.to_string(), file, area);
+        }
+        self.compare(what, file, area, answer, program_too);
     }
 
     /// Judges a list as it is and shuffled; gives its file.
@@ -140,16 +201,16 @@ impl Judges {
         program_too: bool,
     ) -> Vec<u8> {
         let file = writing::list_file(program, entries);
-        let line = judge(&file, area);
-        self.compare(what, &file, area, line, program_too);
+        let answer = judge(&file, area);
+        self.compare(what, &file, area, answer, program_too);
         let mut entries = entries.to_vec();
         r.shuffle(&mut entries);
         let shuffled = writing::list_file(program, &entries);
-        let line_shuffled = judge(&shuffled, area);
-        if !same_in_any_order(line, line_shuffled) {
-            self.fail(what, "the separate judge of the list shuffled", &line.to_string(), &line_shuffled.to_string(), &shuffled, area);
+        let of_shuffled = judge(&shuffled, area);
+        if !same_in_any_order(answer.verdict, of_shuffled.verdict) {
+            self.fail(what, "the separate judge of the list shuffled", &answer.to_string(), &of_shuffled.to_string(), &shuffled, area);
         }
-        self.compare(&format!("{}, shuffled", what), &shuffled, area, line_shuffled, program_too);
+        self.compare(&format!("{}, shuffled", what), &shuffled, area, of_shuffled, program_too);
         file
     }
 
@@ -157,12 +218,12 @@ impl Judges {
         let faults = self.files.as_mut().map(|files| files.end());
         self.unshown(faults.unwrap_or_default());
         let spread: Vec<String> = self.lines.iter().map(|(kind, n)| format!("{}: {}", kind.trim(), n)).collect();
-        println!("{}: {} files, {} differ ({})", what, self.judged, self.failed, spread.join(", "));
+        println!("{}: {} files and {} pairs, {} differ ({})", what, self.judged, self.pairs, self.failed, spread.join(", "));
         if self.caller.is_some() || self.program.is_some() {
             println!("{}: {} through C, {} through the program", what, self.by_caller, self.by_program);
         }
         if let Some(files) = &self.files {
-            println!("{}: {} configurations outside a list, as hrafnolt-files says them", what, files.checked);
+            println!("{}: {} configurations outside a list and {} records, as hrafnolt-files shows them", what, files.outside, files.records);
         }
         (self.failed > 0) as i32
     }
@@ -210,7 +271,6 @@ fn cases(name: &str, judges: &mut Judges) {
             continue;
         }
         let (wanted, text) = line.split_once("<-").expect("LINE <- BYTES");
-        let file = bytes(text, &names);
         let mut wanted = wanted.trim();
         let mut area = AREA_LEAST;
         let mut program_only = false;
@@ -221,9 +281,15 @@ fn cases(name: &str, judges: &mut Judges) {
             }
             wanted = rest.trim();
         }
-        let verdict = if program_only { judge_input(&file) } else { judge(&file, area) };
-        if verdict.to_string() != wanted {
-            judges.fail(line, "the separate judge", wanted, &verdict.to_string(), &file, area);
+        if let Some((program, evidence)) = text.split_once('|') {
+            pair_case(judges, line, wanted, &bytes(program, &names), &bytes(evidence, &names), area);
+            continue;
+        }
+        let file = bytes(text, &names);
+        let answer = judge(&file, area);
+        let said = if program_only { judge_input(&file).to_string() } else { as_wanted(answer, wanted) };
+        if said != wanted {
+            judges.fail(line, "the separate judge", wanted, &said, &file, area);
         }
         if program_only {
             judges.judged += 1;
@@ -235,13 +301,31 @@ fn cases(name: &str, judges: &mut Judges) {
                 }
             }
         } else {
-            judges.compare(line, &file, area, verdict, area == AREA_LEAST);
+            judges.compare(line, &file, area, answer, area == AREA_LEAST);
             both_algorithms(judges, line, &file, area, 50_000.0);
             if let Ok((program, reference::Evidence::List(list))) = reference::read(&file, reference::entries_allowed(area)) {
                 judges.in_any_order(line, &program, &list.configurations(&program), area, &mut r, false);
             }
         }
     }
+}
+
+/// The line, and the record where the case has it.
+fn as_wanted(answer: Answer, wanted: &str) -> String {
+    if wanted.contains(", record ") {
+        answer.to_string()
+    } else {
+        answer.verdict.to_string()
+    }
+}
+
+fn pair_case(judges: &mut Judges, line: &str, wanted: &str, program: &[u8], evidence: &[u8], area: usize) {
+    let answer = judge(Lent::Pair(program, evidence), area);
+    let said = as_wanted(answer, wanted);
+    if said != wanted {
+        judges.fail(line, "the separate judge", wanted, &said, Lent::Pair(program, evidence), area);
+    }
+    judges.compare_pair(line, program, evidence, area, answer);
 }
 
 /// The brute force beside the cubes, where the file is a list of a shape that is tiny enough.
@@ -286,14 +370,14 @@ fn brute_force(seed: u64, count: usize, judges: &mut Judges) {
             let area = AREA_MOST;
             let most = if processes == 2 || values[0] != values[1] && variables == 2 { 150_000.0 } else { 40_000.0 };
             if both_algorithms(judges, "random list", &file, area, most) {
-                let line = judge(&file, area);
-                judges.compare("random list", &file, area, line, false);
+                let answer = judge(&file, area);
+                judges.compare("random list", &file, area, answer, false);
                 number += 1;
                 // Of an accepted list PSO reaches no target, as far as a bound on what waits goes. The search always ends, loops or not.
-                if matches!(line, Verdict::Safe(_)) {
+                if matches!(answer.verdict, Verdict::Safe(_)) {
                     if let Ok(run) = search::shortest_run(&program, Machine::Pso, &program.memories(), 4) {
                         let found = judge(&writing::run_file(&program, &run), area);
-                        judges.fail("a PSO run beside a safe list", "the search", &line.to_string(), &found.to_string(), &file, area);
+                        judges.fail("a PSO run beside a safe list", "the search", &answer.to_string(), &found.to_string(), &file, area);
                     }
                 }
             }
@@ -325,7 +409,7 @@ fn reach(seed: u64, judges: &mut Judges) {
             uncleared += (run.is_ok() && !from_cleared) as usize;
             let list = writing::list_file(&program, &entries);
             let area = enough(entries.len());
-            let line = judge(&list, area);
+            let line = judge(&list, area).verdict;
             // Long lists that are safe take the judges long; the search has been made for them all.
             let short = entries.len() <= 600;
             pso_too(&program, run.is_ok(), area, judges);
@@ -333,10 +417,7 @@ fn reach(seed: u64, judges: &mut Judges) {
                 Ok(found) => {
                     let run = writing::run_file(&program, &found);
                     let wanted = Verdict::Reachable(found.steps.len() as u64, 0);
-                    if judge(&run, area) != wanted {
-                        judges.fail("a run", "the separate judge", &wanted.to_string(), &judge(&run, area).to_string(), &run, area);
-                    }
-                    judges.compare("a run", &run, area, wanted, false);
+                    judges.compare_known("a run", &run, area, wanted, false);
                     if !matches!(line, Verdict::Refused(10, _)) {
                         judges.fail("a list beside a run", "the separate judge", "refused 10", &line.to_string(), &list, area);
                     }
@@ -362,11 +443,10 @@ fn pso_too(program: &Program, reached: bool, area: usize, judges: &mut Judges) {
         Ok(found) => {
             let file = writing::run_file(program, &found);
             let wanted = Verdict::Pso(found.steps.len() as u64, 0);
-            let line = judge(&file, area);
-            if !reached || line != wanted {
-                judges.fail("a PSO run", "the separate judge", &wanted.to_string(), &line.to_string(), &file, area);
+            if !reached {
+                judges.fail("a PSO run", "the search", "no run", &wanted.to_string(), &file, area);
             }
-            judges.compare("a PSO run", &file, area, wanted, false);
+            judges.compare_known("a PSO run", &file, area, wanted, false);
         }
         Err(_) if reached => judges.fail("no PSO run", "the search", "a run", "none", &writing::program(program), area),
         Err(_) => {}
@@ -381,10 +461,7 @@ fn refused_steps(r: &mut Random, machine: Machine, judges: &mut Judges) {
         random::refused_steps(r, machine, &mut |causes, reason, depth, file| {
             *met.entry((causes.to_vec(), reason)).or_insert(0) += 1;
             let wanted = Verdict::Refused(causes[0], depth as u64);
-            if judge(file, AREA_LEAST) != wanted {
-                judges.fail("a refused step", "the separate judge", &wanted.to_string(), &judge(file, AREA_LEAST).to_string(), file, AREA_LEAST);
-            }
-            judges.compare("a refused step", file, AREA_LEAST, wanted, depth % 100 == 7);
+            judges.compare_known("a refused step", file, AREA_LEAST, wanted, depth % 100 == 7);
         });
     }
     let (causes, reasons): (&[&[u64]], &[&str]) = match machine {
@@ -438,11 +515,11 @@ fn left_out(r: &mut Random, judges: &mut Judges) {
                 r.shuffle(&mut fewer);
             }
             let file = writing::list_file(&program, &fewer);
-            let line = judge(&file, AREA_LEAST);
-            judges.compare("an entry left out", &file, AREA_LEAST, line, false);
+            let answer = judge(&file, AREA_LEAST);
+            judges.compare("an entry left out", &file, AREA_LEAST, answer, false);
             let Some((entry, step)) = way_in(&program, &fewer, &lost) else { continue };
             let lowest = Verdict::Open(entry as u64, steps[step]);
-            let (named, kind) = match line {
+            let (named, kind) = match answer.verdict {
                 Verdict::Refused(9 | 10, _) => continue,
                 Verdict::Open(number, by) => {
                     let kind = match by {
@@ -455,7 +532,7 @@ fn left_out(r: &mut Random, judges: &mut Judges) {
                 _ => (None, "none"),
             };
             if named.is_none() || named > Some((entry, step)) {
-                judges.fail("an entry left out", "the separate judge", &lowest.to_string(), &line.to_string(), &file, AREA_LEAST);
+                judges.fail("an entry left out", "the separate judge", &lowest.to_string(), &answer.to_string(), &file, AREA_LEAST);
             }
             let (same, all) = met.entry(kind).or_default();
             *same += (named == Some((entry, step))) as usize;
@@ -464,6 +541,19 @@ fn left_out(r: &mut Random, judges: &mut Judges) {
     }
     for kind in ["t", "s", "u"] {
         assert!(met.get(kind).is_some_and(|(same, all)| *same >= 10 && same * 2 >= *all), "steps of kind {} are met too seldom: {:?}", kind, met);
+    }
+}
+
+/// A file cut at its claim with one of the two parts damaged by itself, and cut anywhere.
+fn damaged_pair(r: &mut Random, what: &str, file: &[u8], area: usize, judges: &mut Judges) {
+    let at = pairs::claim(file).0.expect("a claim");
+    let (program, evidence) = (&file[..at], &file[at..]);
+    let anywhere = r.below(file.len() + 1);
+    let of_program = r.one_in(2);
+    let changed = random::damaged_bytes(r, if of_program { program } else { evidence });
+    let damaged = if of_program { (&changed[..], evidence) } else { (program, &changed[..]) };
+    for (program, evidence) in [(&file[..anywhere], &file[anywhere..]), damaged] {
+        judges.compare_pair(&format!("{} as a damaged pair", what), program, evidence, area, judge(Lent::Pair(program, evidence), area));
     }
 }
 
@@ -476,14 +566,19 @@ fn corpora(seed: u64, judges: &mut Judges) {
         counter += 1;
         counter % 150 == 0
     };
-    for full in fixed::full_files() {
-        fixed::sweeps(&full, &mut |what, file| {
+    let all = fixed::full_files();
+    for full in &all {
+        fixed::sweeps(full, &mut |what, file| {
             let area = if r.one_in(60) { *r.pick(&odd_areas) } else { *r.pick(&areas) };
             judges.compare(what, &file, area, judge(&file, area), sample());
         });
         for area in odd_areas.iter().chain(&areas) {
             judges.compare(full.name, &full.bytes, *area, judge(&full.bytes, *area), false);
         }
+        pairs::sweeps(&all, full, &mut |what, program, evidence| {
+            let area = if r.one_in(60) { *r.pick(&odd_areas) } else { *r.pick(&areas) };
+            judges.compare_pair(what, program, evidence, area, judge(Lent::Pair(program, evidence), area));
+        });
     }
     fixed::limits(&mut |what, file, area| {
         judges.compare(what, &file, area, judge(&file, area), area == AREA_LEAST);
@@ -508,6 +603,7 @@ fn corpora(seed: u64, judges: &mut Judges) {
             let area = *r.pick(&areas);
             judges.compare("damaged run", &file, area, judge(&file, area), sample());
         }
+        damaged_pair(&mut r, "run", &file, area, judges);
     }
     assert!(taken.iter().all(|n| *n >= 1_000), "a kind of step is taken too seldom by PSO: {:?}", taken);
     refused_steps(&mut Random(seed ^ 0xca05e), Machine::Pws, judges);
@@ -530,6 +626,7 @@ fn corpora(seed: u64, judges: &mut Judges) {
         let area = *s.pick(&areas);
         let file = judges.in_any_order("list", program, entries, area, &mut s, sample());
         if s.one_in(4) {
+            damaged_pair(&mut s, "list", &file, area, judges);
             let file = random::damaged_bytes(&mut s, &file);
             judges.compare("damaged list", &file, area, judge(&file, area), sample());
         }
@@ -538,6 +635,7 @@ fn corpora(seed: u64, judges: &mut Judges) {
         judges.in_any_order(what, program, entries, enough(entries.len()), &mut s, sample());
     });
     left_out(&mut Random(seed ^ 0x1eff), judges);
+    judges.met.check();
 }
 
 /// The least area that so many entries fit into.
@@ -561,13 +659,15 @@ fn main() {
     let mut judges = Judges {
         caller: after("--caller").map(|name| Caller::new(&name)),
         program: after("--program"),
-        files: after("--files").map(outside::Files::new),
+        files: after("--files").map(shown::Files::new),
         first: words.iter().any(|w| w == "--first"),
         judged: 0,
+        pairs: 0,
         by_caller: 0,
         by_program: 0,
         failed: 0,
         lines: BTreeMap::new(),
+        met: pairs::Met::default(),
     };
     let number = |at: usize| words[at].parse::<u64>().expect("a number");
     match words[0].as_str() {

@@ -2,80 +2,8 @@
 //! that is in the target, or from which the step leads above the entry.
 
 use reference::brute::below;
-use reference::{read, Configuration, Evidence, Message, Program, Verdict};
+use reference::{read, Configuration, Evidence, Lent, Message, Program, Verdict};
 use std::fmt::Write;
-use std::process::Command;
-
-/// The files to be looked at are gathered, so that the program is started seldom.
-const FILES: usize = 200;
-const BYTES: usize = 20_000_000;
-
-struct Refused {
-    what: String,
-    file: Vec<u8>,
-    verdict: Verdict,
-}
-
-pub struct Files {
-    name: String,
-    gathered: Vec<Refused>,
-    bytes: usize,
-    pub checked: usize,
-}
-
-/// A fault: the file it was said of, and what is wrong.
-pub struct Fault {
-    pub what: String,
-    pub file: Vec<u8>,
-    pub said: String,
-    pub fault: String,
-}
-
-impl Files {
-    pub fn new(name: String) -> Files {
-        Files { name, gathered: Vec::new(), bytes: 0, checked: 0 }
-    }
-
-    pub fn add(&mut self, what: &str, file: &[u8], verdict: Verdict) -> Vec<Fault> {
-        self.gathered.push(Refused { what: what.to_string(), file: file.to_vec(), verdict });
-        self.bytes += file.len();
-        if self.gathered.len() < FILES && self.bytes < BYTES {
-            return Vec::new();
-        }
-        self.end()
-    }
-
-    pub fn end(&mut self) -> Vec<Fault> {
-        let folder = format!("target/tests/outside-{}", std::process::id());
-        std::fs::create_dir_all(&folder).expect("a folder");
-        let names: Vec<String> = (0..self.gathered.len()).map(|number| format!("{}/{}", folder, number)).collect();
-        for (name, refused) in names.iter().zip(&self.gathered) {
-            std::fs::write(name, &refused.file).expect("a file");
-        }
-        let mut faults = Vec::new();
-        if !names.is_empty() {
-            let out = Command::new(&self.name).arg("-w").args(&names).output().expect("hrafnolt-files starts");
-            let text = String::from_utf8_lossy(&out.stdout).to_string();
-            let mut lines = text.lines();
-            for (name, refused) in names.iter().zip(self.gathered.drain(..)) {
-                let line = lines.next().unwrap_or("").to_string();
-                let words = lines.next().unwrap_or("").to_string();
-                let checked = match words.strip_prefix(&format!("{}: outside: ", name)) {
-                    _ if line != format!("{}: {}", name, refused.verdict) => Err("another line".to_string()),
-                    Some(words) => check(&refused.file, refused.verdict, words),
-                    None => Err("no configuration".to_string()),
-                };
-                if let Err(fault) = checked {
-                    faults.push(Fault { what: refused.what, file: refused.file, said: format!("{}, {}", line, words), fault });
-                }
-                self.checked += 1;
-            }
-        }
-        self.bytes = 0;
-        std::fs::remove_dir_all(&folder).expect("the folder");
-        faults
-    }
-}
 
 fn numbers(text: &str) -> Option<Vec<usize>> {
     text.split(' ').map(|word| word.parse().ok()).collect()
@@ -150,8 +78,8 @@ fn well_formed(program: &Program, c: &Configuration) -> bool {
         })
 }
 
-fn check(file: &[u8], verdict: Verdict, text: &str) -> Result<(), String> {
-    let Ok((program, Evidence::List(list))) = read(file, 524_288) else { return Err("no list".to_string()) };
+pub fn check(lent: Lent, verdict: Verdict, text: &str) -> Result<(), String> {
+    let Ok((program, Evidence::List(list))) = read(lent, 524_288) else { return Err("no list".to_string()) };
     let Some((mut c, step)) = parsed(&program, text) else { return Err("not in these words".to_string()) };
     if !well_formed(&program, &c) {
         return Err("no configuration of this shape".to_string());

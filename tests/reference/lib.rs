@@ -10,11 +10,13 @@ pub mod index;
 pub mod machine;
 pub mod pso;
 pub mod reading;
+pub mod record;
 pub mod running;
 pub mod writing;
 
 pub use machine::{Configuration, Machine, Message, Operation, Program, Run, Step, Transition};
-pub use reading::{read, Evidence};
+pub use reading::{read, Evidence, Lent};
+pub use record::Record;
 pub use running::Running;
 
 /// Stands for any value of its place, in an entry.
@@ -43,6 +45,26 @@ impl std::fmt::Display for Verdict {
     }
 }
 
+/// A verdict, and the offending record that comes with it.
+#[derive(Clone, Copy, PartialEq, Eq, Debug)]
+pub struct Answer {
+    pub verdict: Verdict,
+    pub record: Record,
+}
+
+impl Answer {
+    /// Every answer that has to do with no record hands back the empty end of the evidence or combined file.
+    pub fn without_record(lent: Lent, verdict: Verdict) -> Answer {
+        Answer { verdict, record: Record::none(lent) }
+    }
+}
+
+impl std::fmt::Display for Answer {
+    fn fmt(&self, f: &mut std::fmt::Formatter) -> std::fmt::Result {
+        write!(f, "{}, record {}", self.verdict, self.record)
+    }
+}
+
 /// Bytes of a work area: the least that is not refused with 8, and the most that is ever used.
 pub const AREA_LEAST: usize = 65_536;
 pub const AREA_MOST: usize = 16_384 + 12 * 524_288;
@@ -52,16 +74,20 @@ pub fn entries_allowed(area: usize) -> usize {
     (area.saturating_sub(16_384) / 12).min(524_288)
 }
 
-/// The whole judgement of a file with a work area of `area` bytes.
-pub fn judge(file: &[u8], area: usize) -> Verdict {
+/// The whole judgement of what is lent, with a work area of `area` bytes.
+pub fn judge<'a>(lent: impl Into<Lent<'a>>, area: usize) -> Answer {
+    let lent = lent.into();
     if area < AREA_LEAST {
-        return Verdict::Refused(8, 0);
+        return Answer::without_record(lent, Verdict::Refused(8, 0));
     }
-    match read(file, entries_allowed(area)) {
-        Err((number, place)) => Verdict::Refused(number, place as u64),
+    let verdict = match read(lent, entries_allowed(area)) {
+        Err(refusal) => {
+            return Answer { verdict: Verdict::Refused(refusal.number, refusal.place as u64), record: Record::refused(lent, refusal) };
+        }
         Ok((program, Evidence::Run(run))) => replay(&program, &run),
         Ok((program, Evidence::List(list))) => cubes::judge_list(&program, &list),
-    }
+    };
+    Answer::without_record(lent, verdict)
 }
 
 /// What the program answers to a file on standard input: its area has 65,536 bytes, and number 14 comes first.
@@ -69,7 +95,7 @@ pub fn judge_input(file: &[u8]) -> Verdict {
     if file.len() > 65_536 {
         return Verdict::Refused(14, 65_536);
     }
-    judge(file, AREA_LEAST)
+    judge(file, AREA_LEAST).verdict
 }
 
 /// Claims 1 and 2: every step in turn from the starting memory, then the lowest target that the last local states meet.

@@ -1,4 +1,5 @@
-//! Document 01, "Records" and the refusal table: bytes to program and evidence, or a number and a place.
+//! Document 01, "Records" and the refusal table: bytes to program and evidence, or a number and a place. They come in one combined file or,
+//! since request N6, in a program file and an evidence file.
 
 use crate::entries::{Cube, List};
 use crate::machine::{Machine, Message, Operation, Program, Run, Step, Transition};
@@ -7,6 +8,41 @@ use crate::FF;
 pub enum Evidence {
     List(List),
     Run(Run),
+}
+
+/// What is lent: one combined file, or a program file and an evidence file.
+#[derive(Clone, Copy)]
+pub enum Lent<'a> {
+    Combined(&'a [u8]),
+    Pair(&'a [u8], &'a [u8]),
+}
+
+impl<'a> From<&'a [u8]> for Lent<'a> {
+    fn from(file: &'a [u8]) -> Lent<'a> {
+        Lent::Combined(file)
+    }
+}
+
+impl<'a> From<&'a Vec<u8>> for Lent<'a> {
+    fn from(file: &'a Vec<u8>) -> Lent<'a> {
+        Lent::Combined(file)
+    }
+}
+
+/// A number of the table whose place is a byte offset, in file 0 (combined or program) or 1 (evidence).
+#[derive(Clone, Copy, PartialEq, Eq, Debug)]
+pub struct Refusal {
+    pub number: u64,
+    pub file: usize,
+    pub place: usize,
+}
+
+/// What a file may hold: everything, 01 to 04, or what comes from the claim on.
+#[derive(Clone, Copy, PartialEq, Eq)]
+enum Part {
+    All,
+    Program,
+    Evidence,
 }
 
 /// Body lengths of the kinds that exist.
@@ -44,10 +80,12 @@ struct Reader {
 }
 
 impl Reader {
-    fn allowed_here(&self, kind: u8) -> bool {
+    fn allowed_here(&self, part: Part, kind: u8) -> bool {
         let all_states = self.shape && self.program.states.len() == self.program.processes;
         let no_target = self.program.targets.is_empty();
         match (kind, self.claim) {
+            (0x0f, _) if part == Part::Program => false,
+            (0x01..=0x04, _) if part == Part::Evidence => false,
             (0x01, None) => !self.shape,
             (0x02, None) => self.shape && !all_states,
             (0x03, None) => all_states && no_target,
@@ -244,16 +282,15 @@ impl Reader {
     }
 }
 
-/// Reads a whole file. A refusal is a number of the table and a byte offset.
-pub fn read(file: &[u8], entries_allowed: usize) -> Result<(Program, Evidence), (u64, usize)> {
-    let mut reader = Reader::default();
+/// Takes in the records of one file. A refusal is a number of the table and a byte offset.
+fn take_all(reader: &mut Reader, part: Part, file: &[u8], entries_allowed: usize) -> Result<(), (u64, usize)> {
     let mut at = 0;
     while at < file.len() {
         let kind = file[at];
         if kind == 0x10 && reader.entry_faulty() {
             return Err((7, reader.latest_at));
         }
-        if !reader.allowed_here(kind) {
+        if !reader.allowed_here(part, kind) {
             return Err((2, at));
         }
         let Some(length) = body_length(kind) else { return Err((2, at)) };
@@ -275,13 +312,34 @@ pub fn read(file: &[u8], entries_allowed: usize) -> Result<(Program, Evidence), 
     if reader.entry_faulty() {
         return Err((7, reader.latest_at));
     }
+    let ended_early = match part {
+        Part::Program => reader.program.targets.is_empty(),
+        // Before the claim, or before the memory that a run starts from.
+        Part::All | Part::Evidence => reader.claim.is_none() || reader.claim != Some(0) && reader.memory.is_none(),
+    };
+    if ended_early {
+        return Err((6, file.len()));
+    }
+    Ok(())
+}
+
+/// Reads what is lent; of a pair the whole program file comes first.
+pub fn read<'a>(lent: impl Into<Lent<'a>>, entries_allowed: usize) -> Result<(Program, Evidence), Refusal> {
+    let mut reader = Reader::default();
+    let files = match lent.into() {
+        Lent::Combined(file) => vec![(0, Part::All, file)],
+        Lent::Pair(program, evidence) => vec![(0, Part::Program, program), (1, Part::Evidence, evidence)],
+    };
+    for (file, part, bytes) in files {
+        take_all(&mut reader, part, bytes, entries_allowed).map_err(|(number, place)| Refusal { number, file, place })?;
+    }
     reader.end_entry();
-    match (reader.claim, reader.memory) {
-        (Some(0), _) => Ok((reader.program, Evidence::List(reader.list))),
+    let evidence = match (reader.claim, reader.memory) {
         (Some(claim), Some(memory)) => {
             let machine = if claim == 1 { Machine::Pws } else { Machine::Pso };
-            Ok((reader.program, Evidence::Run(Run { machine, memory, steps: reader.steps })))
+            Evidence::Run(Run { machine, memory, steps: reader.steps })
         }
-        _ => Err((6, file.len())), // before the claim, or before the memory that a run starts from
-    }
+        _ => Evidence::List(reader.list),
+    };
+    Ok((reader.program, evidence))
 }
