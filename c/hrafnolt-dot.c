@@ -1,21 +1,33 @@
-/* hrafnolt-dot FILE: the drawing of a run, in the DOT graph language, on standard output. FILE is an evidence file whose claim is 1 or 2,
- * or bare step records. In a run of claim 2, s01 is the PSO machine's update of process 0 and variable 1, and u0 the removal of process 0's
+/* hrafnolt-dot FILE: the drawing of a run, in the DOT graph language, on standard output. FILE is a combined file or an evidence file whose
+ * claim is 1 or 2, or bare step records. In a run of claim 2, s01 is the PSO machine's update of process 0 and variable 1, and u0 the removal of process 0's
  * mark.
  * hrafnolt-dot -r FILE: a drawing back to step records, on standard output.
  * FILE may be `-`, standard input.
  * Exit status: 0 if it was written, 1 if the file is refused (`FILE: refused NUMBER PLACE` on standard error, the place counted in
- * FILE), 2 if it can't be read, holds no run, or the output can't be written. */
+ * FILE), 2 if it can't be read, holds no run, the output can't be written, or the options are wrong. */
+#define _GNU_SOURCE
 #include "hrafnolt.h"
 
+#include "version.h"
+
 #include <errno.h>
+#include <getopt.h>
 #include <inttypes.h>
 #include <stdio.h>
 #include <stdlib.h>
 #include <string.h>
 
-static const char usage[] = "usage: hrafnolt-dot FILE     the drawing of a run (an evidence file whose claim is 1 or 2, or bare steps)\n"
-                            "       hrafnolt-dot -r FILE  a drawing back to step records\n"
-                            "FILE may be -, standard input.\n";
+static const char usage[] = "usage: hrafnolt-dot [-r] FILE\n";
+
+static const char help[] = "Draws a run: FILE is a combined file or an evidence file whose claim is 1 or 2, or bare step records.\n"
+                           "FILE may be -, standard input.\n"
+                           "\n"
+                           "  -r         read a drawing and write its step records\n"
+                           "  --help     this text\n"
+                           "  --version  the version\n"
+                           "  --         no option follows\n"
+                           "\n"
+                           "Exit status: 0 if it was written, 1 if the file is refused, 2 if it can't be read or holds no run.\n";
 
 /* All bytes of a file, in memory of their own; null with errno set. */
 static uint8_t *read_all(const char *name, size_t *length)
@@ -57,12 +69,13 @@ static size_t body(uint8_t kind)
 
 enum found { STEPS, LIST, NO_CLAIM, NO_MEMORY, OTHER_CLAIM };
 
-/* Where the step records begin: at the file's start, or after a claim that is 1 or 2 and the starting memory. */
+/* Where the step records begin: at the file's start, or after a claim that is 1 or 2 and the starting memory. An evidence file has no
+ * program before its claim. */
 static enum found find_steps(const uint8_t *file, size_t length, size_t *start)
 {
     size_t at = 0;
     *start = 0;
-    if (length == 0 || file[0] != 1)
+    if (length == 0 || (file[0] != 1 && file[0] != 0x0F))
         return STEPS;
     while (at < length && body(file[at]) != 0)
         at += 1 + body(file[at]);
@@ -78,34 +91,68 @@ static enum found find_steps(const uint8_t *file, size_t length, size_t *start)
     return STEPS;
 }
 
+/* Why a file has no run to draw. */
+static const char *why_not(enum found found)
+{
+    switch (found) {
+    case LIST:
+        return "its claim is 0: it holds a list and no run";
+    case NO_CLAIM:
+        return "no claim follows its program";
+    case OTHER_CLAIM:
+        return "its claim is none of 0, 1 and 2";
+    default:
+        return "no starting memory follows its claim";
+    }
+}
+
+/* For an exit before anything is read. */
+static int say(const char *first, const char *second)
+{
+    printf("%s%s", first, second);
+    return fflush(stdout) == 0 ? 0 : 2;
+}
+
+/* -1 if a file is to be read, else the exit status. */
+static int read_options(int count, char **words, int *back)
+{
+    static const struct option longs[] = {{"help", no_argument, NULL, 'h'}, {"version", no_argument, NULL, 'v'}, {NULL, 0, NULL, 0}};
+    int option;
+    while ((option = getopt_long(count, words, "r", longs, NULL)) != -1)
+        switch (option) {
+        case 'h':
+            return say(usage, help);
+        case 'v':
+            return say("hrafnolt-dot " HRAFNOLT_VERSION, "\n");
+        case 'r':
+            *back = 1;
+            break;
+        default: /* getopt has said which one */
+            fputs(usage, stderr);
+            return 2;
+        }
+    if (optind + 1 == count)
+        return -1;
+    fputs(usage, stderr);
+    return 2;
+}
+
 int main(int count, char **words)
 {
-    if (count == 2 && strcmp(words[1], "--help") == 0) {
-        fputs(usage, stdout);
-        return fflush(stdout) == 0 ? 0 : 2;
-    }
-    int back = count == 3 && strcmp(words[1], "-r") == 0;
-    if (!back && count != 2) {
-        fputs(usage, stderr);
-        return 2;
-    }
-    const char *name = words[back ? 2 : 1];
+    int back = 0, status = read_options(count, words, &back);
+    if (status >= 0)
+        return status;
+    const char *name = words[optind];
     size_t length, start = 0;
     uint8_t *file = read_all(name, &length);
     if (file == NULL) {
         fprintf(stderr, "%s: %s\n", name, strerror(errno));
         return 2;
     }
-    if (!back) {
-        enum found found = find_steps(file, length, &start);
-        if (found != STEPS) {
-            fprintf(stderr, "%s: %s\n", name,
-                    found == LIST          ? "its claim is 0: it holds a list and no run"
-                    : found == NO_CLAIM    ? "no claim follows its program"
-                    : found == OTHER_CLAIM ? "its claim is none of 0, 1 and 2"
-                                           : "no starting memory follows its claim");
-            return 2;
-        }
+    enum found found = back ? STEPS : find_steps(file, length, &start);
+    if (found != STEPS) {
+        fprintf(stderr, "%s: %s\n", name, why_not(found));
+        return 2;
     }
     static uint8_t out[HRAFNOLT_DOT_MOST > HRAFNOLT_STEPS_MOST ? HRAFNOLT_DOT_MOST : HRAFNOLT_STEPS_MOST];
     struct hrafnolt_written written = back ? hrafnolt_dot_read(file, length, out, sizeof out)

@@ -78,8 +78,8 @@ struct hrafnolt_verdict hrafnolt_judge(const uint8_t *file, size_t file_len, uin
  *
  * What a C caller must keep is the same: program and evidence are not null and name so many readable bytes, work is as above and overlaps
  * neither of them, nobody writes to any of them during the call, and each length is at most PTRDIFF_MAX. Program and evidence may
- * overlap, or be the same bytes, since both are only read. So may calls at the same time share them, each with its own work area: an answer
- * and what its area holds afterwards depend on the bytes of these two files and on work_len, and on nothing else. */
+ * overlap, or be the same bytes, since both are only read, and calls at the same time may share them, each with its own work area. The
+ * verdict, and which bytes of work are 0 afterwards, depend on the bytes of the two files and on work_len, and on nothing else. */
 struct hrafnolt_verdict hrafnolt_judge_pair(const uint8_t *program, size_t program_len, const uint8_t *evidence, size_t evidence_len,
                                             uint8_t *work, size_t work_len);
 
