@@ -659,7 +659,7 @@ fn main() {
     let mut judges = Judges {
         caller: after("--caller").map(|name| Caller::new(&name)),
         program: after("--program"),
-        files: after("--files").map(shown::Files::new),
+        files: after("--files").map(|name| shown::Files::new(name, if words[0] == "cases" { 1 } else { 100 })),
         first: words.iter().any(|w| w == "--first"),
         judged: 0,
         pairs: 0,

@@ -10,9 +10,6 @@ use std::process::Command;
 const FILES: usize = 200;
 const BYTES: usize = 20_000_000;
 
-/// One in so many refusals with a record, and one in so many pairs.
-const SAMPLE: usize = 100;
-
 pub struct Shown {
     pub what: String,
     program: Option<Vec<u8>>,
@@ -42,14 +39,16 @@ pub struct Files {
     gathered: BTreeMap<Option<Vec<u8>>, Vec<Shown>>,
     number: usize,
     bytes: usize,
+    /// Of other answers than 9 and 11, and of pairs, one in so many is looked at.
+    sample: usize,
     seen: usize,
     pub outside: usize,
     pub records: usize,
 }
 
 impl Files {
-    pub fn new(name: String) -> Files {
-        Files { name, gathered: BTreeMap::new(), number: 0, bytes: 0, seen: 0, outside: 0, records: 0 }
+    pub fn new(name: String, sample: usize) -> Files {
+        Files { name, gathered: BTreeMap::new(), number: 0, bytes: 0, sample, seen: 0, outside: 0, records: 0 }
     }
 
     pub fn add(&mut self, what: &str, lent: Lent, answer: Answer) -> Vec<Fault> {
@@ -58,14 +57,13 @@ impl Files {
             Lent::Pair(program, evidence) => (Some(program.to_vec()), evidence),
         };
         self.seen += 1;
+        let sampled = self.seen % self.sample == 0;
         let wanted = match answer.verdict {
-            Verdict::Refused(9, _) | Verdict::Open(..) => program.is_none() || self.seen % SAMPLE == 0,
-            // The program's area is as large as the file needs: another count of entries, and never 8.
+            Verdict::Refused(9, _) | Verdict::Open(..) => program.is_none() || sampled,
+            // The program's area is as large as the file needs: it allows other counts of entries, and is never 8.
             Verdict::Refused(8, _) => false,
-            Verdict::Refused(5, place) if answer.record.file == 0 || program.is_some() => {
-                file.get(place as usize) != Some(&0x10) && self.seen % 5 == 0
-            }
-            _ => self.seen % SAMPLE == 0,
+            Verdict::Refused(5, place) => sampled && file.get(place as usize) != Some(&0x10),
+            _ => sampled,
         };
         if !wanted {
             return Vec::new();
