@@ -1,5 +1,5 @@
 # `make` proves and builds the judge and shows what it says of the examples; `make test` is the gate; `make install PREFIX=..` installs
-# header, library and programs.
+# header, library, programs and manual pages.
 PREFIX ?= /usr/local
 .PHONY: all build test install
 
