@@ -74,7 +74,7 @@ struct hrafnolt_verdict hrafnolt_judge(const uint8_t *file, size_t file_len, uin
 
 /* Judges the evidence file evidence[0 .. evidence_len) against the program file program[0 .. program_len), for groups that share a program.
  * The program file holds the records 01 to 04 and ends; the evidence file begins at its claim, 0F. The program file is read through first: it is
- * 6 if it ends before its first 04, and an 0F in it is 2. Cut before its claim, a combined file is such a pair, with the same verdict.
+ * 6 if it ends before its first 04, and an 0F in it is 2.
  *
  * What a C caller must keep is the same: program and evidence are not null and name so many readable bytes, work is as above and overlaps
  * neither of them, nobody writes to any of them during the call, and each length is at most PTRDIFF_MAX. Program and evidence may
