@@ -3,10 +3,10 @@ use Prim.Native.Nat.{ℕ, zero, suc, _+_, _-_, _<_, _≤_, min}
 use mathlib.Core.Path.{_≡_, refl, sym, ap, ap₂, subst, _∙_}
 use mathlib.Core.Logic.{_≢_}
 use mathlib.Core.Bool.{true, false, _&&_}
-use mathlib.Core.List.{List, [], _∷_, map}
+use mathlib.Core.List.{List, [], _∷_}
 use native.Mathlib.Omega.{arith}
 use native.Mathlib.Decide.{decLt, ℕ-discrete}
-use lib.ListN.{length, getD, set, take, length-map}
+use lib.ListN.{length, getD, set, take}
 use lib.Seq.{getD-set-same, getD-set-other, take-take}
 use lib.Dec.{T, eqb, ltb}
 use borrow.Author.Tests.{ne-eqb, lt-ltb, le-ltb}
@@ -20,10 +20,6 @@ use Rattle.whole_file.proofs.CubeParts.{queue-none}
 use Rattle.matching.proofs.Below.{and-false}
 use Rattle.matching.proofs.ValueLaws.{newest-at}
 use Rattle.before.specs.Before.{Waits}
-
--- an array of structs in a struct has its length
-pub length-mapped : (X Y : Type 0) (f : X → Y) (l : List X) (n : ℕ) → length (map f l) ≡ n → length l ≡ n
-length-mapped X Y f l n e = sym (length-map l f) ∙ e
 
 pub no-both : true ≡ false → ⊥
 no-both e = subst T e tt

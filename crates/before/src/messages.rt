@@ -5,7 +5,7 @@ ghost use Prim.Native.Nat.{ℕ, _+_, _*_, _-_, _≤_, _<_, max, min};
 ghost use lib.ListN.{length, getD, set};
 ghost use Rattle.pws.specs.Machine.{message, labelled, lastLabelled, lastWrite};
 ghost use Rattle.pws.specs.Insertion.{putMessage, up};
-ghost use Rattle.lists.specs.Cubes.{memoryOf, withValues, anyValue, anyMessage, setValue};
+ghost use Rattle.lists.specs.Cubes.{memoryOf, withValues, setValue};
 ghost use Rattle.lists.specs.Predecessors.{withoutNewest};
 ghost use Rattle.program_part.specs.ProgramPart.{shapeOf};
 ghost use Rattle.program_part.specs.declared.program.Shape.{Shape};
@@ -116,33 +116,6 @@ pub fn older_write(cube: Cube, p: usize, v: usize) -> usize
         pointer,
         last_labelled(messages, one_fewer(cube.count), p, v),
     )
-}
-
-// ---- a message all of whose values are free
-
-fn any_value(shape: Shape, v: usize) -> u8
-    ensures { λ r. ⌜ r ≡ anyValue (shapeOf shape) v ⌝ }
-{
-    if v < shape.variables {
-        return 255;
-    }
-    0
-}
-
-pub(crate) fn any_message(shape: Shape, p: u8, v: u8) -> Message
-    ensures { λ r. ⌜ r ≡ anyMessage (shapeOf shape) p v ⌝ }
-{
-    let snapshot = [
-        any_value(shape, 0),
-        any_value(shape, 1),
-        any_value(shape, 2),
-        any_value(shape, 3),
-    ];
-    Message {
-        process: p,
-        variable: v,
-        snapshot: snapshot,
-    }
 }
 
 // ---- a message put in

@@ -7,9 +7,9 @@ ghost use Rattle.program_part.specs.ProgramPart.{shapeOf};
 ghost use Rattle.program_part.specs.declared.program.Shape.{Shape};
 ghost use Rattle.whole_file.specs.Cube.{configurationOf};
 ghost use Rattle.before.specs.Before.{Sound, CubeFor, updateBefore};
-use crate::messages::any_message;
 use crate::messages::inserted;
 use crate::messages::raised;
+use matching::any_message;
 use program_part::program::Shape;
 use whole_file::entry::Cube;
 

@@ -3,8 +3,8 @@ use Prim.Native.Nat.{ℕ, zero, suc, _+_, _*_, _-_, _/_, _%_, _<_, _≤_, min}
 use mathlib.Core.Path.{_≡_, refl, sym, ap, ap₂, _∙_}
 use mathlib.Core.Bool.{Bool, true, false, cond, _&&_, not}
 use native.Mathlib.Omega.{arith}
-use mathlib.Core.List.{List, map}
-use lib.ListN.{length, getD, length-map}
+use mathlib.Core.List.{List}
+use lib.ListN.{length, getD}
 use lib.Dec.{eqb, ltb}
 use borrow.Author.Tests.{ltb-true, eqb-true, lt-ltb, le-ltb}
 use Rattle.pws.specs.Machine.{noMessage}
@@ -15,10 +15,6 @@ use Rattle.program_part.proofs.ProgramLaws.{and-true}
 use Rattle.cover.specs.declared.place.Place.{Place}
 use Rattle.cover.specs.declared.place.Place.the-variants.{Whole, Waiting, Sent}
 use Rattle.cover.specs.Places.{isWhole, valueFree, waitsFree, sentFree, isFree, proper, placeAt, NoneFree, fillings}
-
--- what is handed on of an array of structs is the length of its image
-pub length-mapped : (X Y : Type 0) (f : X → Y) (l : List X) (n : ℕ) → length (map f l) ≡ n → length l ≡ n
-length-mapped X Y f l n e = sym (length-map l f) ∙ e
 
 pub two-below : (a b m n : ℕ) → ltb a m && ltb b n ≡ true → (a < m) × (b < n)
 two-below a b m n e = let w = and-true (ltb a m) (ltb b n) e in (ltb-true a m (w .0), ltb-true b n (w .1))

@@ -14,6 +14,7 @@ pub use queues::queues_match;
 pub use queues::states_match;
 pub use tags::lowest;
 pub use tags::tags_of;
+pub use values::any_message;
 pub use values::least;
 pub use values::related;
 pub use values::values_related;

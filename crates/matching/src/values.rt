@@ -3,11 +3,15 @@ ghost use mathlib.Core.Path.{_≡_};
 ghost use Prim.Native.Nat.{min};
 ghost use lib.ListN.{length};
 ghost use Rattle.whole_file.specs.Cube.{waitingOf};
+ghost use Rattle.program_part.specs.ProgramPart.{shapeOf};
 ghost use Rattle.lists.specs.Values.{pairwise};
+ghost use Rattle.lists.specs.Cubes.{anyValue, anyMessage};
 ghost use Rattle.matching.specs.Relation.{relation};
 use program_part::bytes::both;
 use program_part::bytes::either;
 use program_part::bytes::wide;
+use program_part::program::Shape;
+use pws::Message;
 use whole_file::entry::Queue;
 
 pub fn least(a: usize, b: usize) -> usize
@@ -49,4 +53,31 @@ pub fn waiting(queue: Queue) -> usize
         return 9;
     }
     n
+}
+
+// ---- a message all of whose values are free
+
+fn any_value(shape: Shape, v: usize) -> u8
+    ensures { λ r. ⌜ r ≡ anyValue (shapeOf shape) v ⌝ }
+{
+    if v < shape.variables {
+        return 255;
+    }
+    0
+}
+
+pub fn any_message(shape: Shape, p: u8, v: u8) -> Message
+    ensures { λ r. ⌜ r ≡ anyMessage (shapeOf shape) p v ⌝ }
+{
+    let snapshot = [
+        any_value(shape, 0),
+        any_value(shape, 1),
+        any_value(shape, 2),
+        any_value(shape, 3),
+    ];
+    Message {
+        process: p,
+        variable: v,
+        snapshot: snapshot,
+    }
 }

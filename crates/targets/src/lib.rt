@@ -19,6 +19,7 @@ ghost use Rattle.targets.specs.Walk.{Searches, Judges, withQueues, queue
 ghost use Rattle.targets.specs.Depth.{SmallShape, AtQueue, AtMessage, AtPlace};
 use crate::starts::same_bytes;
 use cover::search::search;
+use matching::any_message;
 use matching::least;
 use program_part::bytes::both;
 use program_part::bytes::wide;
@@ -32,31 +33,6 @@ mod starts;
 pub use starts::looks_started;
 
 // ---- shapes (section 3)
-
-fn any_value(variables: usize, v: usize) -> u8
-    ensures { λ r. ⌜ r ≡ cond (ltb v variables) 255 0 ⌝ }
-{
-    if v < variables { 255 } else { 0 }
-}
-
-// A message all of whose values are free.
-fn any_message(shape: Shape, p: usize, v: usize) -> Message
-    requires { ⌜ (p < 4) × (v < 4) ⌝ }
-    ensures { λ r. ⌜ r ≡ anyMessage (shapeOf shape) p v ⌝ }
-{
-    let n = shape.variables;
-    let snapshot = [
-        any_value(n, 0),
-        any_value(n, 1),
-        any_value(n, 2),
-        any_value(n, 3),
-    ];
-    Message {
-        process: p as u8,
-        variable: v as u8,
-        snapshot: snapshot,
-    }
-}
 
 // One of the first n messages has this label.
 fn is_seen(messages: [Message; 20], n: usize, p: usize, v: usize) -> bool
@@ -311,7 +287,7 @@ fn choices_held(
         if !is_allowed(shape, messages, d, places, new, p, v) {
             return true;
         }
-        let message = any_message(shape, p, v);
+        let message = any_message(shape, p as u8, v as u8);
         let mut longer = messages;
         longer[d] = message;
         return outlines_held(file, list, sum, n, shape, states, most, longer, d + 1, new);

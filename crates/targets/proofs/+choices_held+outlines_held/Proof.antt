@@ -2,6 +2,7 @@ use Prim.Native.Nat.{ℕ, _+_, _-_, _*_, _<_}
 use mathlib.Core.Path.{_≡_, sym, _∙_}
 use native.Mathlib.Omega.{arith}
 use lib.ListN.{length}
+use borrow.Author.Needs.{needs}
 use borrow.Author.Tests.{not-true, not-false}
 use Rattle.targets.proofs.JudgeLaws.{EachHeld, held-begin, held-next, held-all, judges-is}
 use Rattle.targets.proofs.ChannelSteps.{labelled-by, written-by, first-place, all-there, too-long, label-not, labels-held, next-place, next-message, refused, allowed-one, unplaced-not, was-placed, placed-too}
@@ -14,7 +15,7 @@ use Rattle.targets.proofs.outlines_held.Reads as outlines-held
 use Rattle.targets.proofs.outlines_held.Kinds as outlines-held-kinds
 use Rattle.targets.proofs.+choices_held+outlines_held.Lts-outlines_held as outlines-held-lts
 use Rattle.targets.proofs.all_placed.Reads as all-placed-reads
-use Rattle.targets.proofs.any_message.Reads as any-message-reads
+use Rattle.matching.proofs.any_message.Reads as any-message-reads
 use Rattle.targets.proofs.channel_held.Reads as channel-held-reads
 use Rattle.targets.proofs.is_allowed.Reads as is-allowed-reads
 use Rattle.targets.proofs.+choices_held+outlines_held.{statement}
@@ -68,8 +69,12 @@ pub +choices-held+outlines-held-spec : {M : Type 1} → statement M
     (λ c κs. (c .before .before .before .before .pre .1 .message .small .processes, (omega (arith, c .before .before .before .before .pre .1 .message .room, c .before .before .before .before .pre .1 .message .depth), omega (arith, c .before .before .before .before .pre .1 .process, c .before .before .before .before .pre .1 .message .small .processes))))
     -- returns
     (λ c. refused (c .before .before .before .before .before .before .pre .1) (c .before .before .before .before .before .before .args .states) (c .before .before .before .before .before .before .args .messages) (c .before .before .before .before .before .before .args .t10) (c .before .before .before .before .before .before .args .new) (c .before .before .if1 .taken) (sym (c .before .is-allowed .ensures) ∙ not-true _ (c .if2 .taken)))
+    -- cast-any-message
+    (λ c. omega (arith, c .before .before .before .before .before .before .pre .1 .process, c .before .before .before .before .before .before .pre .1 .message .small .processes))
+    -- cast-any-message-2
+    (λ c. omega (arith, c .before .before .before .before .before .before .pre .1 .variable, c .before .before .before .before .before .before .pre .1 .message .small .variables))
     -- any-message-requires
-    (λ c κs. (omega (arith, c .before .before .before .before .before .before .pre .1 .process, c .before .before .before .before .before .before .pre .1 .message .small .processes), omega (arith, c .before .before .before .before .before .before .pre .1 .variable, c .before .before .before .before .before .before .pre .1 .message .small .variables)))
+    (λ c κs. search needs)
     -- mul-longer
     (λ c. omega (arith, c .before .before .before .before .before .before .before .pre .1 .message .room, c .before .before .before .before .before .before .before .pre .1 .message .depth))
     -- array-set-from-longer

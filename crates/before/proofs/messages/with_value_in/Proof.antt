@@ -7,7 +7,7 @@ use Rattle.pws.specs.Machine.{noMessage}
 use Rattle.lists.specs.Cubes.{withValues, setValue}
 use Rattle.whole_file.specs.Cube.{channelOf, configurationOf}
 use Rattle.before.proofs.MessageLaws.{set-value}
-use Rattle.before.proofs.QueueLaws.{length-mapped}
+use Rattle.matching.proofs.ValueLaws.{length-mapped}
 use native.Mathlib.Omega.{arith}
 use borrow.Author.Needs.{needs}
 use Rattle.before.proofs.messages.with_value_in.Statement.{statement}

@@ -8,7 +8,7 @@ use Rattle.lists.specs.Cubes.{setValue, withLast}
 use Rattle.whole_file.specs.Cube.{configurationOf}
 use Rattle.before.specs.Before.{Waits}
 use Rattle.before.proofs.MessageLaws.{write-some}
-use Rattle.before.proofs.QueueLaws.{length-mapped}
+use Rattle.matching.proofs.ValueLaws.{length-mapped}
 use Rattle.before.proofs.CubeLaws.{few, less, room, few-wait, requeued, read-waiting, read-sent}
 use native.Mathlib.Omega.{arith}
 use borrow.Author.Needs.{needs}

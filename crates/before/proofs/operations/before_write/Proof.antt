@@ -4,7 +4,7 @@ use mathlib.Core.List.{List}
 use lib.ListN.{length}
 use Rattle.lists.specs.Cubes.{withoutLast}
 use Rattle.before.specs.Before.{Waits}
-use Rattle.before.proofs.QueueLaws.{length-mapped}
+use Rattle.matching.proofs.ValueLaws.{length-mapped}
 use Rattle.before.proofs.CubeLaws.{few, less, few-wait, requeued}
 use native.Mathlib.Omega.{arith}
 use borrow.Author.Needs.{needs}

@@ -3,7 +3,7 @@ use mathlib.Core.Path.{_≡_, ap, ap₂, _∙_}
 use mathlib.Core.List.{List, _∷_}
 use lib.ListN.{length, getD}
 use Rattle.pws.specs.declared.Message.{Message}
-use Rattle.before.proofs.QueueLaws.{length-mapped}
+use Rattle.matching.proofs.ValueLaws.{length-mapped}
 use Rattle.before.proofs.CubeLaws.{few-wait, again}
 use borrow.Author.Needs.{needs}
 use Rattle.before.proofs.serialise.waiting_again.Statement.{statement}

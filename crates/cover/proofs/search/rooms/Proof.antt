@@ -1,4 +1,4 @@
-use Rattle.cover.proofs.PlaceLaws.{length-mapped}
+use Rattle.matching.proofs.ValueLaws.{length-mapped}
 use borrow.Author.Needs.{needs}
 use Rattle.cover.proofs.search.rooms.Statement.{statement}
 use Rattle.cover.proofs.search.rooms.Tie as tie

@@ -1,8 +1,8 @@
 use borrow.Author.Tests.{lt-ltb, le-ltb}
 use mathlib.Core.Path.{refl}
 use borrow.Author.Needs.{needs}
-use Rattle.before.proofs.messages.any_value.Statement.{statement}
-use Rattle.before.proofs.messages.any_value.Tie as tie
+use Rattle.matching.proofs.values.any_value.Statement.{statement}
+use Rattle.matching.proofs.values.any_value.Tie as tie
 
 pub any-value-spec : {M : Type 1} → statement M
 any-value-spec = tie.close (tie.spec

@@ -1,6 +1,6 @@
 use borrow.Author.Needs.{needs}
-use Rattle.before.proofs.messages.any_message.Statement.{statement}
-use Rattle.before.proofs.messages.any_message.Tie as tie
+use Rattle.matching.proofs.values.any_message.Statement.{statement}
+use Rattle.matching.proofs.values.any_message.Tie as tie
 
 pub any-message-spec : {M : Type 1} → statement M
 any-message-spec = tie.close (tie.spec
