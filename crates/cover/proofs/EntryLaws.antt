@@ -87,3 +87,21 @@ module _ (exact : Bool) (s : Shape) (f list : List ℕ) (i at : ℕ) (c : Cube) 
       (g ∙ ap (λ (xs : List ℕ). allBelow (min (s .processes) 4) (λ p. eqb (getD xs p 0) (getD (c .states) p 0))) (head-states f at p q u w ∙ ap (λ (k : Cube). k .states) (sym z)))
       m h n (v (record { sizes = sizes entry l; leftTags = t; rightTags = A .is }))
       ∙ ap (λ (k : Cube). matches (shapeOf s) (relation exact) (configurationOf k) (configurationOf c)) (z ∙ ap (loadEntry f) e)
+
+  -- an entry that is told by its bytes
+  pub bytes-decide : {x r : Bool} {a b k d : ℕ} → a ≡ byte f (at + 1) → b ≡ byte f (at + 2) → k ≡ byte f (at + 3) → d ≡ byte f (at + 4)
+      → x ≡ allBelow (min (s .processes) 4) (λ p. eqb (getD (a ∷ b ∷ k ∷ d ∷ []) p 0) (getD (c .states) p 0)) → x ≡ true
+      → r ≡ allBelow (min (s .processes) 4) (queueRow (s .variables) exact (loadEntry f at .queues) (c .queues)) && channelMatches s exact (loadEntry f at) c
+      → r ≡ matches (shapeOf s) (relation exact) (configurationOf (cubeAt f list i)) (configurationOf c)
+  bytes-decide {x} {r} p q u w g h z =
+      z
+      ∙ decided (allBelow (min (s .processes) 4) (queueRow (s .variables) exact (loadEntry f at .queues) (c .queues))) refl
+      ∙ ap (λ (k : ℕ). matches (shapeOf s) (relation exact) (configurationOf (loadEntry f k)) (configurationOf c)) e
+    where
+      same : x ≡ allBelow (min (s .processes) 4) (λ p. eqb (getD (loadEntry f at .states) p 0) (getD (c .states) p 0))
+      same = g ∙ ap (λ (xs : List ℕ). allBelow (min (s .processes) 4) (λ p. eqb (getD xs p 0) (getD (c .states) p 0))) (head-states f at p q u w)
+
+      decided : (y : Bool) → y ≡ allBelow (min (s .processes) 4) (queueRow (s .variables) exact (loadEntry f at .queues) (c .queues))
+          → y && channelMatches s exact (loadEntry f at) c ≡ matches (shapeOf s) (relation exact) (configurationOf (loadEntry f at)) (configurationOf c)
+      decided true v = channel-left exact s (loadEntry f at) c (sizes (loadEntry f at) (load-few f at)) same v h refl refl
+      decided false v = queues-unlike exact s (loadEntry f at) c (sizes (loadEntry f at) (load-few f at)) v refl

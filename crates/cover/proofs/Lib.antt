@@ -1,3 +1,5 @@
+pub mod TracedLaws
+pub mod SameLaws
 pub mod PlaceLaws
 pub mod EntryLaws
 pub mod PartLaws

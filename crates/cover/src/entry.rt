@@ -6,6 +6,7 @@ ghost use Rattle.whole_file.specs.Cube.{configurationOf};
 ghost use Rattle.by_number.specs.Again.{cubeAt};
 ghost use Rattle.matching.specs.Relation.{relation};
 ghost use Rattle.cover.specs.Search.{Against};
+use crate::same::compare_at;
 use by_number::offset_at;
 use matching::channel_matches;
 use matching::queues_match;
@@ -39,6 +40,11 @@ pub(crate) fn matches_at(
     let own = cube.states;
     if !states_match(shape.processes, states, own) {
         return false;
+    }
+    // most entries that a walk leads to are told by their bytes
+    let compared = compare_at(exact, file, at, shape, cube, right);
+    if compared.same {
+        return compared.related;
     }
     let entry = load_entry(file, at);
     let before = entry.queues;

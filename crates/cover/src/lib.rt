@@ -4,5 +4,6 @@
 mod entry;
 mod gaps;
 mod place;
+mod same;
 pub mod search;
 mod split;

@@ -57,19 +57,19 @@ module _ (s : Shape) (few : s .processes ≤ 4) (a : Cube) where
   abbrev consed : ℕ → ℕ → List Tagged
   consed n k = record { message = getD (a .messages) n noMessage; roles = roles (shapeOf s) (configurationOf a .memory) (suc k) } ∷ upTo s a n
 
-  up-none : (i : ℕ) → i ≤ 20 → i < lowestPointer s (a .pointers) → upTo s a i ≡ []
+  pub up-none : (i : ℕ) → i ≤ 20 → i < lowestPointer s (a .pointers) → upTo s a i ≡ []
   unfolding lowestPointer
   up-none zero l e = refl
   up-none (suc n) l e = rw (live n (omega arith) ∙ lt-leb (lowestBelow (min (s .processes) 4) (a .pointers)) (suc n) (omega arith)) refl
 
-  up-some : (i : ℕ) → i ≤ 20 → lowestPointer s (a .pointers) ≤ i → upTo s a i ≡ tag s a i ∷ upTo s a (i - 1)
+  pub up-some : (i : ℕ) → i ≤ 20 → lowestPointer s (a .pointers) ≤ i → upTo s a i ≡ tag s a i ∷ upTo s a (i - 1)
   unfolding lowestPointer
   up-some zero l e = absurd (omega arith)
   up-some (suc n) l e =
       let z : suc n - 1 ≡ n = omega arith in
       rw z (rw (live n (omega arith) ∙ le-leb (lowestBelow (min (s .processes) 4) (a .pointers)) (suc n) (omega arith)) (ap (consed n) (channel-length (a .messages) n)))
 
-low-positive : (s : Shape) (zs : List ℕ) → 0 < lowestPointer s zs
+pub low-positive : (s : Shape) (zs : List ℕ) → 0 < lowestPointer s zs
 unfolding lowestPointer
 low-positive s zs = omega arith
 

@@ -65,7 +65,7 @@ module _ (S : pws.Shape) (m : Memory) (i : ℕ) (n : Memory) (j : ℕ) where
       (table-ext (S .variables) (λ v. eqb (lastWrite m p v) i) (λ v. eqb (lastWrite n p v) j) (λ v b. w .lastWrites p v a b)))
 
   module _ (narrow : S .variables ≤ 4) (a : 1 ≤ i) (b : 1 ≤ j) where
-    mask-alike : mask (S .processes) (S .variables) m i ≡ mask (S .processes) (S .variables) n j → Alike S m i n j
+    pub mask-alike : mask (S .processes) (S .variables) m i ≡ mask (S .processes) (S .variables) n j → Alike S m i n j
     unfolding mask
     mask-alike e =
         record {
@@ -80,7 +80,7 @@ module _ (S : pws.Shape) (m : Memory) (i : ℕ) (n : Memory) (j : ℕ) where
         bit : (q : ℕ) → q < 5 * S .processes → eqb (roleAt (S .variables) m q) i ≡ eqb (roleAt (S .variables) n q) j
         bit = bits-same (λ q. eqb (roleAt (S .variables) m q) i) (λ q. eqb (roleAt (S .variables) n q) j) (5 * S .processes) e
 
-    alike-mask : Alike S m i n j → mask (S .processes) (S .variables) m i ≡ mask (S .processes) (S .variables) n j
+    pub alike-mask : Alike S m i n j → mask (S .processes) (S .variables) m i ≡ mask (S .processes) (S .variables) n j
     unfolding mask
     alike-mask w = sum-equal (5 * S .processes) (λ q. cond (eqb (roleAt (S .variables) m q) i) (2 ^ q) 0) (λ q. cond (eqb (roleAt (S .variables) n q) j) (2 ^ q) 0)
         (λ q l. ap (λ (b : Bool). cond b (2 ^ q) 0) (at q l (q / 5) (q % 5) (omega arith) (omega arith)))
@@ -236,7 +236,7 @@ some-role S m i = any-role (S .processes) (λ p. eqb (m .pointer p) i ∷ table 
     (λ p. ap (_||_ (eqb (m .pointer p) i)) (any-row (S .variables) (λ v. eqb (lastWrite m p v) i)))
 
 module _ (S : pws.Shape) (narrow : S .variables ≤ 4) (m : Memory) (i : ℕ) (a : 1 ≤ i) where
-  role-mask : T (hasRole S m i) → 0 < mask (S .processes) (S .variables) m i
+  pub role-mask : T (hasRole S m i) → 0 < mask (S .processes) (S .variables) m i
   unfolding mask
   role-mask t =
       let r = role-is S m i t in
@@ -249,7 +249,7 @@ module _ (S : pws.Shape) (narrow : S .variables ≤ 4) (m : Memory) (i : ℕ) (a
       b : ℕ → Bool
       b q = eqb (roleAt (S .variables) m q) i
 
-  no-role-mask : (T (hasRole S m i) → ⊥) → mask (S .processes) (S .variables) m i ≡ 0
+  pub no-role-mask : (T (hasRole S m i) → ⊥) → mask (S .processes) (S .variables) m i ≡ 0
   unfolding mask
   no-role-mask f = bits-none (λ q. eqb (roleAt (S .variables) m q) i) (5 * S .processes)
       (λ q l. ne-eqb (roleAt (S .variables) m q) i (at q l (q / 5) (q % 5) (omega arith) (omega arith)))

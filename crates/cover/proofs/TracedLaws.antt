@@ -1,0 +1,253 @@
+-- An entry whose messages stand, one for one, for those of a cube that have a role: it matches the cube exactly when the values do.
+use Prim.Native.Nat.{ℕ, zero, suc, _-_, _<_, _≤_}
+use mathlib.Core.Path.{_≡_, refl, sym, ap, ap₂, subst, _∙_}
+use mathlib.Core.Logic.{⊎-elim, inl, inr}
+use mathlib.Core.Bool.{Bool, true, false, _&&_}
+use mathlib.Core.List.{List, [], _∷_}
+use native.Mathlib.Omega.{arith}
+use native.Mathlib.Decide.{decLt, decLe, ℕ-discrete}
+use lib.ListN.{length, getD}
+use lib.Dec.{T, eqb}
+use borrow.Author.Tests.{eqb-true, eq-eqb, ne-eqb}
+use Rattle.pws.specs.declared.Message.{Message}
+use Rattle.pws.specs.Program as pws
+use Rattle.pws.specs.Machine.{Memory, noMessage, message, labelled, lastWrite, allBelow}
+use Rattle.pws.specs.Tagged.{Tagged, hasRole}
+use Rattle.pws.proofs.Facts.{IsLast, last-is, last-eq}
+use Rattle.pws.proofs.Tagged.{role-is, role-last}
+use Rattle.program_part.specs.declared.program.Shape.{Shape}
+use Rattle.program_part.specs.ProgramPart.{shapeOf}
+use Rattle.whole_file.specs.declared.entry.Cube.{Cube}
+use Rattle.whole_file.specs.Cube.{configurationOf}
+use Rattle.whole_file.proofs.CubeParts.{channel-length, channel-message}
+use Rattle.lists.specs.Values.{pairwise}
+use Rattle.lists.specs.Matching.{subsequence, messageMatches, tagMatches}
+use Rattle.matching.specs.Relation.{relation}
+use Rattle.matching.specs.Tags.{mask, lowestPointer}
+use Rattle.matching.specs.Match.{channelMatches}
+use Rattle.matching.proofs.Below.{and-false}
+use Rattle.matching.proofs.TagLaws.{Alike, mask-alike, alike-mask, role-mask, no-role-mask, roles-test}
+use Rattle.matching.proofs.ChannelLaws.{tag, upTo, up-none, up-some}
+
+-- the roles of message i as a number
+abbrev pub maskIn : Shape → Cube → ℕ → ℕ
+maskIn s c i = mask (s .processes) (s .variables) (configurationOf c .memory) i
+
+-- message i of the entry e stands for message `kept i` of the cube c, and no other message of c has a role
+pub record Traced (s : Shape) (e c : Cube) (kept : ℕ → ℕ) : Type 0 where
+  pub inside : (i : ℕ) → i < e .count → kept i < c .count
+  pub rises : (i j : ℕ) → i < j → j < e .count → kept i < kept j
+  pub process : (i : ℕ) → i < e .count → getD (e .messages) i noMessage .process ≡ getD (c .messages) (kept i) noMessage .process
+  pub variable : (i : ℕ) → i < e .count → getD (e .messages) i noMessage .variable ≡ getD (c .messages) (kept i) noMessage .variable
+  pub from : (p : ℕ) → p < s .processes → 1 ≤ getD (e .pointers) p 0
+  pub upto : (p : ℕ) → p < s .processes → getD (e .pointers) p 0 ≤ e .count
+  pub pointer : (p : ℕ) → p < s .processes → getD (c .pointers) p 0 ≡ suc (kept (getD (e .pointers) p 0 - 1))
+  pub role : (i : ℕ) → i < e .count → 0 < maskIn s c (suc (kept i))
+  pub all : (j : ℕ) → j < c .count → 0 < maskIn s c (suc j) → (i : ℕ) × (i < e .count) × (kept i ≡ j)
+  pub lowest : lowestPointer s (e .pointers) ≡ 1
+  pub first : (i : ℕ) → i < e .count → lowestPointer s (c .pointers) ≤ suc (kept i)
+
+module _ (s : Shape) (few : s .processes ≤ 4) (narrow : s .variables ≤ 4) (e c : Cube) (a : e .count ≤ 20) (b : c .count ≤ 20) (kept : ℕ → ℕ) (w : Traced s e c kept) where
+  abbrev S : pws.Shape
+  S = shapeOf s
+
+  abbrev em : Memory
+  em = configurationOf e .memory
+
+  abbrev cm : Memory
+  cm = configurationOf c .memory
+
+  -- the number of the message that message z of the entry stands for
+  abbrev K : ℕ → ℕ
+  K z = suc (kept (z - 1))
+
+  mono : (i j : ℕ) → i ≤ j → j < e .count → kept i ≤ kept j
+  mono i j l k = elim (ℕ-discrete i j) [
+    | yes d ↦ omega (arith, ap kept d)
+    | no d ↦ omega (arith, w .rises i j (omega arith) k)
+  ]
+
+  once : (i j : ℕ) → i < e .count → j < e .count → kept i ≡ kept j → i ≡ j
+  once i j k l d = elim (decLt i j) [
+    | yes f ↦ absurd (omega (arith, w .rises i j f l))
+    | no f ↦ elim (decLt j i) [
+      | yes g ↦ absurd (omega (arith, w .rises j i g k))
+      | no g ↦ omega arith
+    ]
+  ]
+
+  -- ---- LastWrites stand for LastWrites
+
+  labels : (i : ℕ) → i < e .count → (p v : ℕ) → labelled (message (em .channel) (suc i)) p v ≡ labelled (message (cm .channel) (suc (kept i))) p v
+  labels i l p v =
+      ap (λ (m : Message). labelled m p v) (channel-message (e .messages) (e .count) i l)
+      ∙ ap₂ (λ (x y : ℕ). eqb x p && eqb y v) (w .process i l) (w .variable i l)
+      ∙ ap (λ (m : Message). labelled m p v) (sym (channel-message (c .messages) (c .count) (kept i) (w .inside i l)))
+
+  module _ (p v : ℕ) (pe : p < s .processes) (ve : v < s .variables) where
+    own : IsLast (em .channel) (em .pointer p) p v (lastWrite em p v)
+    own = last-is (em .channel) (em .pointer p) p v (omega (arith, w .upto p pe, channel-length (e .messages) (e .count)))
+
+    theirs : IsLast (cm .channel) (cm .pointer p) p v (lastWrite cm p v)
+    theirs = last-is (cm .channel) (cm .pointer p) p v
+        (omega (arith, w .pointer p pe, w .inside (getD (e .pointers) p 0 - 1) (omega (arith, w .from p pe, w .upto p pe)), channel-length (c .messages) (c .count)))
+
+    pub some-last : 1 ≤ lastWrite em p v
+    some-last = omega (arith, own .low, w .from p pe)
+
+    pub last-most : lastWrite em p v ≤ e .count
+    last-most = omega (arith, own .high, channel-length (e .messages) (e .count))
+
+    pub lasts : lastWrite cm p v ≡ K (lastWrite em p v)
+    lasts = last-eq {ms = cm .channel} {z = cm .pointer p} {p = p} {v = v} {i = K (lastWrite em p v)} (record {
+      low = omega (arith, w .pointer p pe, mono (getD (e .pointers) p 0 - 1) (lastWrite em p v - 1) (omega (arith, own .low)) (omega (arith, some-last, last-most)));
+      high = omega (arith, w .inside (lastWrite em p v - 1) (omega (arith, some-last, last-most)), channel-length (c .messages) (c .count));
+      hit = ⊎-elim (λ d. inl (ap K d ∙ sym (w .pointer p pe))) (λ t. inr (subst T (labels (lastWrite em p v - 1) (omega (arith, some-last, last-most)) p v) (subst (λ (k : ℕ). T (labelled (message (em .channel) k) p v)) again t))) (own .hit);
+      free = after;
+    })
+      where
+        again : lastWrite em p v ≡ suc (lastWrite em p v - 1)
+        again = omega (arith, some-last)
+
+        after : (j : ℕ) → K (lastWrite em p v) < j → j ≤ length (cm .channel) → T (labelled (message (cm .channel) j) p v) → ⊥
+        after j x y t = elim (decLt (lastWrite cm p v) j) [
+          | yes d ↦ theirs .free j d y t
+          | no d ↦
+              let one : 1 ≤ lastWrite cm p v = omega arith in
+              let z : suc (lastWrite cm p v - 1) ≡ lastWrite cm p v = omega arith in
+              let r = w .all (lastWrite cm p v - 1) (omega (arith, theirs .high, channel-length (c .messages) (c .count)))
+              (subst (λ (k : ℕ). 0 < maskIn s c k) (sym z) (role-mask S narrow cm (lastWrite cm p v) one (role-last S cm (lastWrite cm p v) p v pe ve refl))) in
+              let u : suc (kept (r .0)) ≡ lastWrite cm p v = omega (arith, r .2) in
+              ⊎-elim
+              (λ q. omega (arith, w .pointer p pe, mono (getD (e .pointers) p 0 - 1) (lastWrite em p v - 1) (omega (arith, own .low)) (omega (arith, some-last, last-most))))
+              (λ q. own .free (suc (r .0)) (newer (r .0) (r .1) u x d) (omega (arith, r .1, channel-length (e .messages) (e .count)))
+              (subst T (sym (labels (r .0) (r .1) p v)) (subst (λ (k : ℕ). T (labelled (message (cm .channel) k) p v)) (sym u) q)))
+              (theirs .hit)
+        ]
+          where
+            newer : (i : ℕ) → i < e .count → suc (kept i) ≡ lastWrite cm p v → K (lastWrite em p v) < j → (lastWrite cm p v < j → ⊥) → lastWrite em p v < suc i
+            newer i l u x d = elim (decLt (lastWrite em p v) (suc i)) [
+              | yes f ↦ f
+              | no f ↦ absurd (omega (arith, mono i (lastWrite em p v - 1) (omega arith) (omega (arith, some-last, last-most))))
+            ]
+
+  -- ---- so roles are equal, and those of other messages differ
+
+  stands : (x y i : ℕ) → i < e .count → 1 ≤ x → x ≤ e .count → y ≡ K x → eqb x (suc i) ≡ eqb y (suc (kept i))
+  stands x y i l g h d = elim (ℕ-discrete x (suc i)) [
+    | yes f ↦
+        let z : x - 1 ≡ i = omega arith in
+        eq-eqb x (suc i) f ∙ sym (eq-eqb y (suc (kept i)) (d ∙ ap (λ (k : ℕ). suc (kept k)) z))
+    | no f ↦ ne-eqb x (suc i) f ∙ sym (ne-eqb y (suc (kept i)) (λ q. f (omega (arith, once (x - 1) i (omega arith) l (omega arith)))))
+  ]
+
+  alike : (i : ℕ) → i < e .count → Alike S em (suc i) cm (suc (kept i))
+  alike i l =
+      record {
+        pointers = λ p pe. stands (em .pointer p) (cm .pointer p) i l (w .from p pe) (w .upto p pe) (w .pointer p pe);
+        lastWrites = λ p v pe ve. stands (lastWrite em p v) (lastWrite cm p v) i l (some-last p v pe ve) (last-most p v pe ve) (lasts p v pe ve);
+      }
+
+  masks : (i : ℕ) → i < e .count → maskIn s e (suc i) ≡ maskIn s c (suc (kept i))
+  masks i l = alike-mask S em (suc i) cm (suc (kept i)) narrow (omega arith) (omega arith) (alike i l)
+
+  -- a role is one message's
+  alone : (k j : ℕ) → 0 < maskIn s c (suc k) → maskIn s c (suc k) ≡ maskIn s c (suc j) → k ≡ j
+  alone k j g f = at (hasRole S cm (suc k)) refl
+    where
+      A : Alike S cm (suc k) cm (suc j)
+      A = mask-alike S cm (suc k) cm (suc j) narrow (omega arith) (omega arith) f
+
+      at : (h : Bool) → hasRole S cm (suc k) ≡ h → k ≡ j
+      at true h =
+          let r = role-is S cm (suc k) (subst T (sym h) tt) in
+          ⊎-elim
+          (λ d. omega (arith, eqb-true (cm .pointer (r .0)) (suc j) (sym (A .pointers (r .0) (r .1)) ∙ eq-eqb (cm .pointer (r .0)) (suc k) d)))
+          (λ u. omega (arith, u .2, eqb-true (lastWrite cm (r .0) (u .0)) (suc j) (sym (A .lastWrites (r .0) (u .0) (r .1) (u .1)) ∙ eq-eqb (lastWrite cm (r .0) (u .0)) (suc k) (u .2))))
+          (r .2)
+      at false h = absurd (omega (arith, no-role-mask S narrow cm (suc k) (omega arith) (λ t. subst T h t)))
+
+  module _ (exact : Bool) where
+    -- the values of message i
+    abbrev pub valuesMatch : ℕ → Bool
+    valuesMatch i = pairwise (relation exact) (getD (e .messages) i noMessage .snapshot) (getD (c .messages) (kept i) noMessage .snapshot)
+
+    near : (i : ℕ) → i < e .count → tagMatches (relation exact) (tag s e (suc i)) (tag s c (suc (kept i))) ≡ valuesMatch i
+    near i l =
+        let y : suc i - 1 ≡ i = omega arith in
+        let z : suc (kept i) - 1 ≡ kept i = omega arith in
+        ap (λ (k : Bool). k && messageMatches (relation exact) (getD (e .messages) (suc i - 1) noMessage) (getD (c .messages) (suc (kept i) - 1) noMessage))
+        (roles-test S narrow em (suc i) cm (suc (kept i)) (omega arith) (omega arith) ∙ eq-eqb (maskIn s e (suc i)) (maskIn s c (suc (kept i))) (masks i l))
+        ∙ ap₂ (λ (u v : ℕ). messageMatches (relation exact) (getD (e .messages) u noMessage) (getD (c .messages) v noMessage)) y z
+        ∙ ap₂ (λ (u v : Bool). (u && v) && valuesMatch i)
+        (eq-eqb (getD (e .messages) i noMessage .process) (getD (c .messages) (kept i) noMessage .process) (w .process i l))
+        (eq-eqb (getD (e .messages) i noMessage .variable) (getD (c .messages) (kept i) noMessage .variable) (w .variable i l))
+
+    far : (i j : ℕ) → i < e .count → (kept i ≡ j → ⊥) → tagMatches (relation exact) (tag s e (suc i)) (tag s c (suc j)) ≡ false
+    far i j l d =
+        ap (λ (k : Bool). k && messageMatches (relation exact) (getD (e .messages) (suc i - 1) noMessage) (getD (c .messages) (suc j - 1) noMessage))
+        (roles-test S narrow em (suc i) cm (suc j) (omega arith) (omega arith)
+        ∙ ne-eqb (maskIn s e (suc i)) (maskIn s c (suc j)) (λ f. d (alone (kept i) j (w .role i l) (sym (masks i l) ∙ f))))
+
+    -- ---- leftmost matching
+
+    step : (x y : Tagged) (us vs : List Tagged) (g : Bool) → tagMatches (relation exact) x y ≡ g
+        → subsequence (tagMatches (relation exact)) (x ∷ us) (y ∷ vs) ≡ (elim g [ true ↦ subsequence (tagMatches (relation exact)) us vs | false ↦ subsequence (tagMatches (relation exact)) (x ∷ us) vs ])
+    step x y us vs g f = ap (λ (k : Bool). elim k [ true ↦ subsequence (tagMatches (relation exact)) us vs | false ↦ subsequence (tagMatches (relation exact)) (x ∷ us) vs ]) f
+
+    own-some : (i : ℕ) → i < e .count → upTo s e (suc i) ≡ tag s e (suc i) ∷ upTo s e i
+    own-some i l =
+        let z : suc i - 1 ≡ i = omega arith in
+        up-some s few e (suc i) (omega arith) (omega (arith, w .lowest)) ∙ ap (λ (k : ℕ). tag s e (suc i) ∷ upTo s e k) z
+
+    their-some : (j : ℕ) → j < c .count → lowestPointer s (c .pointers) ≤ suc j → upTo s c (suc j) ≡ tag s c (suc j) ∷ upTo s c j
+    their-some j l g =
+        let z : suc j - 1 ≡ j = omega arith in
+        up-some s few c (suc j) (omega arith) g ∙ ap (λ (k : ℕ). tag s c (suc j) ∷ upTo s c k) z
+
+    -- before the message that message i stands for, there is none for it
+    none-left : (j i : ℕ) → i < e .count → j ≤ kept i → subsequence (tagMatches (relation exact)) (upTo s e (suc i)) (upTo s c j) ≡ false
+    none-left zero i l g = ap (λ (us : List Tagged). subsequence (tagMatches (relation exact)) us []) (own-some i l)
+    none-left (suc j) i l g = elim (decLe (lowestPointer s (c .pointers)) (suc j)) [
+      | yes d ↦
+          ap₂ (subsequence (tagMatches (relation exact))) (own-some i l) (their-some j (omega (arith, w .inside i l)) d)
+          ∙ step (tag s e (suc i)) (tag s c (suc j)) (upTo s e i) (upTo s c j) false (far i j l (λ f. omega arith))
+          ∙ ap (λ (us : List Tagged). subsequence (tagMatches (relation exact)) us (upTo s c j)) (sym (own-some i l))
+          ∙ none-left j i l (omega arith)
+      | no d ↦ ap₂ (subsequence (tagMatches (relation exact))) (own-some i l) (up-none s few c (suc j) (omega (arith, w .inside i l)) (omega arith))
+    ]
+
+    -- the first i messages, in the first j of the cube, among which are those that they stand for
+    matched : (j i : ℕ) → i ≤ e .count → j ≤ c .count → ((k : ℕ) → k < i → kept k < j) → subsequence (tagMatches (relation exact)) (upTo s e i) (upTo s c j) ≡ allBelow i valuesMatch
+    matched j zero l g h = refl
+    matched zero (suc i) l g h = absurd (omega (arith, h i (omega arith)))
+    matched (suc j) (suc i) l g h = elim (ℕ-discrete (kept i) j) [
+      | yes d ↦
+          ap₂ (subsequence (tagMatches (relation exact))) (own-some i (omega arith)) (their-some j (omega arith) (omega (arith, w .first i (omega arith))))
+          ∙ here d (matched j i (omega arith) (omega arith) (λ k q. omega (arith, w .rises k i q (omega arith)))) (valuesMatch i) refl
+      | no d ↦
+          ap₂ (subsequence (tagMatches (relation exact))) (own-some i (omega arith)) (their-some j (omega arith) (omega (arith, w .first i (omega arith), h i (omega arith))))
+          ∙ step (tag s e (suc i)) (tag s c (suc j)) (upTo s e i) (upTo s c j) false (far i j (omega arith) d)
+          ∙ ap (λ (us : List Tagged). subsequence (tagMatches (relation exact)) us (upTo s c j)) (sym (own-some i (omega arith)))
+          ∙ matched j (suc i) l (omega arith) (λ k f. omega (arith, h i (omega arith), mono k i (omega arith) (omega arith)))
+    ]
+      where
+        here : kept i ≡ j → subsequence (tagMatches (relation exact)) (upTo s e i) (upTo s c j) ≡ allBelow i valuesMatch → (v : Bool) → valuesMatch i ≡ v
+            → subsequence (tagMatches (relation exact)) (tag s e (suc i) ∷ upTo s e i) (tag s c (suc j) ∷ upTo s c j) ≡ allBelow i valuesMatch && valuesMatch i
+        here d rec true f =
+            step (tag s e (suc i)) (tag s c (suc j)) (upTo s e i) (upTo s c j) true (subst (λ (k : ℕ). tagMatches (relation exact) (tag s e (suc i)) (tag s c (suc k)) ≡ true) d (near i (omega arith) ∙ f))
+            ∙ rec
+            ∙ sym (ap (_&&_ (allBelow i valuesMatch)) f ∙ and-right (allBelow i valuesMatch))
+          where
+            and-right : (x : Bool) → x && true ≡ x
+            and-right true = refl
+            and-right false = refl
+        here d rec false f =
+            step (tag s e (suc i)) (tag s c (suc j)) (upTo s e i) (upTo s c j) false (subst (λ (k : ℕ). tagMatches (relation exact) (tag s e (suc i)) (tag s c (suc k)) ≡ false) d (near i (omega arith) ∙ f))
+            ∙ ap (λ (us : List Tagged). subsequence (tagMatches (relation exact)) us (upTo s c j)) (sym (own-some i (omega arith)))
+            ∙ none-left j i (omega arith) (omega arith)
+            ∙ sym (ap (_&&_ (allBelow i valuesMatch)) f ∙ and-false (allBelow i valuesMatch))
+
+    pub traced-matches : channelMatches s exact e c ≡ allBelow (e .count) valuesMatch
+    unfolding channelMatches
+    traced-matches = matched (c .count) (e .count) (omega arith) (omega arith) (λ k l. w .inside k l)

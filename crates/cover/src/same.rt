@@ -1,0 +1,195 @@
+// An entry that has a cube's messages with a role and no others, and one waiting value where the cube has some: whether it matches the cube is
+// told by its bytes, and nothing is built for it. Most entries that a walk leads to are such; the others are left to `entry`.
+ghost use mathlib.Core.Path.{_≡_};
+ghost use mathlib.Core.Bool.{true, _&&_, not};
+ghost use Prim.Native.Nat.{_+_, _-_, _≤_, _<_, min};
+ghost use lib.ListN.{length, getD};
+ghost use Rattle.program_part.specs.Records.{isKind, messageAt};
+ghost use Rattle.whole_file.specs.Tally.{queueAt};
+ghost use Rattle.whole_file.specs.Cube.{waitingOf, loadsWaiting, loadEntry};
+ghost use Rattle.matching.specs.Match.{channelMatches, queueRow};
+ghost use Rattle.pws.specs.Machine.{allBelow};
+ghost use Rattle.cover.specs.Same.{SameLabel, PointsSame};
+ghost use Rattle.cover.specs.Search.{Against};
+use matching::least;
+use matching::lowest;
+use matching::related;
+use matching::values_related;
+use matching::waiting;
+use program_part::bytes::both;
+use program_part::bytes::cut;
+use program_part::bytes::field;
+use program_part::bytes::wide;
+use program_part::program::Shape;
+use program_part::record::is_kind;
+use pws::Message;
+use whole_file::entry::Cube;
+use whole_file::entry::Queue;
+
+// The entry is such a one, and then its values are related to the cube's.
+pub(crate) struct Compared {
+    pub(crate) same: bool,
+    pub(crate) related: bool,
+}
+
+fn not_same() -> Compared
+    ensures { λ r. ⌜ not (r .same) ≡ true ⌝ }
+{
+    Compared {
+        same: false,
+        related: false,
+    }
+}
+
+fn message_in(file: &[u8], k: usize) -> Message
+    requires { ⌜ k + 7 ≤ length (now file) ⌝ }
+    ensures { λ r. ⌜ r ≡ messageAt (now (file .entry)) k ⌝ }
+{
+    let values = [file[k + 3], file[k + 4], file[k + 5], file[k + 6]];
+    Message {
+        process: file[k + 1],
+        variable: file[k + 2],
+        snapshot: values,
+    }
+}
+
+fn same_label(a: Message, b: Message) -> bool
+    ensures { λ r. ⌜ (r ≡ true → SameLabel a b) ⌝ }
+{
+    both(a.process == b.process, a.variable == b.variable)
+}
+
+fn small(x: u8) -> usize
+    ensures { λ r. ⌜ (r ≡ x) × (r < 256) ⌝ }
+{
+    x as usize
+}
+
+// Each pointer of the entry is at the message that stands for the one that the cube's is at.
+fn points_same(processes: usize, pointers: [u8; 4], own: [u8; 4], kept: [u8; 20], m: usize) -> bool
+    ensures { λ r. ⌜ (r ≡ true → PointsSame processes pointers own kept m) ⌝ }
+{
+    let n = least(processes, 4);
+    for p in 0..n {
+        let z = wide(pointers[p]);
+        if !both(0 < z, z <= least(m, 20)) {
+            return false;
+        }
+        if small(kept[z - 1]) + 1 != wide(own[p]) {
+            return false;
+        }
+    }
+    true
+}
+
+// The 12 at a place is of the queue q.
+fn waits_at(file: &[u8], k: usize, q: usize) -> bool
+    ensures { λ r. ⌜ (r ≡ true → (loadsWaiting (now (file .entry)) k ≡ true) × (queueAt (now (file .entry)) k ≡ q)) ⌝ }
+{
+    let p = field(file, k, 1);
+    let v = field(file, k, 2);
+    if !both(p < 4, v < 4) {
+        return false;
+    }
+    both(is_kind(file, k, 18), 4 * wide(p) + wide(v) == q)
+}
+
+// The newest waiting value; 0 where none waits.
+fn last_waiting(queue: Queue) -> u8
+    ensures { λ r. ⌜ r ≡ getD (waitingOf queue) (length (waitingOf queue) - 1) 0 ⌝ }
+{
+    let n = waiting(queue);
+    if n == 0 {
+        return 0;
+    }
+    queue.values[n - 1]
+}
+
+// No record of the entry stands there.
+fn ends_at(file: &[u8], k: usize) -> bool
+    ensures { λ r. ⌜ r ≡ (not (isKind (now (file .entry)) k 17) && not (isKind (now (file .entry)) k 18)) ⌝ }
+{
+    both(!is_kind(file, k, 17), !is_kind(file, k, 18))
+}
+
+// The entry whose 10 stands at a place, but for its local states: its 11s have the labels of the cube's messages with a role, whose tags say so, its
+// pointers are at those that the cube's are at, and its 12s are one for each queue of the cube in which a value waits.
+pub(crate) fn compare_at(
+    exact: bool,
+    file: &[u8],
+    at: usize,
+    shape: Shape,
+    cube: Cube,
+    right: [u64; 20],
+) -> Compared
+    ensures { λ r. ⌜ (r .same ≡ true → Against shape cube right → r .related ≡ (allBelow (min (shape .processes) 4) (queueRow (shape .variables) exact (loadEntry (now (file .entry)) at .queues) (cube .queues)) && channelMatches shape exact (loadEntry (now (file .entry)) at) cube)) ⌝ }
+{
+    if file.len() <= at {
+        return not_same();
+    }
+    let n = least(cube.count, 20);
+    let mut kept = [0u8; 20];
+    let mut m = 0;
+    let mut k = at + 9;
+    let mut sent = true;
+    for j in 0..n {
+        if right[j] < 65536 {
+            continue;
+        }
+        if cut(file, k, 6) {
+            return not_same();
+        }
+        let x = message_in(file, k);
+        let y = cube.messages[j];
+        if !both(file[k] == 17, same_label(x, y)) {
+            return not_same();
+        }
+        let before = x.snapshot;
+        let after = y.snapshot;
+        sent = both(sent, values_related(exact, before, after));
+        kept[m] = j as u8;
+        m += 1;
+        k += 7;
+    }
+    let pointers = [
+        field(file, at, 5),
+        field(file, at, 6),
+        field(file, at, 7),
+        field(file, at, 8),
+    ];
+    let own = cube.pointers;
+    if !points_same(shape.processes, pointers, own, kept, m) {
+        return not_same();
+    }
+    if lowest(shape, pointers) != 1 {
+        return not_same();
+    }
+    let end = 4 * least(shape.processes, 4);
+    let variables = least(shape.variables, 4);
+    let mut waits = true;
+    for q in 0..end {
+        let queue = cube.queues[q];
+        let w = waiting(queue);
+        if w == 0 {
+            continue;
+        }
+        if variables <= q % 4 {
+            return not_same();
+        }
+        if !waits_at(file, k, q) {
+            return not_same();
+        }
+        waits = both(
+            waits,
+            related(exact, field(file, k, 3), last_waiting(queue)),
+        );
+        k += 4;
+    }
+    if !ends_at(file, k) {
+        return not_same();
+    }
+    Compared {
+        same: true,
+        related: both(waits, sent),
+    }
+}
