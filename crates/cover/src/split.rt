@@ -20,6 +20,7 @@ use crate::place::is_free;
 use crate::place::is_whole;
 use by_number::entry_at;
 use matching::tags_of;
+use program_part::bytes::both;
 use program_part::program::Shape;
 use summary::onward;
 use summary::walk_from;
@@ -109,6 +110,10 @@ fn best_split(
         let i = walk.entry - 1;
         let more = with_entry(split, file, list, i, shape, cube, right);
         split = more;
+        // one gap is the fewest: no other entry is looked at
+        if both(split.met, split.count <= 1) {
+            return split;
+        }
         let next = onward(
             file,
             list,

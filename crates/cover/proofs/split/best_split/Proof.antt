@@ -1,3 +1,8 @@
+use mathlib.Core.Path.{sym, _∙_}
+use lib.Dec.{leb}
+use Rattle.program_part.proofs.ProgramLaws.{and-true}
+use Rattle.program_part.proofs.bytes.both.Reads as both-reads
+use Rattle.cover.proofs.PlaceLaws.{true-not-false}
 use Rattle.cover.proofs.SearchLaws.{Choosing, choosing-begin, choosing-next, choosing-end, far, far-less}
 use native.Mathlib.Omega.{arith}
 use borrow.Author.Needs.{needs}
@@ -31,21 +36,28 @@ sub-i c = search needs
 with-entry-requires : tie.Need-with-entry-requires Inv-loop μ-loop
 with-entry-requires c κs = search needs
 
+-- src/split.rt
+both-requires : tie.Need-both-requires Inv-loop μ-loop
+both-requires c κs = search needs
+
+returns : tie.Need-returns Inv-loop μ-loop
+returns c = (c .before .before .before .with-entry .ensures .kept (c .before .before .before .before .before .before .before .loop .inv .proper), λ e. absurd (true-not-false (sym (and-true (c .before .before .before .with-entry .result .met) (leb (c .before .before .before .with-entry .result .count) 1) (sym (c .before .both .ensures) ∙ c .if2 .taken) .0) ∙ e)))
+
 -- src/split.rt:112:13
 onward-requires : tie.Need-onward-requires Inv-loop μ-loop
 onward-requires c κs = search needs
 
 -- src/split.rt:108:5
 loop-less : tie.Need-loop-less Inv-loop μ-loop
-loop-less c = far-less (c .before .before .before .before .before .loop .inv .within) (c .before .before .before .if1 .taken) (c .onward .ensures)
+loop-less c = far-less (c .before .before .before .before .before .before .before .before .loop .inv .within) (c .before .before .before .before .before .before .if1 .taken) (c .onward .ensures)
 
 -- src/split.rt:108:5
 loop-again : tie.Need-loop-again Inv-loop μ-loop
-loop-again c = choosing-next (c .before .before .before .before .before .before .before .before .before .before .before .args .file .now) (c .before .before .before .before .before .before .before .before .before .before .before .args .list .now) (c .before .before .before .before .before .before .before .before .before .before .before .args .sum .now) (c .before .before .before .before .before .before .before .before .before .before .before .args .n) (c .before .before .before .before .before .before .before .before .before .before .before .args .shape) (c .before .before .before .before .before .before .before .before .before .before .before .args .cube) (c .before .before .before .before .before .before .before .before .before .before .before .args .right) (c .before .before .before .before .before .before .before .before .before .before .before .args .number) (c .before .before .before .before .before .loop .inv) (c .before .with-entry .ensures) (c .onward .ensures)
+loop-again c = choosing-next (c .before .before .before .before .before .before .before .before .before .before .before .before .before .before .args .file .now) (c .before .before .before .before .before .before .before .before .before .before .before .before .before .before .args .list .now) (c .before .before .before .before .before .before .before .before .before .before .before .before .before .before .args .sum .now) (c .before .before .before .before .before .before .before .before .before .before .before .before .before .before .args .n) (c .before .before .before .before .before .before .before .before .before .before .before .before .before .before .args .shape) (c .before .before .before .before .before .before .before .before .before .before .before .before .before .before .args .cube) (c .before .before .before .before .before .before .before .before .before .before .before .before .before .before .args .right) (c .before .before .before .before .before .before .before .before .before .before .before .before .before .before .args .number) (c .before .before .before .before .before .before .before .before .loop .inv) (c .before .before .before .before .with-entry .ensures) (c .onward .ensures)
 
 -- src/split.rt:88:1
-returns : tie.Need-returns Inv-loop μ-loop
-returns c = (c .before .before .loop .inv .proper, λ e. choosing-end (c .before .before .before .before .before .before .before .before .args .file .now) (c .before .before .before .before .before .before .before .before .args .list .now) (c .before .before .before .before .before .before .before .before .args .sum .now) (c .before .before .before .before .before .before .before .before .args .n) (c .before .before .before .before .before .before .before .before .args .shape) (c .before .before .before .before .before .before .before .before .args .cube) (c .before .before .before .before .before .before .before .before .args .right) (c .before .before .before .before .before .before .before .before .args .number) (c .before .before .loop .inv) (c .if1 .left) e)
+returns-2 : tie.Need-returns-2 Inv-loop μ-loop
+returns-2 c = (c .before .before .loop .inv .proper, λ e. choosing-end (c .before .before .before .before .before .before .before .before .args .file .now) (c .before .before .before .before .before .before .before .before .args .list .now) (c .before .before .before .before .before .before .before .before .args .sum .now) (c .before .before .before .before .before .before .before .before .args .n) (c .before .before .before .before .before .before .before .before .args .shape) (c .before .before .before .before .before .before .before .before .args .cube) (c .before .before .before .before .before .before .before .before .args .right) (c .before .before .before .before .before .before .before .before .args .number) (c .before .before .loop .inv) (c .if1 .left) e)
 
 pub best-split-spec : {M : Type 1} → statement M
 best-split-spec =
@@ -57,7 +69,9 @@ best-split-spec =
     loop-holds
     sub-i
     with-entry-requires
+    both-requires
+    returns
     onward-requires
     loop-less
     loop-again
-    returns)
+    returns-2)
