@@ -17,4 +17,4 @@ field-spec = tie.close (tie.spec
     -- byte-at-requires 25:5
     (λ c κs. search needs)
     -- returns-2 19:1
-    (λ c. cc))
+    (λ c. rw (c .byte-at .ensures, c .before .wide .ensures)))

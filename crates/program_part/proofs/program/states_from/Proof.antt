@@ -34,12 +34,12 @@ states-from-spec = tie.close (tie.spec
     (λ c. let f = c .before .before .before .before .before .before .before .args .file .now in
     let k = c .before .before .before .before .before .loop .k in
     let r = c .enum-told2 .given .0 .0 in
-    let e : unlessEnd f k (checked (statesNumber f k) k) ≡ Refused r = cc in
+    let e : unlessEnd f k (checked (statesNumber f k) k) ≡ Refused r = sym (c .before .before .unless-end .ensures ∙ ap (unlessEnd f k) (c .before .before .before .check-states .ensures)) ∙ c .enum-told2 .given .1 in
     c .enum-told2 .given .1 ∙ sym (states-stop f k (c .before .before .before .before .before .before .before .args .n) (c .before .before .before .before .before .loop .p) r (c .before .before .before .before .loop-test .taken) e) ∙ c .before .before .before .before .before .loop .inv .1)
     -- add-k
     (λ c. let f = c .before .before .before .before .before .before .before .args .file .now in
     let k = c .before .before .before .before .before .loop .k in
-    let e : unlessEnd f k (checked (statesNumber f k) k) ≡ Fine = cc in
+    let e : unlessEnd f k (checked (statesNumber f k) k) ≡ Fine = sym (c .before .before .unless-end .ensures ∙ ap (unlessEnd f k) (c .before .before .before .check-states .ensures)) ∙ c .enum-told .given .1 in
     omega (arith, cut-fits f k 2 (states-fine f k (unless-fine f k _ e .1) .whole)))
     -- add-p
     (λ c. search needs)
@@ -48,7 +48,7 @@ states-from-spec = tie.close (tie.spec
     -- loop-again
     (λ c. let f = c .before .before .before .before .before .before .before .args .file .now in
     let k = c .before .before .before .before .before .loop .k in
-    let e : unlessEnd f k (checked (statesNumber f k) k) ≡ Fine = cc in
+    let e : unlessEnd f k (checked (statesNumber f k) k) ≡ Fine = sym (c .before .before .unless-end .ensures ∙ ap (unlessEnd f k) (c .before .before .before .check-states .ensures)) ∙ c .enum-told .given .1 in
     (omega arith, sym (states-step f k (c .before .before .before .before .before .before .before .args .n) (c .before .before .before .before .before .loop .p) (c .before .before .before .before .loop-test .taken) e) ∙ c .before .before .before .before .before .loop .inv .1))
     -- returns-2
     (λ c. let z : c .before .before .before .args .n - c .before .loop .p ≡ 0 = omega arith in rw z at (c .before .loop .inv .1)))

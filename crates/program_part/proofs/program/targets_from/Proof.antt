@@ -54,7 +54,7 @@ targets-from-spec = tie.close (tie.spec
     let n = c .before .before .before .before .before .before .before .loop .n in
     let r = c .before .enum-told2 .given .0 .0 in
     let d′ : atEnd (a .alone) f k n ≡ false = sym (c .before .before .before .before .before .before .at-end .ensures) ∙ not-true _ (c .before .before .before .before .before .if1 .taken) in
-    let e : check (a .shape) (a .states) f k n ≡ Refused r = cc in
+    let e : check (a .shape) (a .states) f k n ≡ Refused r = sym (c .before .before .before .unless-end .ensures ∙ ap (unlessEnd f k) (c .before .before .before .before .check-target .ensures)) ∙ c .before .enum-told2 .given .1 in
     ap Stopped (c .refusal-of .ensures ∙ ap refusalOf (c .before .enum-told2 .given .1))
     ∙ sym (row-stops (ends (a .alone) f) (check (a .shape) (a .states) f) (λ k. 5) (16 - n) k n r d′ e) ∙ c .before .before .before .before .before .before .before .loop .inv .1)
     -- add-k
@@ -62,7 +62,7 @@ targets-from-spec = tie.close (tie.spec
     let f = a .file .now in
     let k = c .before .before .before .before .before .before .loop .k in
     let n = c .before .before .before .before .before .before .loop .n in
-    let e : check (a .shape) (a .states) f k n ≡ Fine = cc in
+    let e : check (a .shape) (a .states) f k n ≡ Fine = sym (c .before .before .unless-end .ensures ∙ ap (unlessEnd f k) (c .before .before .before .check-target .ensures)) ∙ c .enum-told .given .1 in
     omega (arith, cut-fits f k 4 (target-fine f k (a .shape) (a .states) n (unless-fine f k _ e .1) .whole)))
     -- add-n
     (λ c. search needs)
@@ -71,7 +71,7 @@ targets-from-spec = tie.close (tie.spec
     let f = a .file .now in
     let k = c .before .before .before .before .before .before .loop .k in
     let n = c .before .before .before .before .before .before .loop .n in
-    let e : check (a .shape) (a .states) f k n ≡ Fine = cc in
+    let e : check (a .shape) (a .states) f k n ≡ Fine = sym (c .before .before .unless-end .ensures ∙ ap (unlessEnd f k) (c .before .before .before .check-target .ensures)) ∙ c .enum-told .given .1 in
     omega (arith, leb-false 16 n (target-fine f k (a .shape) (a .states) n (unless-fine f k _ e .1) .room)))
     -- loop-again
     (λ c. let a = c .before .before .before .before .before .before .before .before .args in
@@ -79,7 +79,7 @@ targets-from-spec = tie.close (tie.spec
     let k = c .before .before .before .before .before .before .loop .k in
     let n = c .before .before .before .before .before .before .loop .n in
     let d′ : atEnd (a .alone) f k n ≡ false = sym (c .before .before .before .before .before .at-end .ensures) ∙ not-true _ (c .before .before .before .before .if1 .taken) in
-    let e : check (a .shape) (a .states) f k n ≡ Fine = cc in
+    let e : check (a .shape) (a .states) f k n ≡ Fine = sym (c .before .before .unless-end .ensures ∙ ap (unlessEnd f k) (c .before .before .before .check-target .ensures)) ∙ c .enum-told .given .1 in
     let l = leb-false 16 n (target-fine f k (a .shape) (a .states) n (unless-fine f k _ e .1) .room) in
     (omega arith, sym (row-step (ends (a .alone) f) (check (a .shape) (a .states) f) (λ k. 5) 16 k n l d′ e) ∙ c .before .before .before .before .before .before .loop .inv .1))
     -- returns-2

@@ -51,8 +51,8 @@ transitions-from-spec = tie.close (tie.spec
     let k = c .before .before .before .before .before .before .loop .k in
     let n = c .before .before .before .before .before .before .loop .n in
     let r = c .before .enum-told2 .given .0 .0 in
-    let d : isKind f k 3 ≡ true = cc in
-    let e : check (a .shape) (a .states) f k n ≡ Refused r = cc in
+    let d : isKind f k 3 ≡ true = sym (c .before .before .before .before .before .is-kind .ensures) ∙ c .before .before .before .before .if1 .taken in
+    let e : check (a .shape) (a .states) f k n ≡ Refused r = sym (c .before .before .before .check-transition .ensures) ∙ c .before .enum-told2 .given .1 in
     ap Stopped (c .refusal-of .ensures ∙ ap refusalOf (c .before .enum-told2 .given .1))
     ∙ sym (row-stops (ends f) (check (a .shape) (a .states) f) (λ k. 8) (256 - n) k n r (ap not d) e) ∙ c .before .before .before .before .before .before .loop .inv .1)
     -- add-k
@@ -60,7 +60,7 @@ transitions-from-spec = tie.close (tie.spec
     let f = a .file .now in
     let k = c .before .before .before .before .before .loop .k in
     let n = c .before .before .before .before .before .loop .n in
-    let e : check (a .shape) (a .states) f k n ≡ Fine = cc in
+    let e : check (a .shape) (a .states) f k n ≡ Fine = sym (c .before .before .check-transition .ensures) ∙ c .enum-told .given .1 in
     omega (arith, cut-fits f k 7 (transition-fine f k (a .shape) (a .states) n e .whole)))
     -- add-n
     (λ c. search needs)
@@ -69,15 +69,15 @@ transitions-from-spec = tie.close (tie.spec
     let f = a .file .now in
     let k = c .before .before .before .before .before .loop .k in
     let n = c .before .before .before .before .before .loop .n in
-    let e : check (a .shape) (a .states) f k n ≡ Fine = cc in
+    let e : check (a .shape) (a .states) f k n ≡ Fine = sym (c .before .before .check-transition .ensures) ∙ c .enum-told .given .1 in
     omega (arith, leb-false 256 n (transition-fine f k (a .shape) (a .states) n e .room)))
     -- loop-again
     (λ c. let a = c .before .before .before .before .before .before .before .args in
     let f = a .file .now in
     let k = c .before .before .before .before .before .loop .k in
     let n = c .before .before .before .before .before .loop .n in
-    let d : isKind f k 3 ≡ true = cc in
-    let e : check (a .shape) (a .states) f k n ≡ Fine = cc in
+    let d : isKind f k 3 ≡ true = sym (c .before .before .before .before .is-kind .ensures) ∙ c .before .before .before .if1 .taken in
+    let e : check (a .shape) (a .states) f k n ≡ Fine = sym (c .before .before .check-transition .ensures) ∙ c .enum-told .given .1 in
     let l = leb-false 256 n (transition-fine f k (a .shape) (a .states) n e .room) in
     (omega arith, sym (row-step (ends f) (check (a .shape) (a .states) f) (λ k. 8) 256 k n l (ap not d) e) ∙ c .before .before .before .before .before .loop .inv .1))
     -- returns-2
@@ -85,5 +85,5 @@ transitions-from-spec = tie.close (tie.spec
     let f = a .file .now in
     let k = c .before .before .loop .k in
     let n = c .before .before .loop .n in
-    let d : isKind f k 3 ≡ false = cc in
+    let d : isKind f k 3 ≡ false = sym (c .before .is-kind .ensures) ∙ c .if1 .left in
     sym (row-ends (ends f) (check (a .shape) (a .states) f) (λ k. 8) (256 - n) k n (ap not d)) ∙ c .before .before .loop .inv .1))

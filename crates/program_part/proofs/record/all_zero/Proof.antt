@@ -11,4 +11,4 @@ all-zero-spec = tie.close (tie.spec
     -- both-requires-2 141:5
     (λ c κs. search needs)
     -- returns 138:1
-    (λ c. cc))
+    (λ c. rw (c .both2 .ensures, c .before .both .ensures)))

@@ -21,4 +21,4 @@ check-states-spec = tie.close (tie.spec
     -- answer-requires 122:5
     (λ c κs. search needs)
     -- returns 117:1
-    (λ c. cc))
+    (λ c. rw (c .answer .ensures, c .before .first-number .ensures, c .before .before .in-range .ensures, c .before .before .before .cut .ensures, c .before .before .before .before .is-kind .ensures, c .before .before .before .before .before .field2 .ensures, c .before .before .before .before .before .before .field .ensures)))

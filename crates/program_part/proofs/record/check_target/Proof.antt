@@ -17,4 +17,4 @@ check-target-spec = tie.close (tie.spec
     -- answer-requires 248:5
     (λ c κs. search needs)
     -- returns 244:1
-    (λ c. cc))
+    (λ c. rw (c .answer .ensures, c .before .first-number .ensures, c .before .before .cut .ensures, c .before .before .before .is-kind .ensures, c .before .before .before .before .state-names .ensures)))

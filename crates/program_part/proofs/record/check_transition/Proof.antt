@@ -17,4 +17,4 @@ check-transition-spec = tie.close (tie.spec
     -- answer-requires 220:5
     (λ c κs. search needs)
     -- returns 216:1
-    (λ c. cc))
+    (λ c. rw (c .answer .ensures, c .before .first-number .ensures, c .before .before .cut .ensures, c .before .before .before .is-kind .ensures, c .before .before .before .before .transition-names .ensures)))

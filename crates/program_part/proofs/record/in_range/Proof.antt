@@ -9,4 +9,4 @@ in-range-spec = tie.close (tie.spec
     -- both-requires 106:5
     (λ c κs. search needs)
     -- returns 103:1
-    (λ c. cc))
+    (λ c. rw (c .both .ensures)))

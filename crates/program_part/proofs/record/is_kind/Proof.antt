@@ -9,4 +9,4 @@ is-kind-spec = tie.close (tie.spec
     -- byte-at-requires 100:5
     (λ c κs. search needs)
     -- returns 97:1
-    (λ c. cc))
+    (λ c. rw (c .byte-at .ensures)))

@@ -28,16 +28,16 @@ operation-names-spec = tie.close (tie.spec
     -- both-requires-3 153:14
     (λ c κs. search needs)
     -- returns 144:1
-    (λ c. rw (c .before .match .keys1) (cc))
+    (λ c. rw (c .before .match .keys1, c .all-zero .ensures))
     -- returns-2 144:1
-    (λ c. rw (c .before .before .match .keys2) (cc))
+    (λ c. rw (c .before .before .match .keys2, c .both .ensures, c .before .value-exists .ensures))
     -- returns-3 144:1
-    (λ c. rw (c .before .before .match .keys3) (cc))
+    (λ c. rw (c .before .before .match .keys3, c .both2 .ensures, c .before .value-exists2 .ensures))
     -- returns-4 144:1
-    (λ c. rw (c .before .match .keys4) (cc))
+    (λ c. rw (c .before .match .keys4, c .all-zero2 .ensures))
     -- returns-5 144:1
-    (λ c. rw (c .before .match .keys5) (cc))
+    (λ c. rw (c .before .match .keys5, c .all-zero3 .ensures))
     -- returns-6 144:1
-    (λ c. rw (c .before .before .before .match .keys6) (cc))
+    (λ c. rw (c .before .before .before .match .keys6, c .both3 .ensures, c .before .value-exists4 .ensures, c .before .before .value-exists3 .ensures))
     -- returns-7 144:1
     (λ c. simp (ne-eqb _ _ (c .match .rest .1), ne-eqb _ _ (c .match .rest .0 .1), ne-eqb _ _ (c .match .rest .0 .0 .1), ne-eqb _ _ (c .match .rest .0 .0 .0 .1), ne-eqb _ _ (c .match .rest .0 .0 .0 .0 .1), ne-eqb _ _ (c .match .rest .0 .0 .0 .0 .0 .1))))

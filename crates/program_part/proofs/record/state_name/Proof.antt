@@ -10,6 +10,6 @@ state-name-spec = tie.close (tie.spec
     -- of-four-requires 227:20
     (λ c κs. search needs)
     -- returns 227:9
-    (λ c. rw (lt-ltb _ _ (c .before .if1 .taken)) (cc))
+    (λ c. rw (lt-ltb _ _ (c .before .if1 .taken), c .of-four .ensures))
     -- returns-2 223:1
     (λ c. rw (le-ltb _ _ (c .if1 .left))))

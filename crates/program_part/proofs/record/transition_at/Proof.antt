@@ -23,4 +23,4 @@ transition-at-spec = tie.close (tie.spec
     -- field-requires-7 190:13
     (λ c κs. search needs)
     -- returns 182:1
-    (λ c. cc))
+    (λ c. rw (c .field7 .ensures, c .before .field6 .ensures, c .before .before .wide .ensures, c .before .before .before .field5 .ensures, c .before .before .before .before .operation-of .ensures, c .before .before .before .before .before .field4 .ensures, c .before .before .before .before .before .before .field3 .ensures, c .before .before .before .before .before .before .before .field2 .ensures, c .before .before .before .before .before .before .before .before .field .ensures)))

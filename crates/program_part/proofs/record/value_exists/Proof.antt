@@ -13,4 +13,4 @@ value-exists-spec = tie.close (tie.spec
     -- both-requires 135:5
     (λ c κs. search needs)
     -- returns 131:1
-    (λ c. cc))
+    (λ c. rw (c .both .ensures, c .before .value-count .ensures, c .before .before .before .wide .ensures)))

@@ -25,4 +25,4 @@ load-entry-spec = tie.close (tie.spec
     -- load-records-requires 128:9
     (λ c κs. search needs)
     -- returns 123:1
-    (λ c. cc))
+    (λ c. rw (c .before .before .load-records .ensures, c .before .before .before .field8 .ensures, c .before .before .before .before .field7 .ensures, c .before .before .before .before .before .field6 .ensures, c .before .before .before .before .before .before .field5 .ensures, c .before .before .before .before .before .before .before .field4 .ensures, c .before .before .before .before .before .before .before .before .field3 .ensures, c .before .before .before .before .before .before .before .before .before .field2 .ensures, c .before .before .before .before .before .before .before .before .before .before .field .ensures)))

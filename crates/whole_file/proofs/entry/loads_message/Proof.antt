@@ -11,4 +11,4 @@ loads-message-spec = tie.close (tie.spec
     -- both-requires 60:5
     (λ c κs. search needs)
     -- returns 57:1
-    (λ c. cc))
+    (λ c. rw (c .both .ensures, c .before .is-kind .ensures)))

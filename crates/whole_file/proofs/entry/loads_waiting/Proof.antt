@@ -17,4 +17,4 @@ loads-waiting-spec = tie.close (tie.spec
     -- both-requires-2 67:5
     (λ c κs. search needs)
     -- returns 64:1
-    (λ c. cc))
+    (λ c. rw (c .both2 .ensures, c .before .both .ensures, c .before .before .field2 .ensures, c .before .before .before .field .ensures, c .before .before .before .before .is-kind .ensures)))

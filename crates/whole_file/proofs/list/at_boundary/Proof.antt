@@ -11,4 +11,4 @@ at-boundary-spec = tie.close (tie.spec
     -- either-requires 180:5
     (λ c κs. search needs)
     -- returns 177:1
-    (λ c. cc))
+    (λ c. rw (c .either .ensures, c .before .is-kind .ensures)))

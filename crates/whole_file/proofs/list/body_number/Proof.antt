@@ -22,6 +22,6 @@ body-number-spec = tie.close (tie.spec
     -- waiting-number-requires 232:9
     (λ c κs. search needs)
     -- returns-2 232:9
-    (λ c. rw (sym (c .before .before .before .before .before .before .before .is-kind .ensures) ∙ c .before .before .before .before .before .before .if1 .left, sym (c .before .before .before .before .before .is-kind2 .ensures) ∙ c .before .before .before .before .if2 .taken) (cc))
+    (λ c. rw (sym (c .before .before .before .before .before .before .before .is-kind .ensures) ∙ c .before .before .before .before .before .before .if1 .left, sym (c .before .before .before .before .before .is-kind2 .ensures) ∙ c .before .before .before .before .if2 .taken, c .waiting-number .ensures, c .before .of-sixteen .ensures, c .before .before .queue-at .ensures))
     -- returns-3 224:1
     (λ c. rw (sym (c .before .before .before .is-kind .ensures) ∙ c .before .before .if1 .left, sym (c .before .is-kind2 .ensures) ∙ c .if2 .left)))

@@ -21,4 +21,4 @@ check-entry-spec = tie.close (tie.spec
     -- answer-requires 142:5
     (λ c κs. search needs)
     -- returns 138:1
-    (λ c. cc))
+    (λ c. rw (c .answer .ensures, c .before .first-number .ensures, c .before .before .cut .ensures, c .before .before .before .is-kind .ensures, c .before .before .before .before .both .ensures, c .before .before .before .before .before .pointer-names .ensures, c .before .before .before .before .before .before .state-names .ensures)))

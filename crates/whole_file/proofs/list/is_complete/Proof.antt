@@ -15,4 +15,4 @@ is-complete-spec = tie.close (tie.spec
     -- both-requires-2 299:5
     (λ c κs. search needs)
     -- returns 296:1
-    (λ c. cc))
+    (λ c. rw (c .both2 .ensures, c .before .both .ensures, c .before .before .some-first .ensures, c .before .before .before .pointers-fit .ensures)))

@@ -13,4 +13,4 @@ message-number-spec = tie.close (tie.spec
     -- first-number-requires 214:5
     (λ c κs. search needs)
     -- returns 211:1
-    (λ c. cc))
+    (λ c. rw (c .first-number .ensures, c .before .message-names .ensures, c .before .before .cut .ensures)))

@@ -12,6 +12,6 @@ pointer-fits-spec = tie.close (tie.spec
     -- both-requires 263:9
     (λ c κs. search needs)
     -- returns 263:9
-    (λ c. rw (lt-ltb _ _ (c .before .before .if1 .taken)) (cc))
+    (λ c. rw (lt-ltb _ _ (c .before .before .if1 .taken), c .both .ensures, c .before .wide .ensures))
     -- returns-2 259:1
     (λ c. rw (le-ltb _ _ (c .if1 .left))))

@@ -9,4 +9,4 @@ pointer-name-spec = tie.close (tie.spec
     -- either-requires 124:5
     (λ c κs. search needs)
     -- returns 121:1
-    (λ c. cc))
+    (λ c. rw (c .either .ensures)))

@@ -29,4 +29,4 @@ pointer-names-spec = tie.close (tie.spec
     -- both-requires-3 134:5
     (λ c κs. search needs)
     -- returns 127:1
-    (λ c. cc))
+    (λ c. rw (c .both3 .ensures, c .before .both2 .ensures, c .before .before .both .ensures, c .before .before .before .pointer-name4 .ensures, c .before .before .before .before .field4 .ensures, c .before .before .before .before .before .pointer-name3 .ensures, c .before .before .before .before .before .before .field3 .ensures, c .before .before .before .before .before .before .before .pointer-name2 .ensures, c .before .before .before .before .before .before .before .before .field2 .ensures, c .before .before .before .before .before .before .before .before .before .pointer-name .ensures, c .before .before .before .before .before .before .before .before .before .before .field .ensures)))

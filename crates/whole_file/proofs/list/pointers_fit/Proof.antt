@@ -29,4 +29,4 @@ pointers-fit-spec = tie.close (tie.spec
     -- both-requires-3 282:5
     (λ c κs. search needs)
     -- returns 275:1
-    (λ c. cc))
+    (λ c. rw (c .both3 .ensures, c .before .both2 .ensures, c .before .before .both .ensures, c .before .before .before .pointer-fits4 .ensures, c .before .before .before .before .field4 .ensures, c .before .before .before .before .before .pointer-fits3 .ensures, c .before .before .before .before .before .before .field3 .ensures, c .before .before .before .before .before .before .before .pointer-fits2 .ensures, c .before .before .before .before .before .before .before .before .field2 .ensures, c .before .before .before .before .before .before .before .before .before .pointer-fits .ensures, c .before .before .before .before .before .before .before .before .before .before .field .ensures)))

@@ -9,4 +9,4 @@ points-first-spec = tie.close (tie.spec
     -- both-requires 271:5
     (λ c κs. search needs)
     -- returns 268:1
-    (λ c. cc))
+    (λ c. rw (c .both .ensures)))

@@ -29,4 +29,4 @@ some-first-spec = tie.close (tie.spec
     -- either-requires-3 293:5
     (λ c κs. search needs)
     -- returns 286:1
-    (λ c. cc))
+    (λ c. rw (c .either3 .ensures, c .before .either2 .ensures, c .before .before .either .ensures, c .before .before .before .points-first4 .ensures, c .before .before .before .before .field4 .ensures, c .before .before .before .before .before .points-first3 .ensures, c .before .before .before .before .before .before .field3 .ensures, c .before .before .before .before .before .before .before .points-first2 .ensures, c .before .before .before .before .before .before .before .before .field2 .ensures, c .before .before .before .before .before .before .before .before .before .points-first .ensures, c .before .before .before .before .before .before .before .before .before .before .field .ensures)))

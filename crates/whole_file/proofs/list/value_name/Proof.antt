@@ -12,6 +12,6 @@ value-name-spec = tie.close (tie.spec
     -- either-requires 149:9
     (λ c κs. search needs)
     -- returns 149:9
-    (λ c. rw (lt-ltb _ _ (c .before .before .if1 .taken)) (cc))
+    (λ c. rw (lt-ltb _ _ (c .before .before .if1 .taken), c .either .ensures, c .before .value-count .ensures))
     -- returns-2 145:1
     (λ c. rw (le-ltb _ _ (c .if1 .left))))

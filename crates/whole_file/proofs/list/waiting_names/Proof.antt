@@ -21,4 +21,4 @@ waiting-names-spec = tie.close (tie.spec
     -- both-requires 168:5
     (λ c κs. search needs)
     -- returns 164:1
-    (λ c. cc))
+    (λ c. rw (c .both .ensures, c .before .value-name .ensures, c .before .before .field3 .ensures, c .before .before .before .wide .ensures, c .before .before .before .before .pair-exists .ensures, c .before .before .before .before .before .field2 .ensures, c .before .before .before .before .before .before .field .ensures)))

@@ -21,4 +21,4 @@ waiting-number-spec = tie.close (tie.spec
     -- first-number-requires 221:5
     (λ c κs. search needs)
     -- returns 217:1
-    (λ c. cc))
+    (λ c. rw (c .first-number .ensures, c .before .waiting-names .ensures, c .before .before .cut .ensures, c .before .before .before .both .ensures, c .before .before .before .before .pair-exists .ensures, c .before .before .before .before .before .field2 .ensures, c .before .before .before .before .before .before .field .ensures)))

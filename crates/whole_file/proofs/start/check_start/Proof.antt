@@ -17,4 +17,4 @@ check-start-spec = tie.close (tie.spec
     -- answer-requires
     (λ c κs. search needs)
     -- returns
-    (λ c. cc))
+    (λ c. rw (c .answer .ensures, c .before .first-number .ensures, c .before .before .cut .ensures, c .before .before .before .is-kind .ensures, c .before .before .before .before .start-names .ensures)))

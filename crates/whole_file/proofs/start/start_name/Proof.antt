@@ -10,6 +10,6 @@ start-name-spec = tie.close (tie.spec
     -- value-count-requires
     (λ c κs. search needs)
     -- returns
-    (λ c. rw (lt-ltb _ _ (c .before .if1 .taken)) (cc))
+    (λ c. rw (lt-ltb _ _ (c .before .if1 .taken), c .value-count .ensures))
     -- returns-2
     (λ c. rw (le-ltb _ _ (c .if1 .left))))

@@ -29,4 +29,4 @@ start-names-spec = tie.close (tie.spec
     -- both-requires-3
     (λ c κs. search needs)
     -- returns
-    (λ c. cc))
+    (λ c. rw (c .both3 .ensures, c .before .both2 .ensures, c .before .before .both .ensures, c .before .before .before .start-name4 .ensures, c .before .before .before .before .field4 .ensures, c .before .before .before .before .before .start-name3 .ensures, c .before .before .before .before .before .before .field3 .ensures, c .before .before .before .before .before .before .before .start-name2 .ensures, c .before .before .before .before .before .before .before .before .field2 .ensures, c .before .before .before .before .before .before .before .before .before .start-name .ensures, c .before .before .before .before .before .before .before .before .before .before .field .ensures)))

@@ -17,4 +17,4 @@ check-claim-spec = tie.close (tie.spec
     -- answer-requires 39:5
     (λ c κs. search needs)
     -- returns 36:1
-    (λ c. cc))
+    (λ c. rw (c .answer .ensures, c .before .first-number .ensures, c .before .before .field .ensures, c .before .before .before .cut .ensures, c .before .before .before .before .is-kind .ensures)))

@@ -19,4 +19,4 @@ check-step-spec = tie.close (tie.spec
     -- answer-requires 78:5
     (λ c κs. search needs)
     -- returns 74:1
-    (λ c. cc))
+    (λ c. rw (c .answer .ensures, c .before .first-number .ensures, c .before .before .cut .ensures, c .before .before .before .step-body .ensures, c .before .before .before .before .is-step .ensures, c .before .before .before .before .before .step-names .ensures)))

@@ -15,4 +15,4 @@ is-step-spec = tie.close (tie.spec
     -- either-requires-2 45:5
     (λ c κs. search needs)
     -- returns 42:1
-    (λ c. cc))
+    (λ c. rw (c .either2 .ensures, c .before .either .ensures, c .before .before .is-kind3 .ensures, c .before .before .before .is-kind2 .ensures, c .before .before .before .before .is-kind .ensures)))

@@ -11,4 +11,4 @@ pair-exists-spec = tie.close (tie.spec
     -- both-requires 57:5
     (λ c κs. search needs)
     -- returns 54:1
-    (λ c. cc))
+    (λ c. rw (c .both .ensures, c .before .before .wide2 .ensures, c .before .before .before .before .wide .ensures)))

@@ -14,7 +14,7 @@ step-names-spec = tie.close (tie.spec
     -- wide-requires 65:16
     (λ c κs. search needs)
     -- returns 65:9
-    (λ c. rw (sym (c .before .before .is-kind .ensures) ∙ c .before .if1 .taken) (cc))
+    (λ c. rw (sym (c .before .before .is-kind .ensures) ∙ c .before .if1 .taken, c .wide .ensures, c .before .before .before .field .ensures))
     -- is-kind-requires-2 67:8
     (λ c κs. search needs)
     -- field-requires-2 68:42
@@ -22,8 +22,8 @@ step-names-spec = tie.close (tie.spec
     -- pair-exists-requires 68:9
     (λ c κs. search needs)
     -- returns-2 68:9
-    (λ c. rw (sym (c .before .before .before .before .before .is-kind .ensures) ∙ c .before .before .before .before .if1 .left, sym (c .before .before .before .is-kind2 .ensures) ∙ c .before .before .if2 .taken) (cc))
+    (λ c. rw (sym (c .before .before .before .before .before .is-kind .ensures) ∙ c .before .before .before .before .if1 .left, sym (c .before .before .before .is-kind2 .ensures) ∙ c .before .before .if2 .taken, c .pair-exists .ensures, c .before .field2 .ensures, c .before .before .before .before .before .before .field .ensures))
     -- wide-requires-2 70:5
     (λ c κs. search needs)
     -- returns-3 60:1
-    (λ c. rw (sym (c .before .before .before .before .before .is-kind .ensures) ∙ c .before .before .before .before .if1 .left, sym (c .before .before .before .is-kind2 .ensures) ∙ c .before .before .if2 .left) (cc)))
+    (λ c. rw (sym (c .before .before .before .before .before .is-kind .ensures) ∙ c .before .before .before .before .if1 .left, sym (c .before .before .before .is-kind2 .ensures) ∙ c .before .before .if2 .left, c .before .wide2 .ensures, c .before .before .before .before .before .before .field .ensures)))
