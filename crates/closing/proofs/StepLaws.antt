@@ -137,14 +137,17 @@ module _ (g f list sum : List ℕ) (n : ℕ) (p : Program) (c : Cube) (W : Walka
       → h ≡ held (shapeOf (p .shape)) (entriesOf f list n) (cube (programOf g p) (configurationOf c) s k)
   searched s k i {r} d y =
       y (record {
-        count = W .count;
-        shape = W .stepping .program .shape;
-        entries = W .entries;
+        plain =
+            record {
+              count = W .count;
+              shape = W .stepping .program .shape;
+              entries = W .entries;
+              fits = subst (Fits (ValueOrFF (shapeOf (p .shape))) (shapeOf (p .shape))) (sym (d .configuration))
+                  (entry-cube (programOf g p) (W .stepping .program) (configurationOf c) (W .own) s k (is-yes i) .fits);
+              messages = d .count;
+              waiting = short r (d .queues);
+            };
         summed = W .summed;
-        fits = subst (Fits (ValueOrFF (shapeOf (p .shape))) (shapeOf (p .shape))) (sym (d .configuration))
-            (entry-cube (programOf g p) (W .stepping .program) (configurationOf c) (W .own) s k (is-yes i) .fits);
-        messages = d .count;
-        waiting = short r (d .queues);
       })
       ∙ ap (held (shapeOf (p .shape)) (entriesOf f list n)) (d .configuration)
 

@@ -98,11 +98,8 @@ far-less {w = w} {v = v} W d O = rw (ne-eqb (w .entry) 0 d) (go (ℕ-discrete (v
 -- ---- what was not walked over does not match
 
 module _ {f list sum : List ℕ} {n : ℕ} {s : Shape} {c : Cube} (Z : Searchable f list sum n s c) where
-  pub plain : Plain f list n s c
-  plain = record { count = Z .count; shape = Z .shape; entries = Z .entries; fits = Z .fits; messages = Z .messages; waiting = Z .waiting }
-
   pub sized : Sized s c
-  sized = record { processes = Z .shape .processes; variables = Z .shape .variables; messages = Z .messages }
+  sized = record { processes = Z .plain .shape .processes; variables = Z .plain .shape .variables; messages = Z .plain .messages }
 
   both-left : (a b : Bool) → a && b ≡ true → a ≡ true
   both-left true b e = refl
@@ -119,7 +116,7 @@ module _ {f list sum : List ℕ} {n : ℕ} {s : Shape} {c : Cube} (Z : Searchabl
       → (k : ℕ) → k < n → matches (shapeOf s) (relation exact) (configurationOf (cubeAt f list k)) (configurationOf c) ≡ false
   all-unmatched exact g =
       all-walked (Z .summed) (c .states) (numberOf s c) (λ k. matches (shapeOf s) (relation exact) (configurationOf (cubeAt f list k)) (configurationOf c))
-      (λ k l e. (match-number s exact (cubeAt f list k) c (Z .shape) (Z .entries k l) (Z .fits) (load-few f (offsetAt list k)) (Z .messages) e, same-of exact (cubeAt f list k) e)) g
+      (λ k l e. (match-number s exact (cubeAt f list k) c (Z .plain .shape) (Z .plain .entries k l) (Z .plain .fits) (load-few f (offsetAt list k)) (Z .plain .messages) e, same-of exact (cubeAt f list k) e)) g
 
 -- ---- a place to split at
 
@@ -188,7 +185,7 @@ module _ (f list sum : List ℕ) (n : ℕ) (s : Shape) (c : Cube) (tags : List �
         let A = against (sized Z) in
         let at : (R : ℕ → Bool) → ((k : ℕ) → Start f list sum n s (c .states) number k → R k ≡ false) → (k : ℕ) → Start f list sum n s (c .states) (numberOf s c) k → R k ≡ false =
         λ R g k l. g k (subst (λ (y : ℕ). Start f list sum n s (c .states) y k) (sym m) l) in
-        cube-stuck (plain Z)
+        cube-stuck (Z .plain)
         (all-unmatched Z true (at (λ k. matches (shapeOf s) fills (configurationOf (cubeAt f list k)) (configurationOf c)) (g A)))
         (⊎-elim
         (λ u. inl (all-unmatched Z false (at (λ k. matches (shapeOf s) alike (configurationOf (cubeAt f list k)) (configurationOf c)) (u A))))
@@ -231,12 +228,11 @@ module _ (f list sum : List ℕ) (n : ℕ) (s : Shape) (c : Cube) (a : Place) wh
     module _ (sixteen : length (c .queues) ≡ 16) (twenty : length (c .messages) ≡ 20) (ok : proper s c a ≡ true) (Z : Searchable f list sum n s c) where
       part-searchable : Searchable f list sum n s part
       part-searchable =
-          let Y : Plain f list n s part = subst (Plain f list n s) (sym is) (searchable-part (plain Z) sixteen twenty a ok x one) in
-          record { count = Y .count; shape = Y .shape; entries = Y .entries; summed = Z .summed; fits = Y .fits; messages = Y .messages; waiting = Y .waiting }
+          record { plain = subst (Plain f list n s) (sym is) (searchable-part (Z .plain) sixteen twenty a ok x one); summed = Z .summed }
 
       -- what is not held in the part is not held in the whole
       pub part-out : (Searchable f list sum n s part → held (shapeOf s) (entriesOf f list n) (configurationOf part) ≡ false) → held (shapeOf s) (entriesOf f list n) (configurationOf c) ≡ false
-      part-out g = parts-one (plain Z) sixteen twenty a ok x one (ap (λ (k : Cube). held (shapeOf s) (entriesOf f list n) (configurationOf k)) (sym is) ∙ g part-searchable)
+      part-out g = parts-one (Z .plain) sixteen twenty a ok x one (ap (λ (k : Cube). held (shapeOf s) (entriesOf f list n) (configurationOf k)) (sym is) ∙ g part-searchable)
 
   pub parts-done : proper s c a ≡ true → {x : ℕ} → Parts x → fillings s a ≤ x → Sized s c → Covered f list n s c
   parts-done ok {x} w l Z = go a refl
@@ -252,5 +248,5 @@ module _ (f list sum : List ℕ) (n : ℕ) (s : Shape) (c : Cube) (a : Place) wh
 pub found : {f list sum : List ℕ} {n : ℕ} {s : Shape} {c : Cube} {h : Bool} → length (c .queues) ≡ 16 → length (c .messages) ≡ 20 → (Sized s c → h ≡ true → Covered f list n s c)
     → (Searchable f list sum n s c → h ≡ false → held (shapeOf s) (entriesOf f list n) (configurationOf c) ≡ false)
     → Searchable f list sum n s c → h ≡ held (shapeOf s) (entriesOf f list n) (configurationOf c)
-found {h = true} q m g d Z = sym (covered-is q m (plain Z) (g (sized Z) refl))
+found {h = true} q m g d Z = sym (covered-is q m (Z .plain) (g (sized Z) refl))
 found {h = false} q m g d Z = sym (d Z refl)

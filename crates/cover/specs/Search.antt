@@ -50,13 +50,8 @@ pub record Plain (f list : List ℕ) (n : ℕ) (s : Shape) (c : Cube) : Type 0 w
 
 -- and it has its summary
 pub record Searchable (f list sum : List ℕ) (n : ℕ) (s : Shape) (c : Cube) : Type 0 where
-  pub count : n ≤ 524288
-  pub shape : ShapeInRange (shapeOf s)
-  pub entries : (k : ℕ) → k < n → Fits (ValueOrFF (shapeOf s)) (shapeOf s) (configurationOf (cubeAt f list k))
+  pub plain : Plain f list n s c
   pub summed : Summed f list sum n s
-  pub fits : Fits (ValueOrFF (shapeOf s)) (shapeOf s) (configurationOf c)
-  pub messages : c .count ≤ 20
-  pub waiting : (p v : ℕ) → length (configurationOf c .queue p v) ≤ 9
 
 -- ---- parts of a search
 

@@ -36,13 +36,16 @@ module _ {f list sum : List ℕ} {n : ℕ} {s : Shape} where
   judges-one c r m e =
       record {
         judged = λ h a. e (record {
-          count = h .count;
-          shape = h .shape;
-          entries = h .entries;
+          plain =
+              record {
+                count = h .count;
+                shape = h .shape;
+                entries = h .entries;
+                fits = a (configurationOf c) (List·Memᴰ·head refl);
+                messages = m .messages;
+                waiting = m .waiting;
+              };
           summed = h .summed;
-          fits = a (configurationOf c) (List·Memᴰ·head refl);
-          messages = m .messages;
-          waiting = m .waiting;
         }) ∙ sym (every-one (isHeld f list n s) (configurationOf c));
       }
 
