@@ -66,7 +66,7 @@ part-list-judged-end c = search needs
 
 -- src/lib.rt:88:9
 list-judged-requires : tie.Need-list-judged-requires
-list-judged-requires c κs = ready (input (c .before .before .before .before .before .before .before .before .before .before .before .before .before .before .before .before .args .alone) (c .before .before .before .before .before .before .before .before .before .before .before .before .before .before .before .before .args .code .now) (c .before .before .before .before .before .before .before .before .before .before .before .before .before .before .before .before .args .file .now)) (c .before .before .before .before .before .before .before .before .before .before .before .before .before .before .before .before .args .work .now) (c .before .before .before .before .before .before .before .before .before .before .before .read .result) (c .before .before .before .before .before .before .before .before .before .before .before .read .ensures .0) (c .before .before .before .before .before .before .before .enum-told .given .1) _ (c .before .before .before .before .before .before .before .before .before .before .before .read .ensures .1) (c .before .before .before .before .if1 .taken) _ (upper-part 16384 (c .before .before .before .before .before .before .before .before .before .before .before .read .last .1 .1 .1 .0)) _ (c .before .summary-place .ensures ∙ ap (λ (x : ℕ). 4 * entriesAllowed x) (omega arith)) (c .before .before .before .before .before .before .before .before .before .before .before .before .before .before .before .before .pre) (omega arith)
+list-judged-requires c κs = ready (input (c .before .before .before .before .before .before .before .before .before .before .before .before .before .before .before .before .args .alone) (c .before .before .before .before .before .before .before .before .before .before .before .before .before .before .before .before .args .code .now) (c .before .before .before .before .before .before .before .before .before .before .before .before .before .before .before .before .args .file .now)) (c .before .before .before .before .before .before .before .before .before .before .before .before .before .before .before .before .args .work .now) (c .before .before .before .before .before .before .before .before .before .before .before .read .result) (c .before .before .before .before .before .before .before .before .before .before .before .read .ensures .0) (c .before .before .before .before .before .before .before .enum-told .given .1) _ (c .before .before .before .before .before .before .before .before .before .before .before .read .ensures .1) (c .before .before .before .before .if1 .taken) _ (upper-part 16384 (c .before .before .before .before .before .before .before .before .before .before .before .read .last .1 .1 .1 .0)) _ (c .before .summary-place .ensures ∙ ap (λ (x : ℕ). 4 * entriesAllowed x) (c .before .before .before .before .before .before .before .before .before .before .before .read .kept .1 .1 .1 .0)) (c .before .before .before .before .before .before .before .before .before .before .before .before .before .before .before .before .pre) (c .before .before .before .before .before .before .before .before .before .before .before .read .kept .1 .1 .1 .0)
 
 -- src/lib.rt:88:9
 same-length-2 : tie.Need-same-length-2
@@ -80,8 +80,8 @@ returns-2 c =
     let R = c .before .before .before .before .before .before .before .before .before .before .before .before .before .before .read .result in
     let r = c .before .before .before .before .before .before .before .before .before .before .before .before .before .before .read .ensures .0 in
     let q = c .before .before .before .before .before .before .before .before .before .before .enum-told .given .1 in
-    let said = list-said x (a .work .now) R r q _ (c .before .before .before .before .before .before .before .before .before .before .before .before .before .before .read .ensures .1) (c .before .before .before .before .before .before .before .if1 .taken) _ (upper-part 16384 (c .before .before .before .before .before .before .before .before .before .before .before .before .before .before .read .last .1 .1 .1 .0)) _ (c .before .before .before .before .summary-place .ensures ∙ ap (λ (x : ℕ). 4 * entriesAllowed x) (omega arith)) (c .before .before .before .before .before .before .before .before .before .before .before .before .before .before .before .before .before .before .before .pre) (omega arith) _ (c .before .before .list-judged .ensures .0) in
-    (said, (list-handed x (a .work .now) R r q _ (c .before .before .before .before .before .before .before .before .before .before .before .before .before .before .read .ensures .1) (c .before .before .before .before .before .before .before .if1 .taken) _ (upper-part 16384 (c .before .before .before .before .before .before .before .before .before .before .before .before .before .before .read .last .1 .1 .1 .0)) _ (c .before .before .before .before .summary-place .ensures ∙ ap (λ (x : ℕ). 4 * entriesAllowed x) (omega arith)) (c .before .before .before .before .before .before .before .before .before .before .before .before .before .before .before .before .before .before .before .pre) (omega arith) (c .before .before .list-judged .result) said, list-area x (a .work .now) R r q _ (c .before .before .before .before .before .before .before .before .before .before .before .before .before .before .read .ensures .1) (c .before .before .before .before .before .before .before .if1 .taken) _ (upper-part 16384 (c .before .before .before .before .before .before .before .before .before .before .before .before .before .before .read .last .1 .1 .1 .0)) _ (c .before .before .before .before .summary-place .ensures ∙ ap (λ (x : ℕ). 4 * entriesAllowed x) (omega arith)) (c .before .before .before .before .before .before .before .before .before .before .before .before .before .before .before .before .before .before .before .pre) (omega arith) (c .before .before .list-judged .ensures .1) (ap (drop (usedOf (length (a .work .now)))) (c .before .before .before .before .before .before .before .before .before .before .before .before .before .before .read .ensures .1) ∙ reading-kept x (a .work .now) (c .before .before .before .before .before .before .before .before .before .before .before .before .before .before .before .before .before .before .before .pre))))
+    let said = list-said x (a .work .now) R r q _ (c .before .before .before .before .before .before .before .before .before .before .before .before .before .before .read .ensures .1) (c .before .before .before .before .before .before .before .if1 .taken) _ (upper-part 16384 (c .before .before .before .before .before .before .before .before .before .before .before .before .before .before .read .last .1 .1 .1 .0)) _ (c .before .before .before .before .summary-place .ensures ∙ ap (λ (x : ℕ). 4 * entriesAllowed x) (c .before .before .before .before .before .before .before .before .before .before .before .before .before .before .read .kept .1 .1 .1 .0)) (c .before .before .before .before .before .before .before .before .before .before .before .before .before .before .before .before .before .before .before .pre) (c .before .before .before .before .before .before .before .before .before .before .before .before .before .before .read .kept .1 .1 .1 .0) _ (c .before .before .list-judged .ensures .0) in
+    (said, (list-handed x (a .work .now) R r q _ (c .before .before .before .before .before .before .before .before .before .before .before .before .before .before .read .ensures .1) (c .before .before .before .before .before .before .before .if1 .taken) _ (upper-part 16384 (c .before .before .before .before .before .before .before .before .before .before .before .before .before .before .read .last .1 .1 .1 .0)) _ (c .before .before .before .before .summary-place .ensures ∙ ap (λ (x : ℕ). 4 * entriesAllowed x) (c .before .before .before .before .before .before .before .before .before .before .before .before .before .before .read .kept .1 .1 .1 .0)) (c .before .before .before .before .before .before .before .before .before .before .before .before .before .before .before .before .before .before .before .pre) (c .before .before .before .before .before .before .before .before .before .before .before .before .before .before .read .kept .1 .1 .1 .0) (c .before .before .list-judged .result) said, list-area x (a .work .now) R r q _ (c .before .before .before .before .before .before .before .before .before .before .before .before .before .before .read .ensures .1) (c .before .before .before .before .before .before .before .if1 .taken) _ (upper-part 16384 (c .before .before .before .before .before .before .before .before .before .before .before .before .before .before .read .last .1 .1 .1 .0)) _ (c .before .before .before .before .summary-place .ensures ∙ ap (λ (x : ℕ). 4 * entriesAllowed x) (c .before .before .before .before .before .before .before .before .before .before .before .before .before .before .read .kept .1 .1 .1 .0)) (c .before .before .before .before .before .before .before .before .before .before .before .before .before .before .before .before .before .before .before .pre) (c .before .before .before .before .before .before .before .before .before .before .before .before .before .before .read .kept .1 .1 .1 .0) (c .before .before .list-judged .ensures .1) (ap (drop (usedOf (length (a .work .now)))) (c .before .before .before .before .before .before .before .before .before .before .before .before .before .before .read .ensures .1) ∙ reading-kept x (a .work .now) (c .before .before .before .before .before .before .before .before .before .before .before .before .before .before .before .before .before .before .before .pre))))
 
 slice-relend-prefix-replay-answer : tie.Need-slice-relend-prefix-replay-answer
 slice-relend-prefix-replay-answer c = search needs

@@ -60,14 +60,14 @@ same-length-2 c = search needs
 
 returns-2 : tie.Need-returns-2
 unfolding letters
-returns-2 c = rw (c .before .before .before .before .before .before .before .before .step2 .given .1) (put-as (c .before .before .put2 .ensures) (cc (c .before .before .before .before .before .digit .ensures, c .before .before .before .before .digit2 .ensures)))
+returns-2 c = rw (c .before .before .before .before .before .before .before .before .step2 .given .1) (put-as (c .before .before .put2 .ensures) (rw (c .before .before .before .before .before .digit .ensures, c .before .before .before .before .digit2 .ensures)))
 
 same-length-3 : tie.Need-same-length-3
 same-length-3 c = search needs
 
 returns-3 : tie.Need-returns-3
 unfolding letters
-returns-3 c = rw (c .before .before .before .before .before .before .before .step3 .given .1) (put-as (c .before .before .put3 .ensures) (cc (c .before .before .before .before .digit3 .ensures)))
+returns-3 c = rw (c .before .before .before .before .before .before .before .step3 .given .1) (put-as (c .before .before .put3 .ensures) (rw (c .before .before .before .before .digit3 .ensures)))
 
 pub put-letters-spec : {M : Type 1} → statement M
 put-letters-spec =

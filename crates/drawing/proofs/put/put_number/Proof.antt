@@ -20,7 +20,7 @@ same-length : tie.Need-same-length
 same-length c = search needs
 
 returns : tie.Need-returns
-returns c = let n = c .before .before .before .before .before .before .before .before .args .n in put-as (c .before .before .put .ensures) (cc (decimal-one n (c .before .before .before .before .before .before .if1 .taken), c .before .before .before .before .digit .ensures))
+returns c = let n = c .before .before .before .before .before .before .before .before .args .n in put-as (c .before .before .put .ensures) (rw (decimal-one n (c .before .before .before .before .before .before .if1 .taken), c .before .before .before .before .digit .ensures))
 
 digit-requires-2 : tie.Need-digit-requires-2
 digit-requires-2 c κs = search needs
@@ -38,7 +38,7 @@ same-length-2 : tie.Need-same-length-2
 same-length-2 c = search needs
 
 returns-2 : tie.Need-returns-2
-returns-2 c = let n = c .before .before .before .before .before .before .before .before .before .before .args .n in put-as (c .before .before .put2 .ensures) (cc (decimal-two n (c .before .before .before .before .before .before .before .before .if1 .left) (c .before .before .before .before .before .before .before .if2 .taken), c .before .before .before .before .before .digit2 .ensures, c .before .before .before .before .digit3 .ensures))
+returns-2 c = let n = c .before .before .before .before .before .before .before .before .before .before .args .n in put-as (c .before .before .put2 .ensures) (rw (decimal-two n (c .before .before .before .before .before .before .before .before .if1 .left) (c .before .before .before .before .before .before .before .if2 .taken), c .before .before .before .before .before .digit2 .ensures, c .before .before .before .before .digit3 .ensures))
 
 digit-requires-4 : tie.Need-digit-requires-4
 digit-requires-4 c κs = search needs
@@ -59,7 +59,7 @@ same-length-3 : tie.Need-same-length-3
 same-length-3 c = search needs
 
 returns-3 : tie.Need-returns-3
-returns-3 c = let n = c .before .before .before .before .before .before .before .before .before .before .before .before .args .n in put-as (c .before .before .put3 .ensures) (cc (decimal-three n (c .before .before .before .before .before .before .before .before .before .if2 .left) (c .before .before .before .before .before .before .before .before .if3 .taken), c .before .before .before .before .before .before .digit4 .ensures, c .before .before .before .before .before .digit5 .ensures, c .before .before .before .before .digit6 .ensures))
+returns-3 c = let n = c .before .before .before .before .before .before .before .before .before .before .before .before .args .n in put-as (c .before .before .put3 .ensures) (rw (decimal-three n (c .before .before .before .before .before .before .before .before .before .if2 .left) (c .before .before .before .before .before .before .before .before .if3 .taken), c .before .before .before .before .before .before .digit4 .ensures, c .before .before .before .before .before .digit5 .ensures, c .before .before .before .before .digit6 .ensures))
 
 digit-requires-7 : tie.Need-digit-requires-7
 digit-requires-7 c κs = search needs
@@ -83,7 +83,7 @@ same-length-4 : tie.Need-same-length-4
 same-length-4 c = search needs
 
 returns-4 : tie.Need-returns-4
-returns-4 c = let n = c .before .before .before .before .before .before .before .before .before .before .before .before .before .args .n in put-as (c .before .before .put4 .ensures) (cc (decimal-four n (c .before .before .before .before .before .before .before .before .before .if3 .left) (c .before .before .before .before .before .before .before .before .before .before .before .before .before .pre .0), c .before .before .before .before .before .before .before .digit7 .ensures, c .before .before .before .before .before .before .digit8 .ensures, c .before .before .before .before .before .digit9 .ensures, c .before .before .before .before .digit10 .ensures))
+returns-4 c = let n = c .before .before .before .before .before .before .before .before .before .before .before .before .before .args .n in put-as (c .before .before .put4 .ensures) (rw (decimal-four n (c .before .before .before .before .before .before .before .before .before .if3 .left) (c .before .before .before .before .before .before .before .before .before .before .before .before .before .pre .0), c .before .before .before .before .before .before .before .digit7 .ensures, c .before .before .before .before .before .before .digit8 .ensures, c .before .before .before .before .before .digit9 .ensures, c .before .before .before .before .digit10 .ensures))
 
 pub put-number-spec : {M : Type 1} → statement M
 put-number-spec =

@@ -47,19 +47,19 @@ same-length : tie.Need-same-length
 same-length c = search needs
 
 returns : tie.Need-returns
-returns c = rw (c .before .before .before .before .before .before .before .step .given .1) (put-as (c .before .before .put .ensures) (cc (c .before .before .before .before .narrow .ensures)))
+returns c = rw (c .before .before .before .before .before .before .before .step .given .1) (put-as (c .before .before .put .ensures) (rw (c .before .before .before .before .narrow .ensures)))
 
 same-length-2 : tie.Need-same-length-2
 same-length-2 c = search needs
 
 returns-2 : tie.Need-returns-2
-returns-2 c = rw (c .before .before .before .before .before .before .before .before .step2 .given .1) (put-as (c .before .before .put2 .ensures) (cc (c .before .before .before .before .before .narrow2 .ensures, c .before .before .before .before .narrow3 .ensures)))
+returns-2 c = rw (c .before .before .before .before .before .before .before .before .step2 .given .1) (put-as (c .before .before .put2 .ensures) (rw (c .before .before .before .before .before .narrow2 .ensures, c .before .before .before .before .narrow3 .ensures)))
 
 same-length-3 : tie.Need-same-length-3
 same-length-3 c = search needs
 
 returns-3 : tie.Need-returns-3
-returns-3 c = rw (c .before .before .before .before .before .before .before .step3 .given .1) (put-as (c .before .before .put3 .ensures) (cc (c .before .before .before .before .narrow4 .ensures)))
+returns-3 c = rw (c .before .before .before .before .before .before .before .step3 .given .1) (put-as (c .before .before .put3 .ensures) (rw (c .before .before .before .before .narrow4 .ensures)))
 
 pub put-record-spec : {M : Type 1} → statement M
 put-record-spec =

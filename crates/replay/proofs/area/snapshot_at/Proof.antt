@@ -25,4 +25,4 @@ snapshot-at-spec = tie.close (tie.spec
     -- byte-at-requires-4 64:9
     (λ c κs. search needs)
     -- returns 56:1
-    (λ c. rw (← (c .before .before .before .before .widen .ensures)) (cc)))
+    (λ c. rw (← (c .before .before .before .before .widen .ensures), c .byte-at4 .ensures, c .before .byte-at3 .ensures, c .before .before .byte-at2 .ensures, c .before .before .before .byte-at .ensures)))

@@ -92,7 +92,7 @@ field-requires-6 c κs = search needs
 
 -- src/entry.rt:32:1
 returns-2 : tie.Need-returns-2
-returns-2 c = cc
+returns-2 c = rw (c .field6 .ensures, c .before .field5 .ensures, c .before .before .field4 .ensures, c .before .before .before .field3 .ensures, c .before .before .before .before .field2 .ensures, c .before .before .before .before .before .field .ensures)
 
 pub message-at-spec : {M : Type 1} → statement M
 message-at-spec =

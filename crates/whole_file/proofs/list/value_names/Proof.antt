@@ -53,7 +53,7 @@ both-requires-3 c κs = search needs
 
 -- src/list.rt:74:1
 returns : tie.Need-returns
-returns c = cc
+returns c = rw (c .both3 .ensures, c .before .both2 .ensures, c .before .before .both .ensures, c .before .before .before .value-name4 .ensures, c .before .before .before .before .value-name3 .ensures, c .before .before .before .before .before .value-name2 .ensures, c .before .before .before .before .before .before .value-name .ensures)
 
 pub value-names-spec : {M : Type 1} → statement M
 value-names-spec =
