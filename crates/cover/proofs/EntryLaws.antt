@@ -22,7 +22,7 @@ use Rattle.matching.specs.Relation.{relation}
 use Rattle.matching.specs.Tags.{tagsOf}
 use Rattle.matching.specs.Match.{Sizes, Suits, queueRow, channelMatches}
 use Rattle.matching.proofs.MatchLaws.{states-fail, queues-unlike, channel-left}
-use Rattle.cover.specs.Search.{Against}
+use Rattle.by_bytes.specs.Against.{Against}
 
 -- ---- an entry has room for twenty messages
 

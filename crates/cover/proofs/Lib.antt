@@ -1,5 +1,3 @@
-pub mod TracedLaws
-pub mod SameLaws
 pub mod PlaceLaws
 pub mod EntryLaws
 pub mod PartLaws

@@ -31,7 +31,8 @@ use Rattle.summary.proofs.OnwardLaws.{all-walked}
 use Rattle.cover.specs.declared.place.Place.{Place}
 use Rattle.cover.specs.declared.place.Place.the-variants.{Whole, Waiting, Sent}
 use Rattle.cover.specs.Places.{partOf, isWhole, isFree, proper, fillings, NoneFree}
-use Rattle.cover.specs.Search.{Sized, Covered, by-entry, by-parts, Plain, Searchable, Against, Tried, Uncovered, Unmet, Stuck, Looked}
+use Rattle.cover.specs.Search.{Covered, by-entry, by-parts, Plain, Searchable, Tried, Uncovered, Unmet, Stuck, Looked}
+use Rattle.by_bytes.specs.Against.{Sized, Against}
 use Rattle.cover.proofs.PlaceLaws.{true-not-false}
 use Rattle.cover.proofs.EntryLaws.{load-few}
 use Rattle.cover.proofs.PartLaws.{part-count}

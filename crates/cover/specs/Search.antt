@@ -16,8 +16,8 @@ use Rattle.whole_file.specs.declared.entry.Cube.{Cube}
 use Rattle.program_part.specs.ProgramPart.{shapeOf}
 use Rattle.whole_file.specs.Cube.{configurationOf}
 use Rattle.by_number.specs.Again.{cubeAt, entriesOf}
-use Rattle.matching.specs.Tags.{tagsOf}
 use Rattle.matching.specs.Number.{numberOf}
+use Rattle.by_bytes.specs.Against.{Sized, Against}
 use Rattle.summary.specs.Slots.{headLink, homeOf}
 use Rattle.summary.specs.Summary.{Summed}
 use Rattle.summary.specs.Walks.{Left}
@@ -25,12 +25,6 @@ use Rattle.cover.specs.declared.place.Place.{Place}
 use Rattle.cover.specs.Places.{partOf, isWhole, isFree, fillings, proper, NoneFree}
 
 -- ---- what is found, whatever the work area holds
-
--- the sizes that the code has room for
-pub record Sized (s : Shape) (c : Cube) : Type 0 where
-  pub processes : s .processes ≤ 4
-  pub variables : s .variables ≤ 4
-  pub messages : c .count ≤ 20
 
 -- an entry to which an offset leads covers the cube; or all of its parts at a free place are covered
 pub data Covered (f list : List ℕ) (n : ℕ) (s : Shape) : Cube → Type 0 where
@@ -54,11 +48,6 @@ pub record Searchable (f list sum : List ℕ) (n : ℕ) (s : Shape) (c : Cube) :
   pub summed : Summed f list sum n s
 
 -- ---- parts of a search
-
--- a cube with the tags of its messages
-pub record Against (s : Shape) (c : Cube) (tags : List ℕ) : Type 0 where
-  pub sized : Sized s c
-  pub is : tags ≡ tagsOf s c
 
 -- after entry i was tried: if it may meet the cube, some entry is met; a place to split at stays one
 pub record Tried (f list : List ℕ) (s : Shape) (c : Cube) (tags : List ℕ) (place : Place) (met : Bool) (i : ℕ) (next : Place) (now : Bool) : Type 0 where

@@ -4,6 +4,5 @@
 mod entry;
 mod gaps;
 mod place;
-mod same;
 pub mod search;
 mod split;

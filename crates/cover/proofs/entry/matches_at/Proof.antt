@@ -6,7 +6,7 @@ use Rattle.cover.proofs.entry.matches_at.Tie as tie
 use Rattle.cover.proofs.entry.matches_at.Reads as reads
 use Rattle.cover.proofs.entry.matches_at.Lts as lts
 use Rattle.by_number.proofs.offset_at.Reads as offset-at-reads
-use Rattle.cover.proofs.same.compare_at.Reads as compare-at-reads
+use Rattle.by_bytes.proofs.compare_at.Reads as compare-at-reads
 use Rattle.matching.proofs.channel_matches.Reads as channel-matches-reads
 use Rattle.matching.proofs.queues_match.Reads as queues-match-reads
 use Rattle.matching.proofs.states_match.Reads as states-match-reads

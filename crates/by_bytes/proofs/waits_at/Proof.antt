@@ -1,11 +1,11 @@
 use mathlib.Core.Bool.{false≢true}
 use borrow.Author.Tests.{not-false}
-use Rattle.cover.proofs.SameLaws.{waits-is}
+use Rattle.by_bytes.proofs.SameLaws.{waits-is}
 use borrow.Author.Needs.{needs}
-use Rattle.cover.proofs.same.waits_at.Statement.{statement}
-use Rattle.cover.proofs.same.waits_at.Tie as tie
-use Rattle.cover.proofs.same.waits_at.Reads as reads
-use Rattle.cover.proofs.same.waits_at.Lts as lts
+use Rattle.by_bytes.proofs.waits_at.Statement.{statement}
+use Rattle.by_bytes.proofs.waits_at.Tie as tie
+use Rattle.by_bytes.proofs.waits_at.Reads as reads
+use Rattle.by_bytes.proofs.waits_at.Lts as lts
 use Rattle.program_part.proofs.bytes.both.Reads as both-reads
 use Rattle.program_part.proofs.bytes.field.Reads as field-reads
 use Rattle.program_part.proofs.bytes.wide.Reads as wide-reads

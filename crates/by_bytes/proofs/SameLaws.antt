@@ -31,9 +31,9 @@ use Rattle.matching.proofs.Below.{and-false, all-true, all-equal}
 use Rattle.matching.proofs.ValueLaws.{newest-at}
 use Rattle.matching.proofs.TagLaws.{tag-is}
 use Rattle.matching.proofs.MarkLaws.{tags-at}
-use Rattle.cover.specs.Same.{SameLabel, PointsSame}
-use Rattle.cover.specs.Search.{Against}
-use Rattle.cover.proofs.TracedLaws.{maskIn, Traced, valuesMatch, traced-matches}
+use Rattle.by_bytes.specs.Same.{SameLabel, PointsSame}
+use Rattle.by_bytes.specs.Against.{Against}
+use Rattle.by_bytes.proofs.TracedLaws.{maskIn, Traced, valuesMatch, traced-matches}
 
 -- ---- tests
 

@@ -8,20 +8,20 @@ use lib.ListN.{length, getD}
 use Rattle.whole_file.specs.Cube.{noQueue, waitingOf}
 use Rattle.whole_file.proofs.CubeLaws.{waiting-loads}
 use Rattle.matching.specs.Relation.{relation}
-use Rattle.cover.proofs.SameLaws.{never, not-cut, Sent, sent-begin, sent-skip, sent-more, sent-room, sentLoaded, Waits, waits-begin, waits-none, waits-one, same-decides}
+use Rattle.by_bytes.proofs.SameLaws.{never, not-cut, Sent, sent-begin, sent-skip, sent-more, sent-room, sentLoaded, Waits, waits-begin, waits-none, waits-one, same-decides}
 use native.Mathlib.Omega.{arith}
 use borrow.Author.Needs.{needs}
-use Rattle.cover.proofs.same.compare_at.Statement.{statement}
-use Rattle.cover.proofs.same.compare_at.Tie as tie
-use Rattle.cover.proofs.same.compare_at.Reads as reads
-use Rattle.cover.proofs.same.compare_at.Lts as lts
-use Rattle.cover.proofs.same.ends_at.Reads as ends-at-reads
-use Rattle.cover.proofs.same.last_waiting.Reads as last-waiting-reads
-use Rattle.cover.proofs.same.message_in.Reads as message-in-reads
-use Rattle.cover.proofs.same.not_same.Reads as not-same-reads
-use Rattle.cover.proofs.same.points_same.Reads as points-same-reads
-use Rattle.cover.proofs.same.same_label.Reads as same-label-reads
-use Rattle.cover.proofs.same.waits_at.Reads as waits-at-reads
+use Rattle.by_bytes.proofs.compare_at.Statement.{statement}
+use Rattle.by_bytes.proofs.compare_at.Tie as tie
+use Rattle.by_bytes.proofs.compare_at.Reads as reads
+use Rattle.by_bytes.proofs.compare_at.Lts as lts
+use Rattle.by_bytes.proofs.ends_at.Reads as ends-at-reads
+use Rattle.by_bytes.proofs.last_waiting.Reads as last-waiting-reads
+use Rattle.by_bytes.proofs.message_in.Reads as message-in-reads
+use Rattle.by_bytes.proofs.not_same.Reads as not-same-reads
+use Rattle.by_bytes.proofs.points_same.Reads as points-same-reads
+use Rattle.by_bytes.proofs.same_label.Reads as same-label-reads
+use Rattle.by_bytes.proofs.waits_at.Reads as waits-at-reads
 use Rattle.matching.proofs.lowest.Reads as lowest-reads
 use Rattle.matching.proofs.least.Reads as least-reads
 use Rattle.matching.proofs.related.Reads as related-reads

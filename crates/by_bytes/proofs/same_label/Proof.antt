@@ -3,10 +3,10 @@ use lib.Dec.{eqb}
 use borrow.Author.Tests.{eqb-true}
 use Rattle.program_part.proofs.ProgramLaws.{and-true}
 use borrow.Author.Needs.{needs}
-use Rattle.cover.proofs.same.same_label.Statement.{statement}
-use Rattle.cover.proofs.same.same_label.Tie as tie
-use Rattle.cover.proofs.same.same_label.Reads as reads
-use Rattle.cover.proofs.same.same_label.Lts as lts
+use Rattle.by_bytes.proofs.same_label.Statement.{statement}
+use Rattle.by_bytes.proofs.same_label.Tie as tie
+use Rattle.by_bytes.proofs.same_label.Reads as reads
+use Rattle.by_bytes.proofs.same_label.Lts as lts
 use Rattle.program_part.proofs.bytes.both.Reads as both-reads
 
 -- src/same.rt:58:5

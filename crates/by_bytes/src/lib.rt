@@ -1,5 +1,5 @@
 // An entry that has a cube's messages with a role and no others, and one waiting value where the cube has some: whether it matches the cube is
-// told by its bytes, and nothing is built for it. Most entries that a walk leads to are such; the others are left to `entry`.
+// told by its bytes, and nothing is built for it. Most entries that a walk leads to are such; the others are left to the crate `cover`.
 ghost use mathlib.Core.Path.{_≡_};
 ghost use mathlib.Core.Bool.{true, _&&_, not};
 ghost use Prim.Native.Nat.{_+_, _-_, _≤_, _<_, min};
@@ -9,8 +9,8 @@ ghost use Rattle.whole_file.specs.Tally.{queueAt};
 ghost use Rattle.whole_file.specs.Cube.{waitingOf, loadsWaiting, loadEntry};
 ghost use Rattle.matching.specs.Match.{channelMatches, queueRow};
 ghost use Rattle.pws.specs.Machine.{allBelow};
-ghost use Rattle.cover.specs.Same.{SameLabel, PointsSame};
-ghost use Rattle.cover.specs.Search.{Against};
+ghost use Rattle.by_bytes.specs.Same.{SameLabel, PointsSame};
+ghost use Rattle.by_bytes.specs.Against.{Against};
 use matching::least;
 use matching::lowest;
 use matching::related;
@@ -27,9 +27,9 @@ use whole_file::entry::Cube;
 use whole_file::entry::Queue;
 
 // The entry is such a one, and then its values are related to the cube's.
-pub(crate) struct Compared {
-    pub(crate) same: bool,
-    pub(crate) related: bool,
+pub struct Compared {
+    pub same: bool,
+    pub related: bool,
 }
 
 fn not_same() -> Compared
@@ -114,7 +114,7 @@ fn ends_at(file: &[u8], k: usize) -> bool
 
 // The entry whose 10 stands at a place, but for its local states: its 11s have the labels of the cube's messages with a role, whose tags say so, its
 // pointers are at those that the cube's are at, and its 12s are one for each queue of the cube in which a value waits.
-pub(crate) fn compare_at(
+pub fn compare_at(
     exact: bool,
     file: &[u8],
     at: usize,

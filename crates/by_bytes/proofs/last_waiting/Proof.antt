@@ -3,13 +3,13 @@ use mathlib.Core.Path.{sym, ap, _∙_}
 use lib.ListN.{getD}
 use Rattle.whole_file.specs.Cube.{waitingOf}
 use Rattle.matching.proofs.ValueLaws.{value-waits, waits}
-use Rattle.cover.proofs.SameLaws.{nothing-last}
+use Rattle.by_bytes.proofs.SameLaws.{nothing-last}
 use native.Mathlib.Omega.{arith}
 use borrow.Author.Needs.{needs}
-use Rattle.cover.proofs.same.last_waiting.Statement.{statement}
-use Rattle.cover.proofs.same.last_waiting.Tie as tie
-use Rattle.cover.proofs.same.last_waiting.Reads as reads
-use Rattle.cover.proofs.same.last_waiting.Lts as lts
+use Rattle.by_bytes.proofs.last_waiting.Statement.{statement}
+use Rattle.by_bytes.proofs.last_waiting.Tie as tie
+use Rattle.by_bytes.proofs.last_waiting.Reads as reads
+use Rattle.by_bytes.proofs.last_waiting.Lts as lts
 use Rattle.matching.proofs.waiting.Reads as waiting-reads
 
 -- src/same.rt:107:9
