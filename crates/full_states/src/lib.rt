@@ -1,0 +1,61 @@
+// A table of full local states: every configuration with them is above the list. Number 9 shows that of the targets, and the same test of any
+// group that is large enough; at number 11 nothing that has full local states is searched for.
+ghost use mathlib.Core.Path.{_≡_};
+ghost use mathlib.Core.Bool.{cond};
+ghost use Prim.Native.Nat.{_≤_};
+ghost use lib.ListN.{length};
+ghost use lib.Dec.{eqb};
+ghost use Rattle.full_states.specs.Table.{placeOf, isFull, withStates, statesFrom};
+use matching::states_match;
+use matching::states_number;
+use program_part::program::Shape;
+
+// Where local states stand in the table, if they do.
+fn place_of(shape: Shape, states: [u8; 4]) -> usize
+    ensures { λ r. ⌜ (r ≡ placeOf shape states) × (r ≤ 4092) ⌝ }
+{
+    4 * ((states_number(shape, states) % 1024) as usize)
+}
+
+pub fn is_full(table: &[u8], shape: Shape, states: [u8; 4]) -> bool
+    ensures { λ r. ⌜ r ≡ isFull (now (table .entry)) shape states ⌝ }
+{
+    let at = place_of(shape, states);
+    if table.len() < at + 4 {
+        return false;
+    }
+    let known = [table[at], table[at + 1], table[at + 2], table[at + 3]];
+    states_match(shape.processes, known, states)
+}
+
+// Others that stood in their place are forgotten.
+pub fn put_full(table: &mut [u8], shape: Shape, states: [u8; 4])
+    ensures { λ _. ⌜ now (table .exit) ≡ withStates (now (table .entry)) shape states ⌝ }
+{
+    let at = place_of(shape, states);
+    if table.len() < at + 4 {
+        return;
+    }
+    table[at] = states[0];
+    table[at + 1] = states[1];
+    table[at + 2] = states[2];
+    table[at + 3] = states[3];
+}
+
+fn state_or(same: bool, from: u8, state: u8) -> u8
+    ensures { λ r. ⌜ r ≡ cond same from state ⌝ }
+{
+    if same { from } else { state }
+}
+
+// The local states before a step of process p.
+pub fn states_from(states: [u8; 4], p: usize, from: u8) -> [u8; 4]
+    ensures { λ r. ⌜ r ≡ statesFrom states p from ⌝ }
+{
+    [
+        state_or(0 == p, from, states[0]),
+        state_or(1 == p, from, states[1]),
+        state_or(2 == p, from, states[2]),
+        state_or(3 == p, from, states[3]),
+    ]
+}
