@@ -3,3 +3,4 @@ pub mod WalkLaws
 pub mod TakeLaws
 pub mod SerialiseLaws
 pub mod UpdateLaws
+pub mod FullLaws

@@ -10,14 +10,16 @@ ghost use Rattle.program_part.specs.ProgramPart.{programOf};
 ghost use Rattle.whole_file.specs.Cube.{configurationOf};
 ghost use Rattle.by_number.specs.Again.{cubeAt, entriesOf};
 ghost use Rattle.before.specs.Before.{LastWrites};
+ghost use Rattle.full_states.specs.Table.{Full};
 ghost use Rattle.closing.specs.Walk.{stepHeld, walkStep, LowestFailing, Walkable, openingAt, openingOf};
 use crate::serialise::serialised_held;
-use crate::take::taken_held;
+use crate::take::before_held;
 use crate::update::updated_held;
 use before::messages::last_writes;
 use before::newest::newest;
 use by_number::entry_at;
 use by_number::transition_of;
+use full_states::is_full;
 use matching::least;
 use program_part::bytes::wide;
 use program_part::program::Program;
@@ -37,6 +39,7 @@ pub enum Opening {
 
 // The lowest transition one of whose predecessor cubes is not held, or their number.
 fn open_take(
+    full: &[u8],
     code: &[u8],
     file: &[u8],
     list: &[u8],
@@ -46,7 +49,7 @@ fn open_take(
     cube: Cube,
     writes: [u8; 16],
 ) -> usize
-    ensures { λ r. ⌜ (r ≤ 256) × (Walkable (now (code .entry)) (now (file .entry)) (now (list .entry)) (now (sum .entry)) n program cube → LastWrites writes (configurationOf cube .memory) → LowestFailing (λ j. stepHeld (programOf (now (code .entry)) program) (entriesOf (now (file .entry)) (now (list .entry)) n) (configurationOf cube) (Take j)) (min (program .transitions .count) 256) r) ⌝ }
+    ensures { λ r. ⌜ (r ≤ 256) × (Walkable (now (code .entry)) (now (file .entry)) (now (list .entry)) (now (sum .entry)) n program cube → LastWrites writes (configurationOf cube .memory) → Full (programOf (now (code .entry)) program) (entriesOf (now (file .entry)) (now (list .entry)) n) (now (full .entry)) → LowestFailing (λ j. stepHeld (programOf (now (code .entry)) program) (entriesOf (now (file .entry)) (now (list .entry)) n) (configurationOf cube) (Take j)) (min (program .transitions .count) 256) r) ⌝ }
 {
     let row = program.transitions;
     let m = least(row.count, 256);
@@ -57,7 +60,7 @@ fn open_take(
         if of_four(states, transition.process) != transition.to {
             continue;
         }
-        if !taken_held(file, list, sum, n, program, cube, writes, transition) {
+        if !before_held(full, file, list, sum, n, program, cube, writes, transition) {
             return j;
         }
     }
@@ -107,6 +110,7 @@ fn open_update(
 // The number of the lowest step, in the order of `walkStep`, one of whose predecessor cubes is not held; 20 past the transitions if there is
 // none.
 fn cube_open(
+    full: &[u8],
     code: &[u8],
     file: &[u8],
     list: &[u8],
@@ -115,14 +119,19 @@ fn cube_open(
     program: Program,
     cube: Cube,
 ) -> usize
-    ensures { λ r. ⌜ (Walkable (now (code .entry)) (now (file .entry)) (now (list .entry)) (now (sum .entry)) n program cube → LowestFailing (λ j. stepHeld (programOf (now (code .entry)) program) (entriesOf (now (file .entry)) (now (list .entry)) n) (configurationOf cube) (walkStep (min (program .transitions .count) 256) j)) (min (program .transitions .count) 256 + 20) r) ⌝ }
+    ensures { λ r. ⌜ (Walkable (now (code .entry)) (now (file .entry)) (now (list .entry)) (now (sum .entry)) n program cube → Full (programOf (now (code .entry)) program) (entriesOf (now (file .entry)) (now (list .entry)) n) (now (full .entry)) → LowestFailing (λ j. stepHeld (programOf (now (code .entry)) program) (entriesOf (now (file .entry)) (now (list .entry)) n) (configurationOf cube) (walkStep (min (program .transitions .count) 256) j)) (min (program .transitions .count) 256 + 20) r) ⌝ }
 {
     let row = program.transitions;
     let m = least(row.count, 256);
     let writes = last_writes(cube);
-    let t = open_take(code, file, list, sum, n, program, cube, writes);
+    let t = open_take(full, code, file, list, sum, n, program, cube, writes);
     if t < m {
         return t;
+    }
+    let states = cube.states;
+    // serialise and update leave local states as they are
+    if is_full(full, program.shape, states) {
+        return m + 20;
     }
     let s = open_serialise(file, list, sum, n, program, cube);
     if s < 16 {
@@ -158,8 +167,10 @@ fn opening_at(m: usize, j: usize) -> Opening
     Opening::Shut
 }
 
-// Through which step does a configuration outside the list get above entry k? `sum` is the list's summary.
+// Through which step does a configuration outside the list get above entry k? `sum` is the list's summary, and `full` a table of full local
+// states: what has such is not searched for.
 pub fn open_step(
+    full: &[u8],
     code: &[u8],
     file: &[u8],
     list: &[u8],
@@ -168,10 +179,10 @@ pub fn open_step(
     program: Program,
     k: usize,
 ) -> Opening
-    ensures { λ r. ⌜ (Walkable (now (code .entry)) (now (file .entry)) (now (list .entry)) (now (sum .entry)) n program (cubeAt (now (file .entry)) (now (list .entry)) k) → r ≡ openingOf (programOf (now (code .entry)) program) (entriesOf (now (file .entry)) (now (list .entry)) n) (configurationOf (cubeAt (now (file .entry)) (now (list .entry)) k))) ⌝ }
+    ensures { λ r. ⌜ (Walkable (now (code .entry)) (now (file .entry)) (now (list .entry)) (now (sum .entry)) n program (cubeAt (now (file .entry)) (now (list .entry)) k) → Full (programOf (now (code .entry)) program) (entriesOf (now (file .entry)) (now (list .entry)) n) (now (full .entry)) → r ≡ openingOf (programOf (now (code .entry)) program) (entriesOf (now (file .entry)) (now (list .entry)) n) (configurationOf (cubeAt (now (file .entry)) (now (list .entry)) k))) ⌝ }
 {
     let row = program.transitions;
     let m = least(row.count, 256);
     let cube = entry_at(file, list, k);
-    opening_at(m, cube_open(code, file, list, sum, n, program, cube))
+    opening_at(m, cube_open(full, code, file, list, sum, n, program, cube))
 }

@@ -13,6 +13,7 @@ ghost use Rattle.program_part.specs.ProgramPart.{shapeOf, programOf};
 ghost use Rattle.whole_file.specs.Cube.{configurationOf};
 ghost use Rattle.by_number.specs.Again.{transitionOf, entriesOf};
 ghost use Rattle.before.specs.Before.{LastWrites, takeBefore};
+ghost use Rattle.full_states.specs.Table.{Full};
 ghost use Rattle.closing.specs.Walk.{stepHeld, Walkable, Acting, TakenHeld};
 use before::newest::alike_before;
 use before::newest::at_newest;
@@ -27,6 +28,8 @@ use before::operations::may_swap;
 use before::operations::may_write;
 use before::queues::none_waiting;
 use cover::search::search;
+use full_states::is_full;
+use full_states::states_from;
 use matching::least;
 use program_part::bytes::both;
 use program_part::program::Program;
@@ -243,7 +246,7 @@ fn arw_held(
 }
 
 // Are all predecessor cubes for this transition held? It leads to the entry's local state.
-pub(crate) fn taken_held(
+fn taken_held(
     file: &[u8],
     list: &[u8],
     sum: &[u8],
@@ -301,4 +304,27 @@ pub(crate) fn taken_held(
             new,
         ),
     }
+}
+
+// The same, where local states that are known to be full need no search.
+pub(crate) fn before_held(
+    full: &[u8],
+    file: &[u8],
+    list: &[u8],
+    sum: &[u8],
+    n: usize,
+    program: Program,
+    cube: Cube,
+    writes: [u8; 16],
+    transition: Transition,
+) -> bool
+    ensures { λ r. ⌜ ((g : List ℕ) → Walkable g (now (file .entry)) (now (list .entry)) (now (sum .entry)) n program cube → LastWrites writes (configurationOf cube .memory) → Full (programOf g program) (entriesOf (now (file .entry)) (now (list .entry)) n) (now (full .entry)) → (j : ℕ) → j < program .transitions .count → transition ≡ transitionOf g program j → getD (cube .states) (transition .process) 0 ≡ transition .to → r ≡ stepHeld (programOf g program) (entriesOf (now (file .entry)) (now (list .entry)) n) (configurationOf cube) (Take j)) ⌝ }
+{
+    let states = cube.states;
+    let shape = program.shape;
+    let before = states_from(states, transition.process, transition.from);
+    if is_full(full, shape, before) {
+        return true;
+    }
+    taken_held(file, list, sum, n, program, cube, writes, transition)
 }

@@ -9,6 +9,7 @@ pub mod AreaLaws
 pub mod LowestLaws
 pub mod SummaryLaws
 pub mod ListLaws
+pub mod FullLaws
 pub mod JudgeLaws
 pub mod GroupLaws
 pub mod Pairs

@@ -1,7 +1,7 @@
 -- What the code knows of what was read: the program from the bytes g, the entries from the bytes f. No statement rests on these definitions.
-use Prim.Native.Nat.{ℕ, _+_, _*_, _-_, _<_, _≤_}
+use Prim.Native.Nat.{ℕ, zero, suc, _+_, _*_, _-_, _<_, _≤_}
 use mathlib.Core.Path.{_≡_}
-use mathlib.Core.Bool.{Bool, not}
+use mathlib.Core.Bool.{Bool, true, not}
 use mathlib.Core.Option.{none, some}
 use mathlib.Core.List.{List, _++_}
 use lib.ListN.{length, take, drop, replicate}
@@ -11,7 +11,8 @@ use Rattle.lists.specs.Verdict.{target}
 use Rattle.lists.specs.Decision.{targetHeld, looksStarted, closed, openStep, verdictOf}
 use Rattle.program_part.specs.declared.program.Program.{Program}
 use Rattle.program_part.specs.ProgramPart.{programOf, targetsOf}
-use Rattle.by_number.specs.Again.{cubeAt, entriesOf}
+use Rattle.by_number.specs.Again.{cubeAt, entriesOf, targetOf}
+use Rattle.full_states.specs.Table.{withStates}
 use Rattle.by_number.specs.Contents.{ProgramPartRead, EntryRange, ProgramSizes, CubeRange}
 use Rattle.summary.specs.Summary.{Summed}
 use Rattle.judge.specs.Judge.{Verdict, safe, entered, ofList}
@@ -48,6 +49,15 @@ pub record Ready (g f list sum : List ℕ) (n : ℕ) (p : Program) : Type 0 wher
 
 abbrev pub heldTest : List ℕ → List ℕ → List ℕ → ℕ → Program → ℕ → Bool
 heldTest g f list n p k = targetHeld (programOf g p) (entriesOf f list n) (target (targetsOf g p) k)
+
+-- number 9 is not said
+abbrev pub TargetsHeld : List ℕ → List ℕ → List ℕ → ℕ → Program → Type 0
+TargetsHeld g f list n p = (k : ℕ) → k < p .targets .count → heldTest g f list n p k ≡ true
+
+-- a table of full local states with those of the first m targets
+unfoldable pub withTargets : List ℕ → Program → List ℕ → ℕ → List ℕ
+withTargets g p table zero = table
+withTargets g p table (suc m) = withStates (withTargets g p table m) (p .shape) (targetOf g p m)
 
 abbrev pub startTest : List ℕ → List ℕ → List ℕ → ℕ → Program → ℕ → Bool
 startTest g f list n p k = not (looksStarted (programOf g p) (entry (entriesOf f list n) k))

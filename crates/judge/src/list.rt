@@ -1,16 +1,26 @@
 // A list judged to its end: each target against the list, each entry against the starts, each entry's predecessors (document 01, numbers 9, 10
 // and 11).
 ghost use mathlib.Core.Path.{_≡_};
+ghost use lib.ListN.{length};
+ghost use Rattle.pws.specs.Program as pws;
+ghost use Rattle.program_part.specs.ProgramPart.{shapeOf};
+ghost use Rattle.by_number.specs.Again.{entriesOf};
+ghost use Rattle.full_states.specs.Table.{Full};
+ghost use Rattle.targets.specs.Walk.{Searches};
 ghost use Rattle.closing.specs.Walk.{LowestFailing};
 ghost use Rattle.judge.specs.Answers.{verdictIn};
-ghost use Rattle.judge.specs.Ready.{Ready, heldTest, startTest, enteredSaid, listSaid};
+ghost use Rattle.judge.specs.Ready.{Ready, TargetsHeld, withTargets, heldTest, startTest, enteredSaid, listSaid};
 use crate::answer::Answer;
 use by_number::entry_at;
 use by_number::target_of;
 use closing::Opening;
 use closing::open_step;
+use full_states::put_full;
+use program_part::bytes::both;
 use program_part::program::Program;
+use program_part::program::Shape;
 use targets::looks_started;
+use targets::put_groups;
 use targets::target_held;
 
 // The lowest target that is not held, or the number of targets.
@@ -60,6 +70,67 @@ fn lowest_started(
     n
 }
 
+// At least so many entries hold everything of one target (README, "Limits"); no list has so many for any other shape. Only the speed depends
+// on it.
+fn least_entries(shape: Shape) -> usize {
+    let processes = shape.processes;
+    let variables = shape.variables;
+    if processes == 1 {
+        return least_alone(variables);
+    }
+    if both(processes == 2, variables == 1) {
+        return 232;
+    }
+    if both(processes == 2, variables == 2) {
+        return 52288;
+    }
+    if both(processes == 3, variables == 1) {
+        return 44304;
+    }
+    524289
+}
+
+// Of one process.
+fn least_alone(variables: usize) -> usize {
+    match variables {
+        1 => 4,
+        2 => 40,
+        3 => 384,
+        4 => 4160,
+        _ => 524289,
+    }
+}
+
+// The targets are full: number 9 was tested.
+fn put_targets(code: &[u8], program: Program, table: &mut [u8])
+    ensures { λ _. ⌜ now (table .exit) ≡ withTargets (now (code .entry)) program (now (table .entry)) (program .targets .count) ⌝ }
+{
+    let shape = program.shape;
+    let targets = program.targets;
+    let count = targets.count;
+    for k in 0..count {
+        put_full(table, shape, target_of(code, program, k));
+    }
+}
+
+// After a part of the entries the other groups are tested too: before, a way in may be found with less.
+fn put_others(
+    file: &[u8],
+    list: &[u8],
+    sum: &[u8],
+    n: usize,
+    shape: Shape,
+    k: usize,
+    table: &mut [u8],
+)
+    ensures { λ _. ⌜ (length (now (table .exit)) ≡ length (now (table .entry))) × ((P : pws.Program) → P .shape ≡ shapeOf shape → pws.ProgramInRange P → Searches (now (file .entry)) (now (list .entry)) (now (sum .entry)) n shape → Full P (entriesOf (now (file .entry)) (now (list .entry)) n) (now (table .entry)) → Full P (entriesOf (now (file .entry)) (now (list .entry)) n) (now (table .exit))) ⌝ }
+{
+    if k != n / 32 {
+        return;
+    }
+    put_groups(file, list, sum, n, shape, least_entries(shape), table);
+}
+
 // The lowest entry with a way in from outside the list, and the lowest step of it; safe if there is none.
 fn lowest_entered(
     code: &[u8],
@@ -69,11 +140,16 @@ fn lowest_entered(
     n: usize,
     program: Program,
 ) -> Answer
-    requires { ⌜ Ready (now code) (now file) (now list) (now sum) n program ⌝ }
+    requires { ⌜ Ready (now code) (now file) (now list) (now sum) n program × TargetsHeld (now code) (now file) (now list) n program ⌝ }
     ensures { λ r. ⌜ verdictIn r ≡ enteredSaid (now (code .entry)) (now (file .entry)) (now (list .entry)) n program ⌝ }
 {
+    let shape = program.shape;
+    // local states that no process has
+    let mut table = [255u8; 4096];
+    put_targets(code, program, &mut table);
     for k in 0..n {
-        let opening = open_step(code, file, list, sum, n, program, k);
+        put_others(file, list, sum, n, shape, k, &mut table);
+        let opening = open_step(&table, code, file, list, sum, n, program, k);
         if let Opening::Through { step } = opening {
             return Answer::Entered {
                 entry: k,

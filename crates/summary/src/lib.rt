@@ -6,6 +6,7 @@ mod slots;
 mod walking;
 
 pub use adding::summarise;
+pub use slots::count_at;
 pub use walking::Walk;
 pub use walking::onward;
 pub use walking::walk_from;

@@ -144,7 +144,7 @@ pub(crate) fn next_link(sum: &[u8], k: usize) -> usize
 }
 
 // The number in the group that entry k leads; 0 if it leads none.
-pub(crate) fn count_at(sum: &[u8], k: usize) -> usize
+pub fn count_at(sum: &[u8], k: usize) -> usize
     ensures { λ r. ⌜ r ≡ countAt (now (sum .entry)) k ⌝ }
     ensures { λ r. ⌜ r < 1048576 ⌝ }
 {

@@ -7,3 +7,4 @@ pub mod ChannelWalk
 pub mod QueueSteps
 pub mod ChannelSteps
 pub mod TargetLaws
+pub mod GroupLaws

@@ -28,8 +28,10 @@ use pws::Message;
 use whole_file::entry::Cube;
 use whole_file::entry::Queue;
 
+mod groups;
 mod starts;
 
+pub use groups::put_groups;
 pub use starts::looks_started;
 
 // ---- shapes (section 3)

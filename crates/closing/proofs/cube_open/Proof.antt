@@ -1,5 +1,5 @@
 use Prim.Native.Nat.{ℕ, _+_, _<_, _≤_, min}
-use mathlib.Core.Path.{_≡_, sym, subst}
+use mathlib.Core.Path.{_≡_, sym, subst, _∙_}
 use Rattle.pws.specs.declared.Step.{Step}
 use Rattle.program_part.specs.ProgramPart.{programOf}
 use Rattle.whole_file.specs.Cube.{configurationOf}
@@ -7,6 +7,7 @@ use Rattle.by_number.specs.Again.{entriesOf}
 use Rattle.before.proofs.MessageLaws.{all-messages}
 use Rattle.closing.specs.Walk.{stepHeld, walkStep, LowestFailing}
 use Rattle.closing.proofs.WalkLaws.{walk-take, walk-serialise, walk-update}
+use Rattle.closing.proofs.FullLaws.{walk-full}
 use native.Mathlib.Omega.{arith}
 use borrow.Author.Needs.{needs}
 use Rattle.closing.proofs.cube_open.Statement.{statement}
@@ -21,18 +22,24 @@ cube-open-spec = tie.close (tie.spec
     -- open-take-requires
     (λ c κs. search needs)
     -- returns
-    (λ c. λ W. walk-take (stepHeld (programOf (c .before .before .before .before .before .before .before .before .before .args .code .now) (c .before .before .before .before .before .before .before .before .before .args .program)) (entriesOf (c .before .before .before .before .before .before .before .before .before .args .file .now) (c .before .before .before .before .before .before .before .before .before .args .list .now) (c .before .before .before .before .before .before .before .before .before .args .n)) (configurationOf (c .before .before .before .before .before .before .before .before .before .args .cube))) (min ((c .before .before .before .before .before .before .before .before .before .args .program) .transitions .count) 256) (c .before .open-take .ensures .1 W (all-messages (W .stepping .sound) (c .before .before .last-writes .result) (c .before .before .last-writes .ensures))) (omega (arith, c .if1 .taken, c .before .before .before .least .ensures)))
-    -- open-serialise-requires
+    (λ c. λ W F. walk-take (stepHeld (programOf (c .before .before .before .before .before .before .before .before .before .before .args .code .now) (c .before .before .before .before .before .before .before .before .before .before .args .program)) (entriesOf (c .before .before .before .before .before .before .before .before .before .before .args .file .now) (c .before .before .before .before .before .before .before .before .before .before .args .list .now) (c .before .before .before .before .before .before .before .before .before .before .args .n)) (configurationOf (c .before .before .before .before .before .before .before .before .before .before .args .cube))) (min ((c .before .before .before .before .before .before .before .before .before .before .args .program) .transitions .count) 256) (c .before .open-take .ensures .1 W (all-messages (W .stepping .sound) (c .before .before .last-writes .result) (c .before .before .last-writes .ensures)) F) (omega (arith, c .if1 .taken, c .before .before .before .least .ensures)))
+    -- is-full-requires
     (λ c κs. search needs)
     -- add-result
-    (λ c. omega (arith, c .before .before .before .before .before .least .ensures, c .if2 .taken))
+    (λ c. omega (arith, c .before .before .before .before .before .before .least .ensures))
     -- returns-2
-    (λ c. λ W. rw (c .before .before .before .before .before .least .ensures) (walk-serialise (stepHeld (programOf (c .before .before .before .before .before .before .before .before .before .before .before .args .code .now) (c .before .before .before .before .before .before .before .before .before .before .before .args .program)) (entriesOf (c .before .before .before .before .before .before .before .before .before .before .before .args .file .now) (c .before .before .before .before .before .before .before .before .before .before .before .args .list .now) (c .before .before .before .before .before .before .before .before .before .before .before .args .n)) (configurationOf (c .before .before .before .before .before .before .before .before .before .before .before .args .cube))) (min ((c .before .before .before .before .before .before .before .before .before .before .before .args .program) .transitions .count) 256) (c .before .before .before .open-take .ensures .1 W (all-messages (W .stepping .sound) (c .before .before .before .before .last-writes .result) (c .before .before .before .before .last-writes .ensures))) (omega (arith, c .before .before .if1 .left, c .before .before .before .before .before .least .ensures)) (c .before .open-serialise .ensures .1 (c .before .before .before .before .before .before .before .before .before .before .before .args .code .now) W) (c .if2 .taken)))
-    -- open-update-requires
+    (λ c. λ W F. rw (c .before .before .before .before .before .before .least .ensures) (walk-full (c .before .before .before .before .before .before .before .before .before .before .before .before .before .args .code .now) (c .before .before .before .before .before .before .before .before .before .before .before .before .before .args .file .now) (c .before .before .before .before .before .before .before .before .before .before .before .before .before .args .list .now) (c .before .before .before .before .before .before .before .before .before .before .before .before .before .args .sum .now) (c .before .before .before .before .before .before .before .before .before .before .before .before .before .args .n) (c .before .before .before .before .before .before .before .before .before .before .before .before .before .args .program) (c .before .before .before .before .before .before .before .before .before .before .before .before .before .args .cube) (c .before .before .before .before .before .before .before .before .before .before .before .before .before .args .full .now) W F (sym (c .before .is-full .ensures) ∙ c .if2 .taken) (min ((c .before .before .before .before .before .before .before .before .before .before .before .before .before .args .program) .transitions .count) 256) (c .before .before .before .before .open-take .result) (c .before .before .before .before .open-take .ensures .1 W (all-messages (W .stepping .sound) (c .before .before .before .before .before .last-writes .result) (c .before .before .before .before .before .last-writes .ensures)) F) (omega (arith, c .before .before .before .if1 .left, c .before .before .before .before .before .before .least .ensures))))
+    -- open-serialise-requires
     (λ c κs. search needs)
     -- add-result-2
-    (λ c. omega (arith, c .before .before .before .before .before .before .least .ensures))
-    -- add-result-3
-    (λ c. omega (arith, c .before .before .before .before .before .before .least .ensures, c .open-update .ensures .0))
+    (λ c. omega (arith, c .before .before .before .before .before .before .before .before .least .ensures, c .if3 .taken))
     -- returns-3
-    (λ c. λ W. let w = all-messages (W .stepping .sound) (c .before .before .before .before .before .last-writes .result) (c .before .before .before .before .before .last-writes .ensures) in rw (c .before .before .before .before .before .before .least .ensures) (walk-update (stepHeld (programOf (c .before .before .before .before .before .before .before .before .before .before .before .before .args .code .now) (c .before .before .before .before .before .before .before .before .before .before .before .before .args .program)) (entriesOf (c .before .before .before .before .before .before .before .before .before .before .before .before .args .file .now) (c .before .before .before .before .before .before .before .before .before .before .before .before .args .list .now) (c .before .before .before .before .before .before .before .before .before .before .before .before .args .n)) (configurationOf (c .before .before .before .before .before .before .before .before .before .before .before .before .args .cube))) (min ((c .before .before .before .before .before .before .before .before .before .before .before .before .args .program) .transitions .count) 256) (c .before .before .before .before .open-take .ensures .1 W w) (omega (arith, c .before .before .before .if1 .left, c .before .before .before .before .before .before .least .ensures)) (c .before .before .open-serialise .ensures .1 (c .before .before .before .before .before .before .before .before .before .before .before .before .args .code .now) W) (omega (arith, c .before .if2 .left)) (c .open-update .ensures .1 (c .before .before .before .before .before .before .before .before .before .before .before .before .args .code .now) W w))))
+    (λ c. λ W F. rw (c .before .before .before .before .before .before .before .before .least .ensures) (walk-serialise (stepHeld (programOf (c .before .before .before .before .before .before .before .before .before .before .before .before .before .before .before .args .code .now) (c .before .before .before .before .before .before .before .before .before .before .before .before .before .before .before .args .program)) (entriesOf (c .before .before .before .before .before .before .before .before .before .before .before .before .before .before .before .args .file .now) (c .before .before .before .before .before .before .before .before .before .before .before .before .before .before .before .args .list .now) (c .before .before .before .before .before .before .before .before .before .before .before .before .before .before .before .args .n)) (configurationOf (c .before .before .before .before .before .before .before .before .before .before .before .before .before .before .before .args .cube))) (min ((c .before .before .before .before .before .before .before .before .before .before .before .before .before .before .before .args .program) .transitions .count) 256) (c .before .before .before .before .before .before .open-take .ensures .1 W (all-messages (W .stepping .sound) (c .before .before .before .before .before .before .before .last-writes .result) (c .before .before .before .before .before .before .before .last-writes .ensures)) F) (omega (arith, c .before .before .before .before .before .if1 .left, c .before .before .before .before .before .before .before .before .least .ensures)) (c .before .open-serialise .ensures .1 (c .before .before .before .before .before .before .before .before .before .before .before .before .before .before .before .args .code .now) W) (c .if3 .taken)))
+    -- open-update-requires
+    (λ c κs. search needs)
+    -- add-result-3
+    (λ c. omega (arith, c .before .before .before .before .before .before .before .before .before .least .ensures))
+    -- add-result-4
+    (λ c. omega (arith, c .before .before .before .before .before .before .before .before .before .least .ensures, c .open-update .ensures .0))
+    -- returns-4
+    (λ c. λ W F. let w = (all-messages (W .stepping .sound) (c .before .before .before .before .before .before .before .before .last-writes .result) (c .before .before .before .before .before .before .before .before .last-writes .ensures)) in rw (c .before .before .before .before .before .before .before .before .before .least .ensures) (walk-update (stepHeld (programOf (c .before .before .before .before .before .before .before .before .before .before .before .before .before .before .before .before .args .code .now) (c .before .before .before .before .before .before .before .before .before .before .before .before .before .before .before .before .args .program)) (entriesOf (c .before .before .before .before .before .before .before .before .before .before .before .before .before .before .before .before .args .file .now) (c .before .before .before .before .before .before .before .before .before .before .before .before .before .before .before .before .args .list .now) (c .before .before .before .before .before .before .before .before .before .before .before .before .before .before .before .before .args .n)) (configurationOf (c .before .before .before .before .before .before .before .before .before .before .before .before .before .before .before .before .args .cube))) (min ((c .before .before .before .before .before .before .before .before .before .before .before .before .before .before .before .before .args .program) .transitions .count) 256) (c .before .before .before .before .before .before .before .open-take .ensures .1 W w F) (omega (arith, c .before .before .before .before .before .before .if1 .left, c .before .before .before .before .before .before .before .before .before .least .ensures)) (c .before .before .open-serialise .ensures .1 (c .before .before .before .before .before .before .before .before .before .before .before .before .before .before .before .before .args .code .now) W) (omega (arith, c .before .if3 .left)) (c .open-update .ensures .1 (c .before .before .before .before .before .before .before .before .before .before .before .before .before .before .before .before .args .code .now) W w))))

@@ -4,6 +4,7 @@ use Rattle.whole_file.specs.declared.entry.Cube.{Cube}
 use Rattle.program_part.specs.ProgramPart.{programOf}
 use Rattle.whole_file.specs.Cube.{configurationOf}
 use Rattle.by_number.specs.Again.{cubeAt, entriesOf}
+use Rattle.full_states.specs.Table.{Full}
 use Rattle.closing.specs.Walk.{stepHeld, walkStep, openingAt, LowestFailing, Walkable}
 use Rattle.closing.proofs.WalkLaws.{opening-is}
 use borrow.Author.Needs.{needs}
@@ -21,4 +22,4 @@ open-step-spec = tie.close (tie.spec
     -- opening-at-requires
     (λ c κs. search needs)
     -- returns
-    (λ c. λ W. c .opening-at .ensures ∙ ap (λ (m : ℕ). openingAt m (c .before .cube-open .result)) (c .before .before .before .least .ensures) ∙ opening-is (c .before .before .before .before .before .before .before .before .before .args .code .now) (c .before .before .before .before .before .before .before .before .before .args .file .now) (c .before .before .before .before .before .before .before .before .before .args .list .now) (c .before .before .before .before .before .before .before .before .before .args .sum .now) (c .before .before .before .before .before .before .before .before .before .args .n) (c .before .before .before .before .before .before .before .before .before .args .program) (cubeAt (c .before .before .before .before .before .before .before .before .before .args .file .now) (c .before .before .before .before .before .before .before .before .before .args .list .now) (c .before .before .before .before .before .before .before .before .before .args .k)) W (subst (λ (k : Cube). Walkable (c .before .before .before .before .before .before .before .before .before .args .code .now) (c .before .before .before .before .before .before .before .before .before .args .file .now) (c .before .before .before .before .before .before .before .before .before .args .list .now) (c .before .before .before .before .before .before .before .before .before .args .sum .now) (c .before .before .before .before .before .before .before .before .before .args .n) (c .before .before .before .before .before .before .before .before .before .args .program) k → LowestFailing (λ j. stepHeld (programOf (c .before .before .before .before .before .before .before .before .before .args .code .now) (c .before .before .before .before .before .before .before .before .before .args .program)) (entriesOf (c .before .before .before .before .before .before .before .before .before .args .file .now) (c .before .before .before .before .before .before .before .before .before .args .list .now) (c .before .before .before .before .before .before .before .before .before .args .n)) (configurationOf k) (walkStep (min ((c .before .before .before .before .before .before .before .before .before .args .program) .transitions .count) 256) j)) (min ((c .before .before .before .before .before .before .before .before .before .args .program) .transitions .count) 256 + 20) (c .before .cube-open .result)) (c .before .before .entry-at .ensures) (c .before .cube-open .ensures) W)))
+    (λ c. λ W F. c .opening-at .ensures ∙ ap (λ (m : ℕ). openingAt m (c .before .cube-open .result)) (c .before .before .before .least .ensures) ∙ opening-is (c .before .before .before .before .before .before .before .before .before .before .args .code .now) (c .before .before .before .before .before .before .before .before .before .before .args .file .now) (c .before .before .before .before .before .before .before .before .before .before .args .list .now) (c .before .before .before .before .before .before .before .before .before .before .args .sum .now) (c .before .before .before .before .before .before .before .before .before .before .args .n) (c .before .before .before .before .before .before .before .before .before .before .args .program) (cubeAt (c .before .before .before .before .before .before .before .before .before .before .args .file .now) (c .before .before .before .before .before .before .before .before .before .before .args .list .now) (c .before .before .before .before .before .before .before .before .before .before .args .k)) W (subst (λ (k : Cube). Walkable (c .before .before .before .before .before .before .before .before .before .before .args .code .now) (c .before .before .before .before .before .before .before .before .before .before .args .file .now) (c .before .before .before .before .before .before .before .before .before .before .args .list .now) (c .before .before .before .before .before .before .before .before .before .before .args .sum .now) (c .before .before .before .before .before .before .before .before .before .before .args .n) (c .before .before .before .before .before .before .before .before .before .before .args .program) k → Full (programOf (c .before .before .before .before .before .before .before .before .before .before .args .code .now) (c .before .before .before .before .before .before .before .before .before .before .args .program)) (entriesOf (c .before .before .before .before .before .before .before .before .before .before .args .file .now) (c .before .before .before .before .before .before .before .before .before .before .args .list .now) (c .before .before .before .before .before .before .before .before .before .before .args .n)) (c .before .before .before .before .before .before .before .before .before .before .args .full .now) → LowestFailing (λ j. stepHeld (programOf (c .before .before .before .before .before .before .before .before .before .before .args .code .now) (c .before .before .before .before .before .before .before .before .before .before .args .program)) (entriesOf (c .before .before .before .before .before .before .before .before .before .before .args .file .now) (c .before .before .before .before .before .before .before .before .before .before .args .list .now) (c .before .before .before .before .before .before .before .before .before .before .args .n)) (configurationOf k) (walkStep (min ((c .before .before .before .before .before .before .before .before .before .before .args .program) .transitions .count) 256) j)) (min ((c .before .before .before .before .before .before .before .before .before .before .args .program) .transitions .count) 256 + 20) (c .before .cube-open .result)) (c .before .before .entry-at .ensures) (c .before .cube-open .ensures) W F)))

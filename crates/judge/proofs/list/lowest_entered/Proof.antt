@@ -1,37 +1,49 @@
 use Prim.Native.Nat.{_-_}
+use mathlib.Core.Path.{_≡_, refl, sym, _∙_}
 use native.Mathlib.Omega.{arith}
 use borrow.Author.Needs.{needs}
-use Rattle.judge.specs.Ready.{closedTest}
-use Rattle.judge.proofs.LowestLaws.{SoFar, so-far-begin, so-far-next}
-use Rattle.judge.proofs.ListLaws.{closed-here, entered-here, safe-here}
+use Rattle.program_part.specs.ProgramPart.{programOf}
+use Rattle.judge.proofs.LowestLaws.{so-far-next}
+use Rattle.judge.proofs.ListLaws.{searches, closed-here, entered-here, safe-here}
+use Rattle.judge.proofs.FullLaws.{Going, going-begin}
 use Rattle.judge.proofs.list.lowest_entered.Statement.{statement}
 use Rattle.judge.proofs.list.lowest_entered.Tie as tie
 
 abbrev Inv-loop : tie.InvT-loop
-Inv-loop code file list sum n program k₀ k = SoFar (closedTest code file list n program) n k
+Inv-loop code file list sum n program shape table₀ k₀ table k = Going code file list n program table k
 
 abbrev μ-loop : tie.MeasureT-loop
-μ-loop code file list sum n program k₀ k = n - k
+μ-loop code file list sum n program shape table₀ k₀ table k = n - k
 
 pub lowest-entered-spec : {M : Type 1} → statement M
 lowest-entered-spec = tie.close (tie.spec
     Inv-loop
     μ-loop
+    -- slice-aggregate-put-targets
+    (λ c. search needs)
+    -- put-targets-requires
+    (λ c κs. search needs)
     -- loop-holds
-    (λ c. so-far-begin _ _)
+    (λ c. going-begin (c .before .before .before .before .before .before .before .before .args .code .now) (c .before .before .before .before .before .before .before .before .args .file .now) (c .before .before .before .before .before .before .before .before .args .list .now) (c .before .before .before .before .before .before .before .before .args .sum .now) (c .before .before .before .before .before .before .before .before .args .n) (c .before .before .before .before .before .before .before .before .args .program) (c .before .before .before .before .before .before .before .before .pre .0) (c .before .before .before .before .before .before .before .before .pre .1) 4096 _ _ refl (c .before .put-targets .ensures) (search needs))
+    -- slice-aggregate-put-others
+    (λ c. sym (c .before .before .loop .inv .room))
+    -- put-others-requires
+    (λ c κs. search needs)
+    -- slice-aggregate-open-step
+    (λ c. sym (c .before .before .put-others .ensures .0 ∙ c .before .before .before .before .before .loop .inv .room))
     -- open-step-requires
     (λ c κs. search needs)
     -- enum-known-opening
     (λ c. search needs)
     -- returns
-    (λ c. entered-here (c .before .before .before .before .before .before .before .before .before .before .args .code .now) (c .before .before .before .before .before .before .before .before .before .before .args .file .now) (c .before .before .before .before .before .before .before .before .before .before .args .list .now) (c .before .before .before .before .before .before .before .before .before .before .args .sum .now) (c .before .before .before .before .before .before .before .before .before .before .args .n) (c .before .before .before .before .before .before .before .before .before .before .args .program) (c .before .before .before .before .before .before .before .before .before .before .pre) (c .before .before .before .before .before .loop .k) (c .before .before .before .before .loop-test .taken) _ (c .before .before .before .open-step .ensures) _ (c .before .opening .given .1) (c .before .before .before .before .before .loop .inv))
+    (λ c. entered-here (c .before .before .before .before .before .before .before .before .before .before .before .before .before .before .before .before .before .before .args .code .now) (c .before .before .before .before .before .before .before .before .before .before .before .before .before .before .before .before .before .before .args .file .now) (c .before .before .before .before .before .before .before .before .before .before .before .before .before .before .before .before .before .before .args .list .now) (c .before .before .before .before .before .before .before .before .before .before .before .before .before .before .before .before .before .before .args .sum .now) (c .before .before .before .before .before .before .before .before .before .before .before .before .before .before .before .before .before .before .args .n) (c .before .before .before .before .before .before .before .before .before .before .before .before .before .before .before .before .before .before .args .program) (c .before .before .before .before .before .before .before .before .before .before .before .before .before .before .before .before .before .before .pre .0) (c .before .before .before .before .before .before .before .before .before .loop .k) (c .before .before .before .before .before .before .before .before .loop-test .taken) _ (λ W. c .before .before .before .open-step .ensures W (c .before .before .before .before .before .before .put-others .ensures .1 (programOf (c .before .before .before .before .before .before .before .before .before .before .before .before .before .before .before .before .before .before .args .code .now) (c .before .before .before .before .before .before .before .before .before .before .before .before .before .before .before .before .before .before .args .program)) refl (c .before .before .before .before .before .before .before .before .before .before .before .before .before .before .before .before .before .before .pre .0 .part .program) (searches (c .before .before .before .before .before .before .before .before .before .before .before .before .before .before .before .before .before .before .args .code .now) (c .before .before .before .before .before .before .before .before .before .before .before .before .before .before .before .before .before .before .args .file .now) (c .before .before .before .before .before .before .before .before .before .before .before .before .before .before .before .before .before .before .args .list .now) (c .before .before .before .before .before .before .before .before .before .before .before .before .before .before .before .before .before .before .args .sum .now) (c .before .before .before .before .before .before .before .before .before .before .before .before .before .before .before .before .before .before .args .n) (c .before .before .before .before .before .before .before .before .before .before .before .before .before .before .before .before .before .before .args .program) (c .before .before .before .before .before .before .before .before .before .before .before .before .before .before .before .before .before .before .pre .0)) (c .before .before .before .before .before .before .before .before .before .loop .inv .full))) _ (c .before .opening .given .1) (c .before .before .before .before .before .before .before .before .before .loop .inv .passed))
     -- enum-told
     (λ c. search needs)
     -- add-k
     (λ c. search needs)
     -- loop-less
-    (λ c. search needs)
+    (λ c. omega (arith, c .before .before .before .before .before .before .before .loop-test .taken))
     -- loop-again
-    (λ c. so-far-next (c .before .before .before .before .loop .inv) (c .before .before .before .loop-test .taken) (closed-here (c .before .before .before .before .before .before .before .before .before .args .code .now) (c .before .before .before .before .before .before .before .before .before .args .file .now) (c .before .before .before .before .before .before .before .before .before .args .list .now) (c .before .before .before .before .before .before .before .before .before .args .sum .now) (c .before .before .before .before .before .before .before .before .before .args .n) (c .before .before .before .before .before .before .before .before .before .args .program) (c .before .before .before .before .before .before .before .before .before .pre) (c .before .before .before .before .loop .k) (c .before .before .before .loop-test .taken) _ (c .before .before .open-step .ensures) (c .enum-told .given .1)))
+    (λ c. record { room = c .before .before .before .before .before .put-others .ensures .0 ∙ c .before .before .before .before .before .before .before .before .loop .inv .room; passed = so-far-next (c .before .before .before .before .before .before .before .before .loop .inv .passed) (c .before .before .before .before .before .before .before .loop-test .taken) (closed-here (c .before .before .before .before .before .before .before .before .before .before .before .before .before .before .before .before .before .args .code .now) (c .before .before .before .before .before .before .before .before .before .before .before .before .before .before .before .before .before .args .file .now) (c .before .before .before .before .before .before .before .before .before .before .before .before .before .before .before .before .before .args .list .now) (c .before .before .before .before .before .before .before .before .before .before .before .before .before .before .before .before .before .args .sum .now) (c .before .before .before .before .before .before .before .before .before .before .before .before .before .before .before .before .before .args .n) (c .before .before .before .before .before .before .before .before .before .before .before .before .before .before .before .before .before .args .program) (c .before .before .before .before .before .before .before .before .before .before .before .before .before .before .before .before .before .pre .0) (c .before .before .before .before .before .before .before .before .loop .k) (c .before .before .before .before .before .before .before .loop-test .taken) _ (λ W. c .before .before .open-step .ensures W (c .before .before .before .before .before .put-others .ensures .1 (programOf (c .before .before .before .before .before .before .before .before .before .before .before .before .before .before .before .before .before .args .code .now) (c .before .before .before .before .before .before .before .before .before .before .before .before .before .before .before .before .before .args .program)) refl (c .before .before .before .before .before .before .before .before .before .before .before .before .before .before .before .before .before .pre .0 .part .program) (searches (c .before .before .before .before .before .before .before .before .before .before .before .before .before .before .before .before .before .args .code .now) (c .before .before .before .before .before .before .before .before .before .before .before .before .before .before .before .before .before .args .file .now) (c .before .before .before .before .before .before .before .before .before .before .before .before .before .before .before .before .before .args .list .now) (c .before .before .before .before .before .before .before .before .before .before .before .before .before .before .before .before .before .args .sum .now) (c .before .before .before .before .before .before .before .before .before .before .before .before .before .before .before .before .before .args .n) (c .before .before .before .before .before .before .before .before .before .before .before .before .before .before .before .before .before .args .program) (c .before .before .before .before .before .before .before .before .before .before .before .before .before .before .before .before .before .pre .0)) (c .before .before .before .before .before .before .before .before .loop .inv .full))) (c .enum-told .given .1)); full = (c .before .before .before .before .before .put-others .ensures .1 (programOf (c .before .before .before .before .before .before .before .before .before .before .before .before .before .before .before .before .before .args .code .now) (c .before .before .before .before .before .before .before .before .before .before .before .before .before .before .before .before .before .args .program)) refl (c .before .before .before .before .before .before .before .before .before .before .before .before .before .before .before .before .before .pre .0 .part .program) (searches (c .before .before .before .before .before .before .before .before .before .before .before .before .before .before .before .before .before .args .code .now) (c .before .before .before .before .before .before .before .before .before .before .before .before .before .before .before .before .before .args .file .now) (c .before .before .before .before .before .before .before .before .before .before .before .before .before .before .before .before .before .args .list .now) (c .before .before .before .before .before .before .before .before .before .before .before .before .before .before .before .before .before .args .sum .now) (c .before .before .before .before .before .before .before .before .before .before .before .before .before .before .before .before .before .args .n) (c .before .before .before .before .before .before .before .before .before .before .before .before .before .before .before .before .before .args .program) (c .before .before .before .before .before .before .before .before .before .before .before .before .before .before .before .before .before .pre .0)) (c .before .before .before .before .before .before .before .before .loop .inv .full)) })
     -- returns-2
-    (λ c. safe-here (c .before .before .before .before .before .before .args .code .now) (c .before .before .before .before .before .before .args .file .now) (c .before .before .before .before .before .before .args .list .now) (c .before .before .before .before .before .before .args .sum .now) (c .before .before .before .before .before .before .args .n) (c .before .before .before .before .before .before .args .program) (c .before .loop .k) (c .before .loop .inv) (omega (arith, c .loop-test .left))))
+    (λ c. safe-here (c .before .before .before .before .before .before .before .before .before .before .args .code .now) (c .before .before .before .before .before .before .before .before .before .before .args .file .now) (c .before .before .before .before .before .before .before .before .before .before .args .list .now) (c .before .before .before .before .before .before .before .before .before .before .args .sum .now) (c .before .before .before .before .before .before .before .before .before .before .args .n) (c .before .before .before .before .before .before .before .before .before .before .args .program) (c .before .loop .k) (c .before .loop .inv .passed) (omega (arith, c .loop-test .left))))

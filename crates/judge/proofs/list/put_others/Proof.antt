@@ -1,0 +1,22 @@
+use Prim.Native.Nat.{_≤_}
+use mathlib.Core.Path.{_≡_, refl, sym, subst, _∙_}
+use native.Mathlib.Omega.{arith}
+use Rattle.by_number.specs.Again.{entriesOf}
+use Rattle.full_states.specs.Table.{Full}
+use Rattle.targets.proofs.GroupLaws.{full-groups}
+use borrow.Author.Needs.{needs}
+use Rattle.judge.proofs.list.put_others.Statement.{statement}
+use Rattle.judge.proofs.list.put_others.Tie as tie
+
+pub put-others-spec : {M : Type 1} → statement M
+put-others-spec = tie.close (tie.spec
+    -- returns
+    (λ c. (refl, λ P e R S F. F))
+    -- least-entries-requires
+    (λ c κs. search needs)
+    -- put-groups-requires
+    (λ c κs. search needs)
+    -- same-length
+    (λ c. search needs)
+    -- returns-2
+    (λ c. (search needs, λ P e R S F. subst (Full P (entriesOf (c .before .before .before .before .before .before .before .before .before .before .args .file .now) (c .before .before .before .before .before .before .before .before .before .before .args .list .now) (c .before .before .before .before .before .before .before .before .before .before .args .n))) (sym (c .before .before .put-groups .ensures S)) (full-groups P R (c .before .before .before .before .before .before .before .before .before .before .args .file .now) (c .before .before .before .before .before .before .before .before .before .before .args .list .now) (c .before .before .before .before .before .before .before .before .before .before .args .sum .now) (c .before .before .before .before .before .before .before .before .before .before .args .n) (c .before .before .before .before .before .before .before .before .before .before .args .shape) (c .before .before .before .before .least-entries .result) e (c .before .before .before .before .before .before .before .before .before .before .args .table .now) F (c .before .before .before .before .before .before .before .before .before .before .args .n) (omega arith)))))
