@@ -24,7 +24,6 @@ use Rattle.lists.specs.Decision.{held}
 use Rattle.lists.proofs.Lists.{T-true}
 use Rattle.program_part.specs.declared.program.Shape.{Shape}
 use Rattle.program_part.specs.Bytes.{choose}
-use Rattle.matching.specs.Number.{statesMixed}
 use Rattle.full_states.specs.Table.{fourAt, Full, placeOf, isFull, putFour, withStates, statesFrom}
 use Rattle.full_states.proofs.Steps.{statesBefore, full-step}
 
@@ -48,30 +47,30 @@ from-is states p x (suc (suc (suc (suc q)))) l = absurd (omega arith)
 
 -- ---- what the code computes
 
-pub full-short : (table states : List ℕ) (s : Shape) (at : ℕ) → at ≡ placeOf s states → length table < at + 4 → false ≡ isFull table s states
+pub full-short : (table states : List ℕ) (s : Shape) (at : ℕ) → at ≡ placeOf states → length table < at + 4 → false ≡ isFull table s states
 unfolding isFull
 full-short table states s at e l =
-    sym (ap (λ (b : Bool). cond b (allBelow (min (s .processes) 4) (λ q. eqb (getD (fourAt table (placeOf s states)) q 0) (getD states q 0))) false)
-    (lt-leb (placeOf s states + 4) (length table) (omega arith)))
+    sym (ap (λ (b : Bool). cond b (allBelow (min (s .processes) 4) (λ q. eqb (getD (fourAt table (placeOf states)) q 0) (getD states q 0))) false)
+    (lt-leb (placeOf states + 4) (length table) (omega arith)))
 
-pub full-read : (table states : List ℕ) (s : Shape) (at : ℕ) → at ≡ placeOf s states → at + 4 ≤ length table
+pub full-read : (table states : List ℕ) (s : Shape) (at : ℕ) → at ≡ placeOf states → at + 4 ≤ length table
     → allBelow (min (s .processes) 4) (λ q. eqb (getD (fourAt table at) q 0) (getD states q 0)) ≡ isFull table s states
 unfolding isFull
 full-read table states s at e l =
     ap (λ (i : ℕ). allBelow (min (s .processes) 4) (λ q. eqb (getD (fourAt table i) q 0) (getD states q 0))) e
-    ∙ sym (ap (λ (b : Bool). cond b (allBelow (min (s .processes) 4) (λ q. eqb (getD (fourAt table (placeOf s states)) q 0) (getD states q 0))) false)
-    (le-leb (placeOf s states + 4) (length table) (omega arith)))
+    ∙ sym (ap (λ (b : Bool). cond b (allBelow (min (s .processes) 4) (λ q. eqb (getD (fourAt table (placeOf states)) q 0) (getD states q 0))) false)
+    (le-leb (placeOf states + 4) (length table) (omega arith)))
 
-pub put-short : (table states : List ℕ) (s : Shape) (at : ℕ) → at ≡ placeOf s states → length table < at + 4 → table ≡ withStates table s states
+pub put-short : (table states : List ℕ) (at : ℕ) → at ≡ placeOf states → length table < at + 4 → table ≡ withStates table states
 unfolding withStates
-put-short table states s at e l =
-    sym (ap (λ (b : Bool). choose b (λ _. putFour table (placeOf s states) states) (λ _. table)) (lt-leb (placeOf s states + 4) (length table) (omega arith)))
+put-short table states at e l =
+    sym (ap (λ (b : Bool). choose b (λ _. putFour table (placeOf states) states) (λ _. table)) (lt-leb (placeOf states + 4) (length table) (omega arith)))
 
-pub put-there : (table states : List ℕ) (s : Shape) (at : ℕ) → at ≡ placeOf s states → at + 4 ≤ length table → putFour table at states ≡ withStates table s states
+pub put-there : (table states : List ℕ) (at : ℕ) → at ≡ placeOf states → at + 4 ≤ length table → putFour table at states ≡ withStates table states
 unfolding withStates
-put-there table states s at e l =
+put-there table states at e l =
     ap (λ (i : ℕ). putFour table i states) e
-    ∙ sym (ap (λ (b : Bool). choose b (λ _. putFour table (placeOf s states) states) (λ _. table)) (le-leb (placeOf s states + 4) (length table) (omega arith)))
+    ∙ sym (ap (λ (b : Bool). choose b (λ _. putFour table (placeOf states) states) (λ _. table)) (le-leb (placeOf states + 4) (length table) (omega arith)))
 
 -- ---- bytes after four were put
 
@@ -127,12 +126,12 @@ module _ (P : Program) (R : ProgramInRange P) (es : List Configuration) where
   held-as a b e H c o i = H c o (λ p l. i p l ∙ e p l)
 
   module _ (table states : List ℕ) (s : Shape) (e : P .shape .processes ≡ s .processes) (F : Full P es table) where
-    pub full-put : TargetHeld P es (λ q. getD states q 0) → Full P es (withStates table s states)
+    pub full-put : TargetHeld P es (λ q. getD states q 0) → Full P es (withStates table states)
     unfolding withStates placeOf
-    full-put H = go (leb (placeOf s states + 4) (length table)) refl
+    full-put H = go (leb (placeOf states + 4) (length table)) refl
       where
         place : ℕ
-        place = statesMixed s states % 1024
+        place = (getD states 0 0 + 32 * getD states 1 0 + 328 * getD states 2 0 + 577 * getD states 3 0) % 1024
 
         -- the place of number i has what was put there, or what it had
         there : 4 * place + 4 ≤ length table → (i : ℕ) → 4 * i + 4 ≤ length (putFour table (4 * place) states) → TargetHeld P es (λ q. getD (fourAt (putFour table (4 * place) states) (4 * i)) q 0)
@@ -150,24 +149,24 @@ module _ (P : Program) (R : ProgramInRange P) (es : List Configuration) where
             apart : (i : ℕ) → (i ≡ place → ⊥) → (q : ℕ) → q < 4 → (4 * i + q < 4 * place) ⊎ (4 * place + 4 ≤ 4 * i + q)
             apart i k q l = elim (decLt i place) [ yes a ↦ inl (omega arith) | no a ↦ elim (decLt place i) [ yes b ↦ inr (omega arith) | no b ↦ absurd (k (omega arith)) ] ]
 
-        go : (b : Bool) → leb (placeOf s states + 4) (length table) ≡ b → Full P es (choose b (λ _. putFour table (placeOf s states) states) (λ _. table))
-        go true l = record { entries = F .entries; groups = there (leb-true (placeOf s states + 4) (length table) l) }
+        go : (b : Bool) → leb (placeOf states + 4) (length table) ≡ b → Full P es (choose b (λ _. putFour table (placeOf states) states) (λ _. table))
+        go true l = record { entries = F .entries; groups = there (leb-true (placeOf states + 4) (length table) l) }
         go false l = F
 
     -- local states that stand in the table are full
     pub full-held : isFull table s states ≡ true → TargetHeld P es (λ q. getD states q 0)
     unfolding isFull placeOf
-    full-held i = go (leb (placeOf s states + 4) (length table)) refl i
+    full-held i = go (leb (placeOf states + 4) (length table)) refl i
       where
         place : ℕ
-        place = statesMixed s states % 1024
+        place = (getD states 0 0 + 32 * getD states 1 0 + 328 * getD states 2 0 + 577 * getD states 3 0) % 1024
 
-        go : (b : Bool) → leb (placeOf s states + 4) (length table) ≡ b → cond b (allBelow (min (s .processes) 4) (λ q. eqb (getD (fourAt table (placeOf s states)) q 0) (getD states q 0))) false ≡ true → TargetHeld P es (λ q. getD states q 0)
+        go : (b : Bool) → leb (placeOf states + 4) (length table) ≡ b → cond b (allBelow (min (s .processes) 4) (λ q. eqb (getD (fourAt table (placeOf states)) q 0) (getD states q 0))) false ≡ true → TargetHeld P es (λ q. getD states q 0)
         go true l d =
             held-as (λ q. getD states q 0) (λ q. getD (fourAt table (4 * place)) q 0) (λ q m.
             sym (eqb-true (getD (fourAt table (4 * place)) q 0) (getD states q 0)
             (T-true _ (all-yes (min (s .processes) 4) (λ q. eqb (getD (fourAt table (4 * place)) q 0) (getD states q 0)) (subst T (sym d) tt) q (omega (arith, R .shape .processes))))))
-            (F .groups place (leb-true (placeOf s states + 4) (length table) l))
+            (F .groups place (leb-true (placeOf states + 4) (length table) l))
         go false l d = absurd (false≢true d)
 
     -- ---- no step from there leads in

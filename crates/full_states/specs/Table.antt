@@ -12,7 +12,6 @@ use Rattle.pws.specs.Entries.{EntryOf, entry}
 use Rattle.lists.specs.Verdict.{TargetHeld}
 use Rattle.program_part.specs.declared.program.Shape.{Shape}
 use Rattle.program_part.specs.Bytes.{choose}
-use Rattle.matching.specs.Number.{statesMixed}
 
 -- the four bytes at a place
 unfoldable pub fourAt : List ℕ → ℕ → List ℕ
@@ -25,21 +24,21 @@ pub record Full (P : Program) (es : List Configuration) (table : List ℕ) : Typ
 
 -- ---- how the code finds local states in it. No statement rests on these definitions.
 
--- their place, of 1,024
-unfoldable pub placeOf : Shape → List ℕ → ℕ
-placeOf s states = 4 * (statesMixed s states % 1024)
+-- their place, of 1,024: each pair of states of two processes has its own
+unfoldable pub placeOf : List ℕ → ℕ
+placeOf states = 4 * ((getD states 0 0 + 32 * getD states 1 0 + 328 * getD states 2 0 + 577 * getD states 3 0) % 1024)
 
 -- they stand there
 unfoldable pub isFull : List ℕ → Shape → List ℕ → Bool
 isFull table s states =
-    cond (leb (placeOf s states + 4) (length table)) (allBelow (min (s .processes) 4) (λ q. eqb (getD (fourAt table (placeOf s states)) q 0) (getD states q 0))) false
+    cond (leb (placeOf states + 4) (length table)) (allBelow (min (s .processes) 4) (λ q. eqb (getD (fourAt table (placeOf states)) q 0) (getD states q 0))) false
 
 unfoldable pub putFour : List ℕ → ℕ → List ℕ → List ℕ
 putFour table at states = set (set (set (set table at (getD states 0 0)) (at + 1) (getD states 1 0)) (at + 2) (getD states 2 0)) (at + 3) (getD states 3 0)
 
 -- the table with them, in the place of what stood there
-unfoldable pub withStates : List ℕ → Shape → List ℕ → List ℕ
-withStates table s states = choose (leb (placeOf s states + 4) (length table)) (λ _. putFour table (placeOf s states) states) (λ _. table)
+unfoldable pub withStates : List ℕ → List ℕ → List ℕ
+withStates table states = choose (leb (placeOf states + 4) (length table)) (λ _. putFour table (placeOf states) states) (λ _. table)
 
 -- local states with x for process p
 unfoldable pub statesFrom : List ℕ → ℕ → ℕ → List ℕ

@@ -2,25 +2,34 @@
 // group that is large enough; at number 11 nothing that has full local states is searched for.
 ghost use mathlib.Core.Path.{_≡_};
 ghost use mathlib.Core.Bool.{cond};
-ghost use Prim.Native.Nat.{_≤_};
+ghost use Prim.Native.Nat.{_≤_, _<_};
 ghost use lib.ListN.{length};
 ghost use lib.Dec.{eqb};
 ghost use Rattle.full_states.specs.Table.{placeOf, isFull, withStates, statesFrom};
 use matching::states_match;
-use matching::states_number;
 use program_part::program::Shape;
 
-// Where local states stand in the table, if they do.
-fn place_of(shape: Shape, states: [u8; 4]) -> usize
-    ensures { λ r. ⌜ (r ≡ placeOf shape states) × (r ≤ 4092) ⌝ }
+fn number(x: u8) -> usize
+    ensures { λ r. ⌜ (r ≡ x) × (r < 256) ⌝ }
 {
-    4 * ((states_number(shape, states) % 1024) as usize)
+    x as usize
+}
+
+// Where local states stand in the table, if they do.
+fn place_of(states: [u8; 4]) -> usize
+    ensures { λ r. ⌜ (r ≡ placeOf states) × (r ≤ 4092) ⌝ }
+{
+    let a = number(states[0]);
+    let b = number(states[1]);
+    let c = number(states[2]);
+    let d = number(states[3]);
+    4 * ((a + 32 * b + 328 * c + 577 * d) % 1024)
 }
 
 pub fn is_full(table: &[u8], shape: Shape, states: [u8; 4]) -> bool
     ensures { λ r. ⌜ r ≡ isFull (now (table .entry)) shape states ⌝ }
 {
-    let at = place_of(shape, states);
+    let at = place_of(states);
     if table.len() < at + 4 {
         return false;
     }
@@ -29,10 +38,10 @@ pub fn is_full(table: &[u8], shape: Shape, states: [u8; 4]) -> bool
 }
 
 // Others that stood in their place are forgotten.
-pub fn put_full(table: &mut [u8], shape: Shape, states: [u8; 4])
-    ensures { λ _. ⌜ now (table .exit) ≡ withStates (now (table .entry)) shape states ⌝ }
+pub fn put_full(table: &mut [u8], states: [u8; 4])
+    ensures { λ _. ⌜ now (table .exit) ≡ withStates (now (table .entry)) states ⌝ }
 {
-    let at = place_of(shape, states);
+    let at = place_of(states);
     if table.len() < at + 4 {
         return;
     }

@@ -39,13 +39,13 @@ module _ (g : List ℕ) (p : Program) (table : List ℕ) where
   targeted-begin = record { most = omega arith; same = refl; is = refl }
 
   pub targeted-next : {now new : List ℕ} {k : ℕ} → Targeted g p table now k → k < p .targets .count → length new ≡ length now
-      → (states : List ℕ) → states ≡ targetOf g p k → new ≡ withStates now (p .shape) states → Targeted g p table new (k + 1)
+      → (states : List ℕ) → states ≡ targetOf g p k → new ≡ withStates now states → Targeted g p table new (k + 1)
   unfolding withTargets
   targeted-next {now} {new} {k} w l d states e i =
       record {
         most = omega arith;
         same = d ∙ w .same;
-        is = rw add-one (i ∙ ap (withStates now (p .shape)) e ∙ ap (λ (t : List ℕ). withStates t (p .shape) (targetOf g p k)) (w .is));
+        is = rw add-one (i ∙ ap (withStates now) e ∙ ap (λ (t : List ℕ). withStates t (targetOf g p k)) (w .is));
       }
 
   pub targeted-end : {now : List ℕ} {k : ℕ} → Targeted g p table now k → p .targets .count ≤ k → now ≡ withTargets g p table (p .targets .count)

@@ -57,7 +57,7 @@ TargetsHeld g f list n p = (k : ℕ) → k < p .targets .count → heldTest g f 
 -- a table of full local states with those of the first m targets
 unfoldable pub withTargets : List ℕ → Program → List ℕ → ℕ → List ℕ
 withTargets g p table zero = table
-withTargets g p table (suc m) = withStates (withTargets g p table m) (p .shape) (targetOf g p m)
+withTargets g p table (suc m) = withStates (withTargets g p table m) (targetOf g p m)
 
 abbrev pub startTest : List ℕ → List ℕ → List ℕ → ℕ → Program → ℕ → Bool
 startTest g f list n p k = not (looksStarted (programOf g p) (entry (entriesOf f list n) k))

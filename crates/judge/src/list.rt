@@ -105,11 +105,10 @@ fn least_alone(variables: usize) -> usize {
 fn put_targets(code: &[u8], program: Program, table: &mut [u8])
     ensures { λ _. ⌜ now (table .exit) ≡ withTargets (now (code .entry)) program (now (table .entry)) (program .targets .count) ⌝ }
 {
-    let shape = program.shape;
     let targets = program.targets;
     let count = targets.count;
     for k in 0..count {
-        put_full(table, shape, target_of(code, program, k));
+        put_full(table, target_of(code, program, k));
     }
 }
 

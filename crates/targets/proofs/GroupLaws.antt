@@ -35,7 +35,7 @@ module _ (f list sum : List ℕ) (n : ℕ) (s : Shape) (least : ℕ) (table : Li
 
   -- the three tests in turn
   abbrev by : Bool → Bool → Bool → List ℕ
-  by a b c = choose a (λ _. table) (λ _. choose b (λ _. table) (λ _. choose c (λ _. withStates table s states) (λ _. table)))
+  by a b c = choose a (λ _. table) (λ _. choose b (λ _. table) (λ _. choose c (λ _. withStates table states) (λ _. table)))
 
   tests : {a b c : Bool} → ltb (countAt sum k) least ≡ a → isFull table s states ≡ b → groupHeld f list sum n s least states ≡ c → by a b c ≡ withGroup f list sum n s least table k
   unfolding withGroup
@@ -50,7 +50,7 @@ module _ (f list sum : List ℕ) (n : ℕ) (s : Shape) (least : ℕ) (table : Li
   pub group-other : least ≤ countAt sum k → isFull table s states ≡ false → groupHeld f list sum n s least states ≡ false → table ≡ withGroup f list sum n s least table k
   group-other l e d = tests (le-ltb (countAt sum k) least l) e d
 
-  pub group-put : least ≤ countAt sum k → isFull table s states ≡ false → groupHeld f list sum n s least states ≡ true → withStates table s states ≡ withGroup f list sum n s least table k
+  pub group-put : least ≤ countAt sum k → isFull table s states ≡ false → groupHeld f list sum n s least states ≡ true → withStates table states ≡ withGroup f list sum n s least table k
   group-put l e d = tests (le-ltb (countAt sum k) least l) e d
 
 -- ---- what is put is full
@@ -74,18 +74,18 @@ module _ (P : pws.Program) (R : ProgramInRange P) (f list sum : List ℕ) (n : �
       states : List ℕ
       states = cubeAt f list k .states
 
-      last : (b : Bool) → groupHeld f list sum n s least states ≡ b → Full P es (choose b (λ _. withStates table s states) (λ _. table))
+      last : (b : Bool) → groupHeld f list sum n s least states ≡ b → Full P es (choose b (λ _. withStates table states) (λ _. table))
       last true e =
           full-put P R es table states s (ap (λ (S : pws.Shape). S .processes) same) F
           (target-yes P R es (F .entries) (λ q. getD states q 0) (states-of table F k l)
           (subst T (sym (ap (λ (S : pws.Shape). every (held S es) (shapeCubes S (λ q. getD states q 0))) same ∙ e)) tt))
       last false e = F
 
-      second : (b : Bool) → Full P es (choose b (λ _. table) (λ _. choose (groupHeld f list sum n s least states) (λ _. withStates table s states) (λ _. table)))
+      second : (b : Bool) → Full P es (choose b (λ _. table) (λ _. choose (groupHeld f list sum n s least states) (λ _. withStates table states) (λ _. table)))
       second true = F
       second false = last (groupHeld f list sum n s least states) refl
 
-      first : (b : Bool) → Full P es (choose b (λ _. table) (λ _. choose (isFull table s states) (λ _. table) (λ _. choose (groupHeld f list sum n s least states) (λ _. withStates table s states) (λ _. table))))
+      first : (b : Bool) → Full P es (choose b (λ _. table) (λ _. choose (isFull table s states) (λ _. table) (λ _. choose (groupHeld f list sum n s least states) (λ _. withStates table states) (λ _. table))))
       first true = F
       first false = second (isFull table s states)
 

@@ -22,7 +22,7 @@ module _ (f list sum : List ℕ) (n : ℕ) (s : Shape) (least : ℕ) where
   withGroup table k =
       choose (ltb (countAt sum k) least) (λ _. table)
       (λ _. choose (isFull table s (cubeAt f list k .states)) (λ _. table)
-      (λ _. choose (groupHeld (cubeAt f list k .states)) (λ _. withStates table s (cubeAt f list k .states)) (λ _. table)))
+      (λ _. choose (groupHeld (cubeAt f list k .states)) (λ _. withStates table (cubeAt f list k .states)) (λ _. table)))
 
   -- with those of the first m entries
   unfoldable pub withGroups : List ℕ → ℕ → List ℕ

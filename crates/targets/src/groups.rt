@@ -35,7 +35,7 @@ fn put_group(
     if !target_held(file, list, sum, n, shape, states) {
         return;
     }
-    put_full(table, shape, states);
+    put_full(table, states);
 }
 
 // With those of every group.

@@ -13,7 +13,7 @@ put-full-spec = tie.close (tie.spec
     (λ c κs. search needs)
     (λ c. search needs)
     -- returns
-    (λ c. put-short (c .before .before .before .args .table .now) (c .before .before .before .args .t3) (c .before .before .before .args .shape) (c .before .place-of .result) (c .before .place-of .ensures .0) (c .if1 .taken))
+    (λ c. put-short (c .before .before .before .args .table .now) (c .before .before .before .args .t2) (c .before .place-of .result) (c .before .place-of .ensures .0) (c .if1 .taken))
     (λ c. search needs)
     (λ c. search needs)
     (λ c. search needs)
@@ -30,4 +30,4 @@ put-full-spec = tie.close (tie.spec
     (λ c. simp length-set (omega arith))
     (λ c. search needs)
     -- returns-2
-    (λ c. put-there (c .before .before .before .args .table .now) (c .before .before .before .args .t3) (c .before .before .before .args .shape) (c .before .place-of .result) (c .before .place-of .ensures .0) (c .if1 .left)))
+    (λ c. put-there (c .before .before .before .args .table .now) (c .before .before .before .args .t2) (c .before .place-of .result) (c .before .place-of .ensures .0) (c .if1 .left)))

@@ -7,17 +7,17 @@ use Rattle.judge.proofs.list.put_targets.Statement.{statement}
 use Rattle.judge.proofs.list.put_targets.Tie as tie
 
 abbrev Inv-loop : tie.InvT-loop
-Inv-loop code program table₀ shape count k₀ table k = Targeted code program table₀ table k
+Inv-loop code program table₀ count k₀ table k = Targeted code program table₀ table k
 
 abbrev μ-loop : tie.MeasureT-loop
-μ-loop code program table₀ shape count k₀ table k = count - k
+μ-loop code program table₀ count k₀ table k = count - k
 
 pub put-targets-spec : {M : Type 1} → statement M
 put-targets-spec = tie.close (tie.spec
     Inv-loop
     μ-loop
     -- loop-holds
-    (λ c. targeted-begin (c .before .before .before .before .args .code .now) (c .before .before .before .before .args .program) (c .before .before .before .before .args .table .now))
+    (λ c. targeted-begin (c .before .before .before .args .code .now) (c .before .before .before .args .program) (c .before .before .before .args .table .now))
     -- target-of-requires
     (λ c κs. search needs)
     -- put-full-requires
@@ -27,8 +27,8 @@ put-targets-spec = tie.close (tie.spec
     -- loop-less
     (λ c. omega (arith, c .before .before .before .before .before .loop-test .taken))
     -- loop-again
-    (λ c. targeted-next (c .before .before .before .before .before .before .before .before .before .before .before .args .code .now) (c .before .before .before .before .before .before .before .before .before .before .before .args .program) (c .before .before .before .before .before .before .before .before .before .before .before .args .table .now) (c .before .before .before .before .before .before .loop .inv) (c .before .before .before .before .before .loop-test .taken) (search needs) (c .before .before .before .target-of .result) (c .before .before .before .target-of .ensures) (c .before .before .put-full .ensures))
+    (λ c. targeted-next (c .before .before .before .before .before .before .before .before .before .before .args .code .now) (c .before .before .before .before .before .before .before .before .before .before .args .program) (c .before .before .before .before .before .before .before .before .before .before .args .table .now) (c .before .before .before .before .before .before .loop .inv) (c .before .before .before .before .before .loop-test .taken) (search needs) (c .before .before .before .target-of .result) (c .before .before .before .target-of .ensures) (c .before .before .put-full .ensures))
     -- same-length
     (λ c. c .before .loop .inv .same)
     -- returns
-    (λ c. targeted-end (c .before .before .before .before .before .before .args .code .now) (c .before .before .before .before .before .before .args .program) (c .before .before .before .before .before .before .args .table .now) (c .before .loop .inv) (c .loop-test .left)))
+    (λ c. targeted-end (c .before .before .before .before .before .args .code .now) (c .before .before .before .before .before .args .program) (c .before .before .before .before .before .args .table .now) (c .before .loop .inv) (c .loop-test .left)))

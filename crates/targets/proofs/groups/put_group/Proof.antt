@@ -38,4 +38,4 @@ put-group-spec = tie.close (tie.spec
     -- same-length-3
     (λ c. search needs)
     -- returns-4
-    (λ c. λ S. c .before .before .put-full .ensures ∙ ap (λ (d : Cube). withStates (c .before .before .before .before .before .before .before .before .before .before .before .before .before .before .before .before .before .args .table .now) (c .before .before .before .before .before .before .before .before .before .before .before .before .before .before .before .before .before .args .shape) (d .states)) (c .before .before .before .before .before .before .before .before .before .before .entry-at .ensures) ∙ group-put (c .before .before .before .before .before .before .before .before .before .before .before .before .before .before .before .before .before .args .file .now) (c .before .before .before .before .before .before .before .before .before .before .before .before .before .before .before .before .before .args .list .now) (c .before .before .before .before .before .before .before .before .before .before .before .before .before .before .before .before .before .args .sum .now) (c .before .before .before .before .before .before .before .before .before .before .before .before .before .before .before .before .before .args .n) (c .before .before .before .before .before .before .before .before .before .before .before .before .before .before .before .before .before .args .shape) (c .before .before .before .before .before .before .before .before .before .before .before .before .before .before .before .before .before .args .least) (c .before .before .before .before .before .before .before .before .before .before .before .before .before .before .before .before .before .args .table .now) (c .before .before .before .before .before .before .before .before .before .before .before .before .before .before .before .before .before .args .k) (omega (arith, c .before .before .before .before .before .before .before .before .before .before .before .if1 .left, c .before .before .before .before .before .before .before .before .before .before .before .before .count-at .ensures .0)) (sym (subst (λ (d : Cube). c .before .before .before .before .before .before .before .is-full .result ≡ isFull (c .before .before .before .before .before .before .before .before .before .before .before .before .before .before .before .before .before .args .table .now) (c .before .before .before .before .before .before .before .before .before .before .before .before .before .before .before .before .before .args .shape) (d .states)) (c .before .before .before .before .before .before .before .before .before .before .entry-at .ensures) (c .before .before .before .before .before .before .before .is-full .ensures)) ∙ c .before .before .before .before .before .before .if2 .left) (sym (subst (λ (d : Cube). c .before .before .before .before .before .target-held .result ≡ groupHeld (c .before .before .before .before .before .before .before .before .before .before .before .before .before .before .before .before .before .args .file .now) (c .before .before .before .before .before .before .before .before .before .before .before .before .before .before .before .before .before .args .list .now) (c .before .before .before .before .before .before .before .before .before .before .before .before .before .before .before .before .before .args .sum .now) (c .before .before .before .before .before .before .before .before .before .before .before .before .before .before .before .before .before .args .n) (c .before .before .before .before .before .before .before .before .before .before .before .before .before .before .before .before .before .args .shape) (c .before .before .before .before .before .before .before .before .before .before .before .before .before .before .before .before .before .args .least) (d .states)) (c .before .before .before .before .before .before .before .before .before .before .entry-at .ensures) (c .before .before .before .before .before .target-held .ensures (startsOf (c .before .before .before .before .before .before .before .before .before .before .before .before .before .before .before .before .before .args .shape) []) refl S)) ∙ not-false (c .before .before .before .before .before .target-held .result) (c .before .before .before .before .if3 .left))))
+    (λ c. λ S. c .before .before .put-full .ensures ∙ ap (λ (d : Cube). withStates (c .before .before .before .before .before .before .before .before .before .before .before .before .before .before .before .before .before .args .table .now) (d .states)) (c .before .before .before .before .before .before .before .before .before .before .entry-at .ensures) ∙ group-put (c .before .before .before .before .before .before .before .before .before .before .before .before .before .before .before .before .before .args .file .now) (c .before .before .before .before .before .before .before .before .before .before .before .before .before .before .before .before .before .args .list .now) (c .before .before .before .before .before .before .before .before .before .before .before .before .before .before .before .before .before .args .sum .now) (c .before .before .before .before .before .before .before .before .before .before .before .before .before .before .before .before .before .args .n) (c .before .before .before .before .before .before .before .before .before .before .before .before .before .before .before .before .before .args .shape) (c .before .before .before .before .before .before .before .before .before .before .before .before .before .before .before .before .before .args .least) (c .before .before .before .before .before .before .before .before .before .before .before .before .before .before .before .before .before .args .table .now) (c .before .before .before .before .before .before .before .before .before .before .before .before .before .before .before .before .before .args .k) (omega (arith, c .before .before .before .before .before .before .before .before .before .before .before .if1 .left, c .before .before .before .before .before .before .before .before .before .before .before .before .count-at .ensures .0)) (sym (subst (λ (d : Cube). c .before .before .before .before .before .before .before .is-full .result ≡ isFull (c .before .before .before .before .before .before .before .before .before .before .before .before .before .before .before .before .before .args .table .now) (c .before .before .before .before .before .before .before .before .before .before .before .before .before .before .before .before .before .args .shape) (d .states)) (c .before .before .before .before .before .before .before .before .before .before .entry-at .ensures) (c .before .before .before .before .before .before .before .is-full .ensures)) ∙ c .before .before .before .before .before .before .if2 .left) (sym (subst (λ (d : Cube). c .before .before .before .before .before .target-held .result ≡ groupHeld (c .before .before .before .before .before .before .before .before .before .before .before .before .before .before .before .before .before .args .file .now) (c .before .before .before .before .before .before .before .before .before .before .before .before .before .before .before .before .before .args .list .now) (c .before .before .before .before .before .before .before .before .before .before .before .before .before .before .before .before .before .args .sum .now) (c .before .before .before .before .before .before .before .before .before .before .before .before .before .before .before .before .before .args .n) (c .before .before .before .before .before .before .before .before .before .before .before .before .before .before .before .before .before .args .shape) (c .before .before .before .before .before .before .before .before .before .before .before .before .before .before .before .before .before .args .least) (d .states)) (c .before .before .before .before .before .before .before .before .before .before .entry-at .ensures) (c .before .before .before .before .before .target-held .ensures (startsOf (c .before .before .before .before .before .before .before .before .before .before .before .before .before .before .before .before .before .args .shape) []) refl S)) ∙ not-false (c .before .before .before .before .before .target-held .result) (c .before .before .before .before .if3 .left))))
