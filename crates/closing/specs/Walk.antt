@@ -1,9 +1,9 @@
 -- The walk over the predecessors of an entry, in the order of `steps`.
-use Prim.Native.Nat.{ℕ, _+_, _-_, _/_, _%_, _<_, _≤_}
+use Prim.Native.Nat.{ℕ, _+_, _-_, _/_, _%_, _<_, _≤_, min}
 use mathlib.Core.Path.{_≡_}
 use mathlib.Core.Bool.{Bool, true, false, cond}
 use mathlib.Core.List.{List}
-use lib.ListN.{length}
+use lib.ListN.{length, getD}
 use lib.Dec.{ltb}
 use Rattle.pws.specs.declared.Operation.{Operation}
 use Rattle.pws.specs.declared.Step.{Step}
@@ -20,7 +20,8 @@ use Rattle.program_part.specs.declared.program.Program.{Program}
 use Rattle.whole_file.specs.declared.entry.Cube.{Cube}
 use Rattle.program_part.specs.ProgramPart.{shapeOf, programOf}
 use Rattle.whole_file.specs.Cube.{configurationOf}
-use Rattle.by_number.specs.Again.{cubeAt, entriesOf}
+use Rattle.by_number.specs.Again.{cubeAt, entriesOf, transitionOf}
+use Rattle.full_states.specs.Table.{isFull, statesFrom}
 use Rattle.summary.specs.Summary.{Summed}
 use Rattle.before.specs.Before.{Sound}
 use Rattle.closing.specs.declared.Opening.{Opening}
@@ -69,6 +70,12 @@ pub record Walkable (g f list sum : List ℕ) (n : ℕ) (p : Program) (c : Cube)
   pub own : EntryOf (programOf g p) (configurationOf c)
   pub entries : (k : ℕ) → k < n → Fits (ValueOrFF (shapeOf (p .shape))) (shapeOf (p .shape)) (configurationOf (cubeAt f list k))
   pub summed : Summed f list sum n (p .shape)
+
+-- local states that stand in a table of full ones, as do those from which a transition leads there
+pub record Surrounded (full g : List ℕ) (p : Program) (states : List ℕ) : Type 0 where
+  pub own : isFull full (p .shape) states ≡ true
+  pub before : (j : ℕ) → j < min (p .transitions .count) 256 → getD states (transitionOf g p j .process) 0 ≡ transitionOf g p j .to
+      → isFull full (p .shape) (statesFrom states (transitionOf g p j .process) (transitionOf g p j .from)) ≡ true
 
 -- transition j is one of p from x, with the operation o, to the state that p has in e
 pub record Acting (P : pws.Program) (e : Configuration) (j p x : ℕ) (o : Operation) : Type 0 where

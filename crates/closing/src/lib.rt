@@ -3,6 +3,7 @@
 // `code` is the file that holds the program, `file` the one that holds the entries; they may be the same. What reads no transition takes no
 // `code`, and its contract is for any bytes g that the program is read from.
 ghost use mathlib.Core.Path.{_≡_};
+ghost use mathlib.Core.Bool.{true};
 ghost use mathlib.Core.List.{List};
 ghost use Prim.Native.Nat.{ℕ, _+_, _/_, _%_, _≤_, _<_, min};
 ghost use Rattle.pws.specs.declared.Step.the-variants.{Take, Serialise, Update};
@@ -11,7 +12,7 @@ ghost use Rattle.whole_file.specs.Cube.{configurationOf};
 ghost use Rattle.by_number.specs.Again.{cubeAt, entriesOf};
 ghost use Rattle.before.specs.Before.{LastWrites};
 ghost use Rattle.full_states.specs.Table.{Full};
-ghost use Rattle.closing.specs.Walk.{stepHeld, walkStep, LowestFailing, Walkable, openingAt, openingOf};
+ghost use Rattle.closing.specs.Walk.{stepHeld, walkStep, LowestFailing, Walkable, Surrounded, openingAt, openingOf};
 use crate::serialise::serialised_held;
 use crate::take::before_held;
 use crate::update::updated_held;
@@ -20,11 +21,13 @@ use before::newest::newest;
 use by_number::entry_at;
 use by_number::transition_of;
 use full_states::is_full;
+use full_states::states_from;
 use matching::least;
 use program_part::bytes::wide;
 use program_part::program::Program;
 use program_part::program::of_four;
 use pws::Step;
+use summary::states_at;
 use whole_file::entry::Cube;
 
 mod serialise;
@@ -167,6 +170,29 @@ fn opening_at(m: usize, j: usize) -> Opening
     Opening::Shut
 }
 
+// These local states are full, and so are those from which a transition leads there.
+fn is_surrounded(full: &[u8], code: &[u8], program: Program, states: [u8; 4]) -> bool
+    ensures { λ r. ⌜ (r ≡ true → Surrounded (now (full .entry)) (now (code .entry)) program states) ⌝ }
+{
+    let shape = program.shape;
+    if !is_full(full, shape, states) {
+        return false;
+    }
+    let row = program.transitions;
+    let m = least(row.count, 256);
+    for j in 0..m {
+        let transition = transition_of(code, program, j);
+        if of_four(states, transition.process) != transition.to {
+            continue;
+        }
+        let before = states_from(states, transition.process, transition.from);
+        if !is_full(full, shape, before) {
+            return false;
+        }
+    }
+    true
+}
+
 // Through which step does a configuration outside the list get above entry k? `sum` is the list's summary, and `full` a table of full local
 // states: what has such is not searched for.
 pub fn open_step(
@@ -181,6 +207,10 @@ pub fn open_step(
 ) -> Opening
     ensures { λ r. ⌜ (Walkable (now (code .entry)) (now (file .entry)) (now (list .entry)) (now (sum .entry)) n program (cubeAt (now (file .entry)) (now (list .entry)) k) → Full (programOf (now (code .entry)) program) (entriesOf (now (file .entry)) (now (list .entry)) n) (now (full .entry)) → r ≡ openingOf (programOf (now (code .entry)) program) (entriesOf (now (file .entry)) (now (list .entry)) n) (configurationOf (cubeAt (now (file .entry)) (now (list .entry)) k))) ⌝ }
 {
+    // the entry itself is not read where nothing is to be searched for
+    if is_surrounded(full, code, program, states_at(file, list, program.shape, k)) {
+        return Opening::Shut;
+    }
     let row = program.transitions;
     let m = least(row.count, 256);
     let cube = entry_at(file, list, k);

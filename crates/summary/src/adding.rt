@@ -25,7 +25,7 @@ use program_part::bytes::field;
 use program_part::program::Shape;
 
 // The local states of entry k.
-fn states_at(file: &[u8], list: &[u8], shape: Shape, k: usize) -> [u8; 4]
+pub fn states_at(file: &[u8], list: &[u8], shape: Shape, k: usize) -> [u8; 4]
     ensures { λ r. ⌜ r ≡ statesAt (now (file .entry)) (now (list .entry)) shape k ⌝ }
 {
     let at = offset_at(list, k);

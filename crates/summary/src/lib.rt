@@ -5,6 +5,7 @@ mod adding;
 mod slots;
 mod walking;
 
+pub use adding::states_at;
 pub use adding::summarise;
 pub use slots::count_at;
 pub use walking::Walk;
