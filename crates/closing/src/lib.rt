@@ -181,11 +181,11 @@ fn is_surrounded(full: &[u8], code: &[u8], program: Program, states: [u8; 4]) ->
     let row = program.transitions;
     let m = least(row.count, 256);
     for j in 0..m {
-        let transition = transition_of(code, program, j);
-        if of_four(states, transition.process) != transition.to {
+        let leading = transition_of(code, program, j);
+        if of_four(states, leading.process) != leading.to {
             continue;
         }
-        let before = states_from(states, transition.process, transition.from);
+        let before = states_from(states, leading.process, leading.from);
         if !is_full(full, shape, before) {
             return false;
         }

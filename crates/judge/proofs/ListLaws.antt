@@ -91,11 +91,10 @@ module _ (g f list sum : List ℕ) (n : ℕ) (p : Program) where
       ∙ ap (λ (s : List ℕ). targetHeld P es (λ q. getD s q 0)) e
       ∙ ap (targetHeld P es) (sym (target-again g p k l))
 
-  pub start-by : Ready g f list sum n p → (k : ℕ) → k < n → (cube : Cube) (r : Bool) → cube ≡ cubeAt f list k
-      → (Small (p .shape) → r ≡ looksStarted (startsOf (p .shape) (p .initial)) (configurationOf cube))
+  pub start-by : Ready g f list sum n p → (k : ℕ) → k < n → (r : Bool)
+      → (Small (p .shape) → r ≡ looksStarted (startsOf (p .shape) (p .initial)) (configurationOf (cubeAt f list k)))
       → not r ≡ startTest g f list n p k
-  start-by R k l cube r e h =
-      ap not (h (small R) ∙ ap (λ (c : Cube). looksStarted P (configurationOf c)) e ∙ ap (looksStarted P) (sym (entry-is k l)))
+  start-by R k l r h = ap not (h (small R) ∙ ap (looksStarted P) (sym (entry-is k l)))
 
   opening-by : Ready g f list sum n p → (k : ℕ) → k < n → (r : Opening)
       → (Walkable g f list sum n p (cubeAt f list k) → r ≡ openingOf P es (configurationOf (cubeAt f list k)))

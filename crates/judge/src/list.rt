@@ -11,7 +11,6 @@ ghost use Rattle.closing.specs.Walk.{LowestFailing};
 ghost use Rattle.judge.specs.Answers.{verdictIn};
 ghost use Rattle.judge.specs.Ready.{Ready, TargetsHeld, withTargets, heldTest, startTest, enteredSaid, listSaid};
 use crate::answer::Answer;
-use by_number::entry_at;
 use by_number::target_of;
 use closing::Opening;
 use closing::open_step;
@@ -19,7 +18,7 @@ use full_states::put_full;
 use program_part::bytes::both;
 use program_part::program::Program;
 use program_part::program::Shape;
-use targets::looks_started;
+use targets::entry_started;
 use targets::put_groups;
 use targets::target_held;
 
@@ -62,8 +61,7 @@ fn lowest_started(
     let shape = program.shape;
     let initial = program.initial;
     for k in 0..n {
-        let cube = entry_at(file, list, k);
-        if looks_started(shape, initial, cube) {
+        if entry_started(file, list, shape, initial, k) {
             return k;
         }
     }

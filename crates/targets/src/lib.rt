@@ -32,7 +32,7 @@ mod groups;
 mod starts;
 
 pub use groups::put_groups;
-pub use starts::looks_started;
+pub use starts::entry_started;
 
 // ---- shapes (section 3)
 

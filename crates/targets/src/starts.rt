@@ -5,10 +5,13 @@ ghost use lib.ListN.{getD};
 ghost use lib.Dec.{eqb};
 ghost use Rattle.pws.specs.Machine.{isEmpty, allBelow};
 ghost use Rattle.whole_file.specs.Cube.{waitingOf, queueOf, configurationOf};
+ghost use Rattle.by_number.specs.Again.{cubeAt};
 ghost use Rattle.lists.specs.Decision.{looksStarted};
 ghost use Rattle.targets.specs.Sizes.{Small, startsOf};
+use by_number::entry_at;
 use matching::least;
 use program_part::program::Shape;
+use summary::states_at;
 use whole_file::entry::Cube;
 use whole_file::entry::Queue;
 
@@ -62,7 +65,7 @@ fn none_waiting(n: usize, m: usize, queues: [Queue; 16]) -> bool
 }
 
 // Initial states, no waiting value and one message: a start has any values.
-pub fn looks_started(shape: Shape, initial: [u8; 4], cube: Cube) -> bool
+fn looks_started(shape: Shape, initial: [u8; 4], cube: Cube) -> bool
     ensures { λ r. ⌜ (Small shape → r ≡ looksStarted (startsOf shape initial) (configurationOf cube)) ⌝ }
 {
     let n = least(shape.processes, 4);
@@ -76,4 +79,16 @@ pub fn looks_started(shape: Shape, initial: [u8; 4], cube: Cube) -> bool
         return false;
     }
     cube.count == 1
+}
+
+// A start looks like entry k. An entry of other local states is told by four bytes.
+pub fn entry_started(file: &[u8], list: &[u8], shape: Shape, initial: [u8; 4], k: usize) -> bool
+    ensures { λ r. ⌜ (Small shape → r ≡ looksStarted (startsOf shape initial) (configurationOf (cubeAt (now (file .entry)) (now (list .entry)) k))) ⌝ }
+{
+    let n = least(shape.processes, 4);
+    let states = states_at(file, list, shape, k);
+    if !same_bytes(n, states, initial) {
+        return false;
+    }
+    looks_started(shape, initial, entry_at(file, list, k))
 }

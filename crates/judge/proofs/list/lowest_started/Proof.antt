@@ -24,17 +24,15 @@ lowest-started-spec = tie.close (tie.spec
     μ-loop
     -- loop-holds 38:5
     (λ c. so-far-begin _ _)
-    -- entry-at-requires 39:13
-    (λ c κs. search needs)
-    -- looks-started-requires 40:12
+    -- entry-started-requires
     (λ c κs. search needs)
     -- returns 41:13
-    (λ c. so-far-fails (c .before .before .before .before .loop .inv) (c .before .before .before .loop-test .taken) (sym (start-by (c .before .before .before .before .before .before .before .before .before .before .before .args .code .now) (c .before .before .before .before .before .before .before .before .before .before .before .args .file .now) (c .before .before .before .before .before .before .before .before .before .before .before .args .list .now) (c .before .before .before .before .before .before .before .before .before .before .before .args .sum .now) (c .before .before .before .before .before .before .before .before .before .before .before .args .n) (c .before .before .before .before .before .before .before .before .before .before .before .args .program) (c .before .before .before .before .before .before .before .before .before .before .before .pre) (c .before .before .before .before .loop .k) (c .before .before .before .loop-test .taken) _ _ (c .before .before .entry-at .ensures) (c .before .looks-started .ensures)) ∙ ap not (c .if1 .taken)))
+    (λ c. so-far-fails (c .before .before .before .loop .inv) (c .before .before .loop-test .taken) (sym (start-by (c .before .before .before .before .before .before .before .before .before .before .args .code .now) (c .before .before .before .before .before .before .before .before .before .before .args .file .now) (c .before .before .before .before .before .before .before .before .before .before .args .list .now) (c .before .before .before .before .before .before .before .before .before .before .args .sum .now) (c .before .before .before .before .before .before .before .before .before .before .args .n) (c .before .before .before .before .before .before .before .before .before .before .args .program) (c .before .before .before .before .before .before .before .before .before .before .pre) (c .before .before .before .loop .k) (c .before .before .loop-test .taken) _ (c .before .entry-started .ensures)) ∙ ap not (c .if1 .taken)))
     -- add-k 38:9
     (λ c. search needs)
     -- loop-less 38:5
     (λ c. search needs)
     -- loop-again 38:5
-    (λ c. so-far-next (c .before .before .before .before .loop .inv) (c .before .before .before .loop-test .taken) (sym (start-by (c .before .before .before .before .before .before .before .before .before .before .before .args .code .now) (c .before .before .before .before .before .before .before .before .before .before .before .args .file .now) (c .before .before .before .before .before .before .before .before .before .before .before .args .list .now) (c .before .before .before .before .before .before .before .before .before .before .before .args .sum .now) (c .before .before .before .before .before .before .before .before .before .before .before .args .n) (c .before .before .before .before .before .before .before .before .before .before .before .args .program) (c .before .before .before .before .before .before .before .before .before .before .before .pre) (c .before .before .before .before .loop .k) (c .before .before .before .loop-test .taken) _ _ (c .before .before .entry-at .ensures) (c .before .looks-started .ensures)) ∙ ap not (c .if1 .left)))
+    (λ c. so-far-next (c .before .before .before .loop .inv) (c .before .before .loop-test .taken) (sym (start-by (c .before .before .before .before .before .before .before .before .before .before .args .code .now) (c .before .before .before .before .before .before .before .before .before .before .args .file .now) (c .before .before .before .before .before .before .before .before .before .before .args .list .now) (c .before .before .before .before .before .before .before .before .before .before .args .sum .now) (c .before .before .before .before .before .before .before .before .before .before .args .n) (c .before .before .before .before .before .before .before .before .before .before .args .program) (c .before .before .before .before .before .before .before .before .before .before .pre) (c .before .before .before .loop .k) (c .before .before .loop-test .taken) _ (c .before .entry-started .ensures)) ∙ ap not (c .if1 .left)))
     -- returns-2 32:1
     (λ c. so-far-all (c .before .loop .inv) (omega (arith, c .loop-test .left))))
