@@ -13,7 +13,7 @@ use Rattle.whole_file.specs.EvidencePart.{entriesAllowed}
 use Rattle.whole_file.specs.Reading as reading
 use Rattle.replay.specs.declared.run.RunAnswer.{RunAnswer}
 use Rattle.replay.specs.declared.run.RunAnswer.the-variants.{Reachable, Stopped, Missed}
-use Rattle.replay.specs.Causes.{causeNumber}
+use Rattle.causes.specs.Causes.{causeNumber}
 use Rattle.replay.specs.Answers.{runAnswer}
 use Rattle.psoreplay.specs.Answers.{psoSteps, psoRunAnswer}
 

@@ -18,8 +18,8 @@ use Rattle.pso.specs.declared.PsoStep.{PsoStep}
 use Rattle.pso.specs.declared.PsoStep.the-variants.{RemoveMark}
 use Rattle.pso.specs.Machine.{PsoConfiguration, psoMay, psoAfter}
 use Rattle.pso.specs.Runs.{PsoStart, psoStartWith, PsoTakes, done, step, PsoInTarget, psoInTarget}
-use Rattle.replay.specs.declared.step.Answer.{Answer}
-use Rattle.replay.specs.declared.step.Answer.the-variants.{Permitted, Refused}
+use Rattle.causes.specs.declared.Answer.{Answer}
+use Rattle.causes.specs.declared.Answer.the-variants.{Permitted, Refused}
 use Rattle.replay.specs.declared.run.RunAnswer.{RunAnswer}
 use Rattle.replay.specs.declared.run.RunAnswer.the-variants.{Reachable, Stopped, Missed}
 use Rattle.replay.specs.Answers.{lastAnswer, answerThen}

@@ -15,7 +15,7 @@ use Rattle.pws.specs.Machine.{allBelow}
 use Rattle.pso.specs.Machine.{PsoConfiguration, noItem, valueFirst, markFirst, psoSees}
 use Rattle.program_part.specs.declared.program.Shape.{Shape}
 use Rattle.program_part.specs.ProgramPart.{shapeOf}
-use Rattle.replay.proofs.Answering.{all-four, queue-is}
+use Rattle.layout.proofs.Kept.{all-four, queue-is}
 use Rattle.psoreplay.specs.declared.step.PsoRun.{PsoRun}
 use Rattle.psoreplay.specs.Causes.{psoQueueFits, psoValueFits, psoOperateAnswer}
 use Rattle.psoreplay.specs.Layout.{

@@ -17,10 +17,10 @@ use Rattle.pws.proofs.Cases.{all-yes}
 use Rattle.pso.specs.declared.PsoStep.{PsoStep}
 use Rattle.pso.specs.declared.PsoStep.the-variants.{Operate, UpdateVariable, RemoveMark}
 use Rattle.pso.specs.Machine.{Item, PsoConfiguration, noItem, psoSees, psoMayOperate, mayOperateBy, psoMay}
-use Rattle.replay.specs.declared.step.Cause.the-variants.{State, Queue, Pointer, Value, Nothing}
-use Rattle.replay.specs.declared.step.Answer.{Answer}
-use Rattle.replay.specs.declared.step.Answer.the-variants.{Permitted, Refused}
-use Rattle.replay.specs.Causes.{firstCause}
+use Rattle.causes.specs.declared.Cause.the-variants.{State, Queue, Pointer, Value, Nothing}
+use Rattle.causes.specs.declared.Answer.{Answer}
+use Rattle.causes.specs.declared.Answer.the-variants.{Permitted, Refused}
+use Rattle.causes.specs.Causes.{firstCause}
 use Rattle.psoreplay.specs.Causes.{PsoInState, NotEmpty, PsoOtherValue, MemoryCause, Because, psoQueueFits, psoValueFits, psoStepAnswer}
 
 -- what an answer says of a step

@@ -14,9 +14,9 @@ use Rattle.pws.specs.Program.{Shape}
 use Rattle.pws.specs.Machine.{put}
 use Rattle.pws.proofs.Facts.{put-each}
 use Rattle.pso.specs.Machine.{Item, putBuffer, eachBuffer}
-use Rattle.replay.specs.Layout.{nextNumber, advanced}
-use Rattle.replay.proofs.ByteLaws.{next-is}
-use Rattle.replay.proofs.Answering.{queue-is}
+use Rattle.layout.specs.Layout.{nextNumber, advanced}
+use Rattle.layout.proofs.ByteLaws.{next-is}
+use Rattle.layout.proofs.Kept.{queue-is}
 use Rattle.psoreplay.specs.Layout.{itemPlace, itemAt, putItem, advancedBelow, markedBelow}
 use Rattle.psoreplay.proofs.AreaLaws.{marked-length}
 

@@ -7,9 +7,9 @@ use lib.ListN.{length}
 use Rattle.program_part.specs.declared.program.Shape.{Shape}
 use Rattle.program_part.specs.declared.program.Row.{Row}
 use Rattle.program_part.specs.Records.{stepAt}
-use Rattle.replay.specs.declared.step.Cause.{Cause}
-use Rattle.replay.specs.declared.step.Answer.{Answer}
-use Rattle.replay.specs.declared.step.Answer.the-variants.{Permitted, Refused}
+use Rattle.causes.specs.declared.Cause.{Cause}
+use Rattle.causes.specs.declared.Answer.{Answer}
+use Rattle.causes.specs.declared.Answer.the-variants.{Permitted, Refused}
 use Rattle.replay.specs.declared.run.RunAnswer.{RunAnswer}
 use Rattle.replay.specs.Answers.{answerThen}
 use Rattle.replay.specs.Loop.{nextStep, lastIn, stoppedBy}

@@ -18,8 +18,8 @@ use Rattle.program_part.specs.declared.program.Program.{Program}
 use Rattle.program_part.specs.Records.{stepAt}
 use Rattle.program_part.specs.ProgramPart.{shapeOf, programOf, targetsOf}
 use Rattle.whole_file.specs.EvidencePart.{stepsOf}
-use Rattle.replay.specs.declared.step.Answer.{Answer}
-use Rattle.replay.specs.declared.step.Answer.the-variants.{Permitted, Refused}
+use Rattle.causes.specs.declared.Answer.{Answer}
+use Rattle.causes.specs.declared.Answer.the-variants.{Permitted, Refused}
 use Rattle.replay.specs.declared.run.RunAnswer.{RunAnswer}
 use Rattle.replay.specs.Replay.{lowestMet}
 use Rattle.replay.specs.Answers.{lastAnswer, answerThen}

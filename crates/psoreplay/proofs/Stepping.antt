@@ -24,13 +24,13 @@ use Rattle.pso.specs.Machine.{Item, value, mark, PsoConfiguration, valueFirst, 
 use Rattle.program_part.specs.declared.program.Shape.{Shape}
 use Rattle.program_part.specs.declared.program.Program.{Program}
 use Rattle.program_part.specs.ProgramPart.{shapeOf, programOf}
-use Rattle.replay.specs.declared.step.Cause.the-variants.{State}
-use Rattle.replay.specs.declared.step.Answer.the-variants.{Refused}
-use Rattle.replay.specs.Causes.{firstCause}
-use Rattle.replay.specs.Layout.{nextNumber, advanced}
-use Rattle.replay.proofs.ByteLaws.{next-is}
-use Rattle.replay.proofs.Answering.{queue-is}
-use Rattle.replay.proofs.Stepping.{transition-count, transition-is, exists-is, exists-not}
+use Rattle.causes.specs.declared.Cause.the-variants.{State}
+use Rattle.causes.specs.declared.Answer.the-variants.{Refused}
+use Rattle.causes.specs.Causes.{firstCause}
+use Rattle.layout.specs.Layout.{nextNumber, advanced}
+use Rattle.layout.proofs.ByteLaws.{next-is}
+use Rattle.layout.proofs.Kept.{queue-is}
+use Rattle.layout.proofs.MoveLaws.{transition-count, transition-is, exists-is, exists-not}
 use Rattle.psoreplay.specs.declared.step.PsoMove.{PsoMove}
 use Rattle.psoreplay.specs.declared.step.PsoMove.the-variants.{Absent, Operate, UpdateVariable, RemoveMark}
 use Rattle.psoreplay.specs.declared.step.PsoRun.{PsoRun}

@@ -13,7 +13,7 @@ use Rattle.pso.specs.declared.PsoStep.{PsoStep}
 use Rattle.pso.specs.declared.PsoStep.the-variants.{Operate, UpdateVariable, RemoveMark}
 use Rattle.pso.specs.Machine.{PsoConfiguration, psoAfter}
 use Rattle.pso.specs.Runs.{PsoStart, psoStartWith, PsoTakes, PsoInTarget, psoInTarget}
-use Rattle.replay.specs.declared.step.Cause.{Cause}
+use Rattle.causes.specs.declared.Cause.{Cause}
 use Rattle.replay.specs.declared.run.RunAnswer.{RunAnswer}
 use Rattle.replay.specs.declared.run.RunAnswer.the-variants.{Reachable, Stopped, Missed}
 use Rattle.replay.specs.Answers.{lastAnswer, answerThen}

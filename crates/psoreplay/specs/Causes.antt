@@ -16,11 +16,11 @@ use Rattle.pws.specs.Machine.{allBelow}
 use Rattle.pso.specs.declared.PsoStep.{PsoStep}
 use Rattle.pso.specs.declared.PsoStep.the-variants.{Operate, UpdateVariable, RemoveMark}
 use Rattle.pso.specs.Machine.{PsoConfiguration, noItem, valueFirst, markFirst, psoSees, psoMay}
-use Rattle.replay.specs.declared.step.Cause.{Cause}
-use Rattle.replay.specs.declared.step.Cause.the-variants.{State, Queue, Pointer, Value, Nothing}
-use Rattle.replay.specs.declared.step.Answer.{Answer}
-use Rattle.replay.specs.declared.step.Answer.the-variants.{Refused}
-use Rattle.replay.specs.Causes.{firstCause}
+use Rattle.causes.specs.declared.Cause.{Cause}
+use Rattle.causes.specs.declared.Cause.the-variants.{State, Queue, Pointer, Value, Nothing}
+use Rattle.causes.specs.declared.Answer.{Answer}
+use Rattle.causes.specs.declared.Answer.the-variants.{Refused}
+use Rattle.causes.specs.Causes.{firstCause}
 
 -- ---- the causes, in the machine's words
 

@@ -13,11 +13,11 @@ use Rattle.pws.specs.declared.Step.the-variants as steps
 use Rattle.program_part.specs.declared.program.Shape.{Shape}
 use Rattle.program_part.specs.declared.program.Row.{Row}
 use Rattle.program_part.specs.Bytes.{choose, byte}
-use Rattle.replay.specs.declared.step.Cause.the-variants.{State}
-use Rattle.replay.specs.declared.step.Answer.{Answer}
-use Rattle.replay.specs.declared.step.Answer.the-variants.{Refused}
-use Rattle.replay.specs.Causes.{firstCause}
-use Rattle.replay.specs.Layout.{nextNumber, queueNumber, transitionIn, advanced}
+use Rattle.causes.specs.declared.Cause.the-variants.{State}
+use Rattle.causes.specs.declared.Answer.{Answer}
+use Rattle.causes.specs.declared.Answer.the-variants.{Refused}
+use Rattle.causes.specs.Causes.{firstCause}
+use Rattle.layout.specs.Layout.{nextNumber, queueNumber, transitionIn, advanced}
 use Rattle.psoreplay.specs.declared.step.PsoMove.{PsoMove}
 use Rattle.psoreplay.specs.declared.step.PsoMove.the-variants.{Absent, Operate, UpdateVariable, RemoveMark}
 use Rattle.psoreplay.specs.declared.step.PsoRun.{PsoRun}

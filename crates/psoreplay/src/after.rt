@@ -5,14 +5,14 @@ use crate::area::put_item;
 use crate::step::PsoMove;
 use crate::step::PsoRun;
 use crate::step::head_item;
+use layout::area::next_number;
+use layout::area::queue_number;
+use layout::area::with_value;
+use layout::arrays::advanced;
+use layout::arrays::of_queues;
+use layout::arrays::put_queue;
 use program_part::program::Shape;
 use pws::Operation;
-use replay::after::advanced;
-use replay::area::next_number;
-use replay::area::queue_number;
-use replay::area::with_value;
-use replay::step::of_queues;
-use replay::step::put_queue;
 
 // ---- the small part
 

@@ -5,9 +5,9 @@
 // A step puts at most one item into a buffer, so 1,024 bytes hold what 1,024 steps put there.
 ghost use mathlib.Core.Path.{_≡_};
 ghost use Rattle.psoreplay.specs.Layout.{itemPlace, itemAt, putItem};
+use layout::area::widen;
 use program_part::bytes::byte_at;
 use program_part::bytes::wide;
-use replay::area::widen;
 
 fn item_place(q: u8, k: u16) -> usize
     ensures { λ r. ⌜ r ≡ itemPlace q k ⌝ }

@@ -12,13 +12,13 @@ use crate::after::store;
 use crate::step::PsoRun;
 use crate::step::pso_move;
 use crate::step::step_answer;
+use causes::Answer;
+use layout::area::clear;
 use program_part::program::Program;
-use replay::area::clear;
 use replay::run::RunAnswer;
 use replay::run::last_answer;
 use replay::run::next_step;
 use replay::run::stopped_by;
-use replay::step::Answer;
 use whole_file::steps::step_at;
 
 // Initial local states, empty buffers, and this memory.

@@ -2,6 +2,12 @@
 ghost use mathlib.Core.Path.{_≡_};
 ghost use Rattle.psoreplay.specs.Layout.{psoMoveOf, emptyIn, headItem, valueFirstIn, markFirstIn, idleIn, noItemsIn, markedIn, allMarkedIn, seesIn, queueFitsIn, valueFitsIn, operateAnswerIn, mayUpdateIn, mayRemoveIn, answerIn};
 use crate::area::item_at;
+use causes::Answer;
+use causes::Cause;
+use causes::first_cause;
+use layout::area::queue_number;
+use layout::arrays::of_queues;
+use layout::moves::transition_in;
 use program_part::bytes::both;
 use program_part::bytes::either;
 use program_part::program::Row;
@@ -10,12 +16,6 @@ use program_part::program::of_four;
 use pws::Operation;
 use pws::Step;
 use pws::Transition;
-use replay::area::queue_number;
-use replay::step::Answer;
-use replay::step::Cause;
-use replay::step::first_cause;
-use replay::step::of_queues;
-use replay::step::transition_in;
 
 // A step with its transition; a transition that does not exist is in no local state.
 pub enum PsoMove {

@@ -1,30 +1,43 @@
 -- Laws of the loops: what one turn does to the definitions of specs/Loop.antt.
 use Prim.Native.Nat.{ℕ, suc, _+_, _-_, _<_, _≤_}
 use mathlib.Core.Path.{_≡_, refl, sym, ap, _∙_}
-use mathlib.Core.Bool.{true, false}
+use mathlib.Core.Bool.{Bool, true, false, cond}
 use mathlib.Core.List.{List}
 use native.Mathlib.Omega.{arith}
 use lib.ListN.{length}
 use Rattle.program_part.specs.declared.program.Shape.{Shape}
 use Rattle.program_part.specs.declared.program.Row.{Row}
-use Rattle.program_part.specs.Records.{stepAt}
-use Rattle.replay.specs.declared.step.Cause.{Cause}
-use Rattle.replay.specs.declared.step.Answer.{Answer}
-use Rattle.replay.specs.declared.step.Answer.the-variants.{Permitted, Refused}
-use Rattle.replay.specs.declared.step.Move.{Move}
-use Rattle.replay.specs.declared.step.Run.{Run}
+use Rattle.program_part.specs.Records.{isKind, stepBody, stepAt}
+use Rattle.causes.specs.declared.Cause.{Cause}
+use Rattle.causes.specs.declared.Answer.{Answer}
+use Rattle.causes.specs.declared.Answer.the-variants.{Permitted, Refused}
+use Rattle.layout.specs.declared.moves.Move.{Move}
+use Rattle.layout.specs.declared.arrays.Run.{Run}
 use Rattle.replay.specs.declared.run.RunAnswer.{RunAnswer}
 use Rattle.replay.specs.declared.run.RunAnswer.the-variants.{Reachable, Stopped, Missed}
 use Rattle.replay.specs.Answers.{answerThen}
-use Rattle.replay.specs.Layout.{moveOf, answerIn, runAfter, rowsAfter, lowerAfter}
+use Rattle.layout.specs.Layout.{moveOf}
+use Rattle.answering.specs.Answering.{answerIn}
+use Rattle.stepping.specs.After.{runAfter, rowsAfter}
+use Rattle.storing.specs.Stored.{lowerAfter}
 use Rattle.replay.specs.Loop.{inTargetIn, nextTarget, nextStep, lastFrom, lastIn, stoppedBy, runFrom}
-use Rattle.replay.proofs.AreaLaws.{area-length}
+use Rattle.storing.proofs.Lengths.{area-length}
 
 left-suc : (n i : ℕ) → i < n → n - i ≡ suc (n - (i + 1))
 left-suc n i l = omega arith
 
 left-zero : (n i : ℕ) → n ≤ i → n - i ≡ 0
 left-zero n i l = omega arith
+
+-- ---- steps
+
+pub body-most : (f : List ℕ) (at : ℕ) → stepBody f at ≤ 2
+unfolding stepBody
+body-most f at = go (isKind f at 33)
+  where
+    go : (b : Bool) → cond b 2 1 ≤ 2
+    go true = omega arith
+    go false = omega arith
 
 -- ---- the targets
 

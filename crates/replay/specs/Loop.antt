@@ -10,14 +10,17 @@ use Rattle.program_part.specs.declared.program.Row.{Row}
 use Rattle.program_part.specs.declared.program.Program.{Program}
 use Rattle.program_part.specs.Bytes.{choose, byte}
 use Rattle.program_part.specs.Records.{stepBody, stepAt}
-use Rattle.replay.specs.declared.step.Cause.the-variants.{Nothing}
-use Rattle.replay.specs.declared.step.Answer.{Answer}
-use Rattle.replay.specs.declared.step.Answer.the-variants.{Permitted, Refused}
-use Rattle.replay.specs.declared.step.Run.{Run}
+use Rattle.causes.specs.declared.Cause.the-variants.{Nothing}
+use Rattle.causes.specs.declared.Answer.{Answer}
+use Rattle.causes.specs.declared.Answer.the-variants.{Permitted, Refused}
+use Rattle.layout.specs.declared.arrays.Run.{Run}
 use Rattle.replay.specs.declared.run.RunAnswer.{RunAnswer}
 use Rattle.replay.specs.declared.run.RunAnswer.the-variants.{Reachable, Stopped, Missed}
 use Rattle.replay.specs.Answers.{answerThen}
-use Rattle.replay.specs.Layout.{putSnapshot, moveOf, answerIn, runAfter, rowsAfter, lowerAfter}
+use Rattle.layout.specs.Layout.{putSnapshot, moveOf}
+use Rattle.answering.specs.Answering.{answerIn}
+use Rattle.stepping.specs.After.{runAfter, rowsAfter}
+use Rattle.storing.specs.Stored.{lowerAfter}
 
 -- ---- the last test
 

@@ -1,6 +1,6 @@
 use borrow.Author.Tests.{le-leb, lt-leb}
 use native.Mathlib.Omega.{arith}
-use Rattle.replay.proofs.AreaLaws.{body-most}
+use Rattle.replay.proofs.LoopLaws.{body-most}
 use Rattle.replay.specs.Loop.{nextStep}
 use borrow.Author.Needs.{needs}
 use Rattle.replay.proofs.run.next_step.Statement.{statement}

@@ -1,8 +1,9 @@
 use mathlib.Core.Logic.{⊎-elim}
 use lib.ListN.{length, length-replicate, replicate}
-use Rattle.replay.specs.Layout.{moveOf, answerIn}
+use Rattle.layout.specs.Layout.{moveOf}
+use Rattle.answering.specs.Answering.{answerIn}
 use Rattle.replay.specs.Loop.{runFrom, replayIn}
-use Rattle.replay.proofs.AreaLaws.{snapshot-length}
+use Rattle.layout.proofs.AreaLaws.{snapshot-length}
 use Rattle.replay.proofs.Replaying.{replay-right}
 use Prim.Native.Nat.{ℕ, _-_}
 use mathlib.Core.Path.{_≡_, sym, ap, _∙_}
@@ -74,7 +75,7 @@ replay-steps-spec = tie.close (tie.spec
     (λ c κs. search needs)
     -- rows-after-requires
     (λ c κs. search needs)
-    -- after-requires
+    -- run-after-requires
     (λ c κs. search needs)
     -- next-step-requires
     (λ c κs. search needs)
@@ -87,7 +88,7 @@ replay-steps-spec = tie.close (tie.spec
     replaying-next (c .before .before .before .before .before .before .before .before .before .before .before .before .before .before .loop .inv) (c .before .before .before .before .before .before .before .before .before .before .before .move-of .result) (c .before .before .before .before .before .before .before .before .before .before .before .before .before .if1 .left)
     (c .before .before .before .before .before .before .before .before .before .before .before .move-of .ensures ∙ ap (moveOf g (c .before .before .before .before .before .before .before .before .before .before .before .before .before .before .before .before .before .before .before .before .before .before .before .before .before .before .before .before .args .program .transitions)) (c .before .before .before .before .before .before .before .before .before .before .before .before .step-at .ensures))
     (sym (c .before .before .before .before .before .before .before .before .before .step-answer .ensures) ∙ c .before .before .before .before .before .before .before .enum-told .given .1)
-    (c .next-step .ensures) (c .before .after .ensures) (c .before .before .rows-after .ensures) (c .before .before .before .before .before .store .ensures))
+    (c .next-step .ensures) (c .before .run-after .ensures) (c .before .before .rows-after .ensures) (c .before .before .before .before .before .store .ensures))
     -- clear-requires
     (λ c κs. search needs)
     -- same-length

@@ -1,0 +1,24 @@
+use borrow.Author.Needs.{needs}
+use Rattle.stepping.proofs.states_after.Statement.{statement}
+use Rattle.stepping.proofs.states_after.Tie as tie
+
+pub states-after-spec : {M : Type 1} → statement M
+states-after-spec = tie.close (tie.spec
+    -- enum-told 344:25
+    (λ c. search needs)
+    -- enum-known-step 345:20
+    (λ c. search needs)
+    -- with-value-requires 345:26
+    (λ c κs. search needs)
+    -- enum-known-step-2 346:27
+    (λ c. search needs)
+    -- enum-known-step-3 347:24
+    (λ c. search needs)
+    -- returns 340:1
+    (λ c. search needs)
+    -- returns-2 340:1
+    (λ c. rw (c .before .before .step .given .1) (c .with-value .ensures))
+    -- returns-3 340:1
+    (λ c. search needs)
+    -- returns-4 340:1
+    (λ c. search needs))
