@@ -14,9 +14,9 @@ use Rattle.causes.specs.declared.Answer.the-variants.{Permitted, Refused}
 use Rattle.causes.specs.declared.Cause.{Cause}
 use Rattle.causes.specs.declared.Cause.the-variants.{Pointer}
 use Rattle.causes.specs.Causes.{isPermitted}
-use Rattle.psoreplay.specs.Causes.{Because, psoStepAnswer}
+use Rattle.psoanswering.specs.Causes.{Because, psoStepAnswer}
 use Rattle.psoreplay.specs.Answers.{PsoStopped}
-use Rattle.psoreplay.proofs.CauseLaws.{Answers, answers, because-only}
+use Rattle.psoanswering.proofs.CauseLaws.{Answers, answers, because-only}
 use Rattle.judge.specs.PsoRuns.{PsoHalts}
 
 -- ---- one step

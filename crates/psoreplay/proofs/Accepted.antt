@@ -23,9 +23,9 @@ use Rattle.causes.specs.declared.Answer.the-variants.{Permitted, Refused}
 use Rattle.replay.specs.declared.run.RunAnswer.{RunAnswer}
 use Rattle.replay.specs.declared.run.RunAnswer.the-variants.{Reachable, Stopped, Missed}
 use Rattle.replay.specs.Answers.{lastAnswer, answerThen}
-use Rattle.psoreplay.specs.Causes.{Because, psoStepAnswer}
+use Rattle.psoanswering.specs.Causes.{Because, psoStepAnswer}
 use Rattle.psoreplay.specs.Answers.{PsoAnswered, psoLowestMet, psoAnswerFrom, psoRunAnswer}
-use Rattle.psoreplay.proofs.CauseLaws.{Answers, answers, because-only}
+use Rattle.psoanswering.proofs.CauseLaws.{Answers, answers, because-only}
 use Rattle.psoreplay.proofs.Alike.{Alike, answers-alike}
 
 -- ---- targets

@@ -22,9 +22,9 @@ use Rattle.causes.specs.declared.Answer.{Answer}
 use Rattle.causes.specs.declared.Answer.the-variants.{Permitted, Refused}
 use Rattle.replay.specs.Answers.{lastAnswer, answerThen}
 use Rattle.causes.specs.Causes.{firstCause}
-use Rattle.psoreplay.specs.Causes.{psoQueueFits, psoValueFits, psoStepAnswer}
+use Rattle.psoanswering.specs.Causes.{psoQueueFits, psoValueFits, psoStepAnswer}
 use Rattle.psoreplay.specs.Answers.{psoLowestMet, psoAnswerFrom}
-use Rattle.psoreplay.proofs.CauseLaws.{Answers, answers}
+use Rattle.psoanswering.proofs.CauseLaws.{Answers, answers}
 
 pub record Alike (S : Shape) (d e : PsoConfiguration) : Type 0 where
   pub states : (p : ℕ) → p < S .processes → d .state p ≡ e .state p

@@ -17,7 +17,7 @@ use Rattle.causes.specs.declared.Cause.{Cause}
 use Rattle.replay.specs.declared.run.RunAnswer.{RunAnswer}
 use Rattle.replay.specs.declared.run.RunAnswer.the-variants.{Reachable, Stopped, Missed}
 use Rattle.replay.specs.Answers.{lastAnswer, answerThen}
-use Rattle.psoreplay.specs.Causes.{Because, psoStepAnswer}
+use Rattle.psoanswering.specs.Causes.{Because, psoStepAnswer}
 
 -- ---- the steps of a file: 20 is a transition, 21 an update of a variable, 22 the removal of a mark
 

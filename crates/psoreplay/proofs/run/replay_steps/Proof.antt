@@ -3,7 +3,8 @@ use mathlib.Core.Path.{_≡_, sym, ap, _∙_}
 use mathlib.Core.Logic.{⊎-elim}
 use native.Mathlib.Omega.{arith}
 use lib.ListN.{length, length-replicate, replicate}
-use Rattle.psoreplay.specs.Layout.{psoMoveOf, answerIn}
+use Rattle.psolayout.specs.Layout.{psoMoveOf}
+use Rattle.psoanswering.specs.Answering.{answerIn}
 use Rattle.psoreplay.specs.Loop.{runFrom, replayIn}
 use Rattle.psoreplay.proofs.LoopLaws.{Replaying, replaying-begin, replaying-done, replaying-stopped, replaying-next}
 use Rattle.psoreplay.proofs.Replaying.{replay-right}
