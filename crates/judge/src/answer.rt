@@ -9,9 +9,9 @@ use by_number::offending::offending_part;
 use by_number::offending::offending_place;
 use causes::Cause;
 use causes::cause_number;
+use last_test::RunAnswer;
 use program_part::program::Refusal;
 use pws::Step;
-use replay::run::RunAnswer;
 use whole_file::evidence::Part;
 
 // The number and the values of each are given by `verdictIn`.

@@ -16,7 +16,7 @@ fn item_place(q: u8, k: u16) -> usize
 }
 
 // Item k of buffer q.
-pub fn item_at(lower: &[u8], q: u8, k: u16) -> u8
+pub(crate) fn item_at(lower: &[u8], q: u8, k: u16) -> u8
     ensures { λ r. ⌜ r ≡ itemAt (now (lower .entry)) q k ⌝ }
 {
     byte_at(lower, item_place(q, k))

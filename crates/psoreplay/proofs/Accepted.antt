@@ -20,8 +20,8 @@ use Rattle.pso.specs.Machine.{PsoConfiguration, psoMay, psoAfter}
 use Rattle.pso.specs.Runs.{PsoStart, psoStartWith, PsoTakes, done, step, PsoInTarget, psoInTarget}
 use Rattle.causes.specs.declared.Answer.{Answer}
 use Rattle.causes.specs.declared.Answer.the-variants.{Permitted, Refused}
-use Rattle.replay.specs.declared.run.RunAnswer.{RunAnswer}
-use Rattle.replay.specs.declared.run.RunAnswer.the-variants.{Reachable, Stopped, Missed}
+use Rattle.last_test.specs.declared.RunAnswer.{RunAnswer}
+use Rattle.last_test.specs.declared.RunAnswer.the-variants.{Reachable, Stopped, Missed}
 use Rattle.replay.specs.Answers.{lastAnswer, answerThen}
 use Rattle.psoanswering.specs.Causes.{Because, psoStepAnswer}
 use Rattle.psoreplay.specs.Answers.{PsoAnswered, psoLowestMet, psoAnswerFrom, psoRunAnswer}

@@ -10,9 +10,10 @@ use Rattle.program_part.specs.Records.{stepAt}
 use Rattle.causes.specs.declared.Cause.{Cause}
 use Rattle.causes.specs.declared.Answer.{Answer}
 use Rattle.causes.specs.declared.Answer.the-variants.{Permitted, Refused}
-use Rattle.replay.specs.declared.run.RunAnswer.{RunAnswer}
+use Rattle.last_test.specs.declared.RunAnswer.{RunAnswer}
 use Rattle.replay.specs.Answers.{answerThen}
-use Rattle.replay.specs.Loop.{nextStep, lastIn, stoppedBy}
+use Rattle.last_test.specs.LastTest.{lastIn}
+use Rattle.replay.specs.Loop.{nextStep, stoppedBy}
 use Rattle.psolayout.specs.declared.moves.PsoMove.{PsoMove}
 use Rattle.psolayout.specs.declared.buffers.PsoRun.{PsoRun}
 use Rattle.psolayout.specs.Layout.{psoMoveOf}

@@ -20,7 +20,7 @@ use Rattle.program_part.specs.ProgramPart.{shapeOf, programOf, targetsOf}
 use Rattle.whole_file.specs.EvidencePart.{stepsOf}
 use Rattle.causes.specs.declared.Answer.{Answer}
 use Rattle.causes.specs.declared.Answer.the-variants.{Permitted, Refused}
-use Rattle.replay.specs.declared.run.RunAnswer.{RunAnswer}
+use Rattle.last_test.specs.declared.RunAnswer.{RunAnswer}
 use Rattle.replay.specs.Replay.{lowestMet}
 use Rattle.replay.specs.Answers.{lastAnswer, answerThen}
 use Rattle.replay.specs.Loop.{nextStep}

@@ -14,8 +14,8 @@ use Rattle.pso.specs.declared.PsoStep.the-variants.{Operate, UpdateVariable, Re
 use Rattle.pso.specs.Machine.{PsoConfiguration, psoAfter}
 use Rattle.pso.specs.Runs.{PsoStart, psoStartWith, PsoTakes, PsoInTarget, psoInTarget}
 use Rattle.causes.specs.declared.Cause.{Cause}
-use Rattle.replay.specs.declared.run.RunAnswer.{RunAnswer}
-use Rattle.replay.specs.declared.run.RunAnswer.the-variants.{Reachable, Stopped, Missed}
+use Rattle.last_test.specs.declared.RunAnswer.{RunAnswer}
+use Rattle.last_test.specs.declared.RunAnswer.the-variants.{Reachable, Stopped, Missed}
 use Rattle.replay.specs.Answers.{lastAnswer, answerThen}
 use Rattle.psoanswering.specs.Causes.{Because, psoStepAnswer}
 

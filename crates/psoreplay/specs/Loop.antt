@@ -7,9 +7,10 @@ use Rattle.program_part.specs.declared.program.Shape.{Shape}
 use Rattle.program_part.specs.declared.program.Row.{Row}
 use Rattle.program_part.specs.declared.program.Program.{Program}
 use Rattle.program_part.specs.Records.{stepAt}
-use Rattle.replay.specs.declared.run.RunAnswer.{RunAnswer}
+use Rattle.last_test.specs.declared.RunAnswer.{RunAnswer}
 use Rattle.replay.specs.Answers.{answerThen}
-use Rattle.replay.specs.Loop.{nextStep, lastIn}
+use Rattle.last_test.specs.LastTest.{lastIn}
+use Rattle.replay.specs.Loop.{nextStep}
 use Rattle.psolayout.specs.declared.buffers.PsoRun.{PsoRun}
 use Rattle.psolayout.specs.Layout.{psoMoveOf}
 use Rattle.psoanswering.specs.Answering.{answerIn}

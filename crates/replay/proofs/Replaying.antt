@@ -24,8 +24,8 @@ use Rattle.whole_file.specs.EvidencePart.{stepsOf}
 use Rattle.causes.specs.declared.Answer.{Answer}
 use Rattle.causes.specs.declared.Answer.the-variants.{Permitted, Refused}
 use Rattle.layout.specs.declared.arrays.Run.{Run}
-use Rattle.replay.specs.declared.run.RunAnswer.{RunAnswer}
-use Rattle.replay.specs.declared.run.RunAnswer.the-variants.{Reachable}
+use Rattle.last_test.specs.declared.RunAnswer.{RunAnswer}
+use Rattle.last_test.specs.declared.RunAnswer.the-variants.{Reachable}
 use Rattle.replay.specs.Replay as run
 use Rattle.causes.specs.Causes.{stepAnswer, isPermitted}
 use Rattle.replay.specs.Answers.{verdictOfRun, lastAnswer, answerThen, answerFrom, runAnswer, RunOf}
@@ -33,7 +33,8 @@ use Rattle.layout.specs.Layout.{putSnapshot, moveOf}
 use Rattle.answering.specs.Answering.{answerIn}
 use Rattle.stepping.specs.After.{runAfter, rowsAfter}
 use Rattle.storing.specs.Stored.{lowerAfter}
-use Rattle.replay.specs.Loop.{agreesIn, inTargetIn, nextTarget, nextStep, lastFrom, firstRun, firstRows, runFrom, replayIn}
+use Rattle.last_test.specs.LastTest.{agreesIn, inTargetIn, nextTarget, lastFrom}
+use Rattle.replay.specs.Loop.{nextStep, firstRun, firstRows, runFrom, replayIn}
 use Rattle.layout.proofs.AreaLaws.{snapshot-length}
 use Rattle.layout.proofs.ByteLaws.{snapshot-same}
 use Rattle.causes.proofs.CauseLaws.{answer-may}

@@ -10,8 +10,8 @@ use Rattle.pws.specs.Machine.{Configuration, after}
 use Rattle.pws.specs.Configurations.{startWith}
 use Rattle.causes.specs.declared.Answer.{Answer}
 use Rattle.causes.specs.declared.Answer.the-variants.{Permitted, Refused}
-use Rattle.replay.specs.declared.run.RunAnswer.{RunAnswer}
-use Rattle.replay.specs.declared.run.RunAnswer.the-variants.{Reachable, Stopped, Missed}
+use Rattle.last_test.specs.declared.RunAnswer.{RunAnswer}
+use Rattle.last_test.specs.declared.RunAnswer.the-variants.{Reachable, Stopped, Missed}
 use Rattle.replay.specs.Replay.{RunVerdict, reachable, stopped, missed, lowestMet, runVerdict}
 use Rattle.causes.specs.Causes.{stepAnswer}
 

@@ -1,8 +1,8 @@
 use borrow.Author.Tests.{le-leb, lt-leb}
-use Rattle.replay.specs.Loop.{nextTarget}
+use Rattle.last_test.specs.LastTest.{nextTarget}
 use borrow.Author.Needs.{needs}
-use Rattle.replay.proofs.run.next_target.Statement.{statement}
-use Rattle.replay.proofs.run.next_target.Tie as tie
+use Rattle.last_test.proofs.next_target.Statement.{statement}
+use Rattle.last_test.proofs.next_target.Tie as tie
 
 pub next-target-spec : {M : Type 1} → statement M
 unfolding nextTarget

@@ -1,7 +1,7 @@
-use Rattle.replay.specs.Loop.{agreesIn}
+use Rattle.last_test.specs.LastTest.{agreesIn}
 use borrow.Author.Needs.{needs}
-use Rattle.replay.proofs.run.agrees.Statement.{statement}
-use Rattle.replay.proofs.run.agrees.Tie as tie
+use Rattle.last_test.proofs.agrees.Statement.{statement}
+use Rattle.last_test.proofs.agrees.Tie as tie
 
 pub agrees-spec : {M : Type 1} → statement M
 unfolding agreesIn

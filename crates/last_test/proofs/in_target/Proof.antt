@@ -1,7 +1,7 @@
-use Rattle.replay.specs.Loop.{inTargetIn}
+use Rattle.last_test.specs.LastTest.{inTargetIn}
 use borrow.Author.Needs.{needs}
-use Rattle.replay.proofs.run.in_target.Statement.{statement}
-use Rattle.replay.proofs.run.in_target.Tie as tie
+use Rattle.last_test.proofs.in_target.Statement.{statement}
+use Rattle.last_test.proofs.in_target.Tie as tie
 
 pub in-target-spec : {M : Type 1} → statement M
 unfolding inTargetIn

@@ -2,10 +2,10 @@ use Prim.Native.Nat.{_-_, _≤_}
 use mathlib.Core.Path.{_≡_, sym, _∙_}
 use native.Mathlib.Omega.{arith}
 use borrow.Author.Needs.{needs}
-use Rattle.replay.specs.Loop.{lastFrom}
-use Rattle.replay.proofs.LoopLaws.{last-begin, last-hit, last-next, last-none}
-use Rattle.replay.proofs.run.last_answer.Statement.{statement}
-use Rattle.replay.proofs.run.last_answer.Tie as tie
+use Rattle.last_test.specs.LastTest.{lastFrom}
+use Rattle.last_test.proofs.LastLaws.{last-begin, last-hit, last-next, last-none}
+use Rattle.last_test.proofs.last_answer.Statement.{statement}
+use Rattle.last_test.proofs.last_answer.Tie as tie
 
 abbrev Inv-loop : tie.InvT-loop
 Inv-loop file shape states steps k₀ i₀ i-end k i = (i ≤ i-end) × (lastFrom file shape states steps k i (i-end - i) ≡ lastFrom file shape states steps k₀ 0 i-end)
