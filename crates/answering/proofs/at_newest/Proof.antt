@@ -1,5 +1,4 @@
 use Rattle.answering.specs.Answering.{atNewestIn}
-use borrow.Author.Needs.{needs}
 use Rattle.answering.proofs.at_newest.Statement.{statement}
 use Rattle.answering.proofs.at_newest.Tie as tie
 
@@ -7,6 +6,6 @@ pub at-newest-spec : {M : Type 1} → statement M
 unfolding atNewestIn
 at-newest-spec = tie.close (tie.spec
     -- pointer-of-requires 185:5
-    (λ c κs. search needs)
+    (λ c κs. tt)
     -- returns 182:1
     (λ c. rw (c .before .pointer-of .ensures)))

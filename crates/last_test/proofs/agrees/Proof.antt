@@ -1,5 +1,4 @@
 use Rattle.last_test.specs.LastTest.{agreesIn}
-use borrow.Author.Needs.{needs}
 use Rattle.last_test.proofs.agrees.Statement.{statement}
 use Rattle.last_test.proofs.agrees.Tie as tie
 
@@ -7,6 +6,6 @@ pub agrees-spec : {M : Type 1} → statement M
 unfolding agreesIn
 agrees-spec = tie.close (tie.spec
     -- either-requires 38:5
-    (λ c κs. search needs)
+    (λ c κs. tt)
     -- returns 35:1
     (λ c. c .either .ensures))

@@ -20,11 +20,11 @@ last-answer-spec = tie.close (tie.spec
     -- loop-holds
     (λ c. (search needs, last-begin _ _ _ _ _ _))
     -- in-target-requires
-    (λ c κs. search needs)
+    (λ c κs. tt)
     -- returns
     (λ c. sym (last-hit _ _ _ _ _ _ _ (c .before .before .loop-test .taken) (sym (c .before .in-target .ensures) ∙ c .if1 .taken)) ∙ c .before .before .before .loop .inv .1)
     -- next-target-requires
-    (λ c κs. search needs)
+    (λ c κs. tt)
     -- add-i
     (λ c. search needs)
     -- loop-less

@@ -1,5 +1,4 @@
 use Rattle.psoanswering.specs.Answering.{mayRemoveIn}
-use borrow.Author.Needs.{needs}
 use Rattle.psoanswering.proofs.may_remove.Statement.{statement}
 use Rattle.psoanswering.proofs.may_remove.Tie as tie
 
@@ -7,8 +6,8 @@ pub may-remove-spec : {M : Type 1} → statement M
 unfolding mayRemoveIn
 may-remove-spec = tie.close (tie.spec
     -- all-marked-requires
-    (λ c κs. search needs)
+    (λ c κs. tt)
     -- both-requires
-    (λ c κs. search needs)
+    (λ c κs. tt)
     -- returns
     (λ c. rw (c .both .ensures, c .before .all-marked .ensures)))

@@ -1,27 +1,26 @@
-use borrow.Author.Needs.{needs}
 use Rattle.psoanswering.proofs.step_answer.Statement.{statement}
 use Rattle.psoanswering.proofs.step_answer.Tie as tie
 
 pub step-answer-spec : {M : Type 1} → statement M
 step-answer-spec = tie.close (tie.spec
     -- enum-told
-    (λ c. search needs)
+    (λ c. c .match .keys1)
     -- enum-known-step
-    (λ c. search needs)
+    (λ c. c .match .keys2)
     -- operate-answer-requires
-    (λ c κs. search needs)
+    (λ c κs. tt)
     -- enum-known-step-2
-    (λ c. search needs)
+    (λ c. c .match .keys3)
     -- may-update-requires
-    (λ c κs. search needs)
+    (λ c κs. tt)
     -- first-cause-requires
-    (λ c κs. search needs)
+    (λ c κs. tt)
     -- enum-known-step-3
-    (λ c. search needs)
+    (λ c. c .match .keys4)
     -- may-remove-requires
-    (λ c κs. search needs)
+    (λ c κs. tt)
     -- first-cause-requires-2
-    (λ c κs. search needs)
+    (λ c κs. tt)
     -- returns
     (λ c. rw (c .enum-told .given .1))
     -- returns-2

@@ -21,7 +21,7 @@ advanced-below-spec = tie.close (tie.spec
     -- loop-holds
     (λ c. (search needs, refl))
     -- advanced-requires
-    (λ c κs. search needs)
+    (λ c κs. tt)
     -- add-v
     (λ c. search needs)
     -- loop-less

@@ -23,11 +23,11 @@ put-marks-spec = tie.close (tie.spec
     -- loop-holds
     (λ c. (search needs, refl))
     -- queue-number-requires
-    (λ c κs. search needs)
+    (λ c κs. tt)
     -- of-queues-requires
-    (λ c κs. search needs)
+    (λ c κs. tt)
     -- put-item-requires
-    (λ c κs. search needs)
+    (λ c κs. tt)
     -- add-v
     (λ c. search needs)
     -- loop-less

@@ -5,27 +5,27 @@ use Rattle.psostepping.proofs.store_operated.Tie as tie
 pub store-operated-spec : {M : Type 1} → statement M
 store-operated-spec = tie.close (tie.spec
     -- enum-told
-    (λ c. search needs)
+    (λ c. c .match .keys1)
     -- enum-known-operation
-    (λ c. search needs)
+    (λ c. c .match .keys2)
     -- enum-known-operation-2
-    (λ c. search needs)
+    (λ c. c .match .keys3)
     -- queue-number-requires
-    (λ c κs. search needs)
+    (λ c κs. tt)
     -- of-queues-requires
-    (λ c κs. search needs)
+    (λ c κs. tt)
     -- put-item-requires
-    (λ c κs. search needs)
+    (λ c κs. tt)
     -- enum-told-2
-    (λ c. search needs)
+    (λ c. c .match .keys4)
     -- enum-told-3
-    (λ c. search needs)
+    (λ c. c .match .keys5)
     -- put-marks-requires
-    (λ c κs. search needs)
+    (λ c κs. tt)
     -- enum-known-operation-3
-    (λ c. search needs)
+    (λ c. c .match .keys6)
     -- returns
-    (λ c. search needs)
+    (λ c. rw (c .enum-told .given .1))
     -- returns-2
     (λ c. rw (c .before .operation .given .1))
     -- same-length
@@ -33,7 +33,7 @@ store-operated-spec = tie.close (tie.spec
     -- returns-3
     (λ c. rw (c .before .before .before .before .before .before .before .operation2 .given .1, c .before .before .put-item .ensures, c .before .before .before .of-queues .ensures, c .before .before .before .before .before .queue-number .ensures))
     -- returns-4
-    (λ c. search needs)
+    (λ c. rw (c .enum-told2 .given .1))
     -- same-length-2
     (λ c. search needs)
     -- returns-5

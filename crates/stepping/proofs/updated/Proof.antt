@@ -8,25 +8,25 @@ pub updated-spec : {M : Type 1} → statement M
 unfolding updated
 updated-spec = tie.close (tie.spec
     -- pointer-of-requires 481:25
-    (λ c κs. search needs)
+    (λ c κs. tt)
     -- next-number-requires 481:9
-    (λ c κs. search needs)
+    (λ c κs. tt)
     -- last-write-of-requires 484:15
-    (λ c κs. search needs)
+    (λ c κs. tt)
     -- later-requires 484:9
-    (λ c κs. search needs)
+    (λ c κs. tt)
     -- last-write-of-requires-2 485:15
-    (λ c κs. search needs)
+    (λ c κs. tt)
     -- later-requires-2 485:9
-    (λ c κs. search needs)
+    (λ c κs. tt)
     -- last-write-of-requires-3 486:15
-    (λ c κs. search needs)
+    (λ c κs. tt)
     -- later-requires-3 486:9
-    (λ c κs. search needs)
+    (λ c κs. tt)
     -- last-write-of-requires-4 487:15
-    (λ c κs. search needs)
+    (λ c κs. tt)
     -- later-requires-4 487:9
-    (λ c κs. search needs)
+    (λ c κs. tt)
     -- mul-next 491:9
     (λ c. search needs)
     -- array-set-from-next 491:9

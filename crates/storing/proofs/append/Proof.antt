@@ -7,13 +7,13 @@ pub append-spec : {M : Type 1} → statement M
 unfolding appended
 append-spec = tie.close (tie.spec
     -- snapshot-at-requires 540:9
-    (λ c κs. search needs)
+    (λ c κs. tt)
     -- with-value-requires 541:9
-    (λ c κs. search needs)
+    (λ c κs. tt)
     -- next-number-requires 542:25
-    (λ c κs. search needs)
+    (λ c κs. tt)
     -- put-snapshot-requires 542:5
-    (λ c κs. search needs)
+    (λ c κs. tt)
     -- same-length 537:1
     (λ c. search needs)
     -- returns 537:1

@@ -10,7 +10,7 @@ pub put-snapshot-spec : {M : Type 1} → statement M
 unfolding putSnapshot
 put-snapshot-spec = tie.close (tie.spec
     -- widen-requires 71:18
-    (λ c κs. search needs)
+    (λ c κs. tt)
     -- mul-at 71:14
     (λ c. search needs)
     -- add-if1 72:22

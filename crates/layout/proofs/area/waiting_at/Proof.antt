@@ -1,6 +1,5 @@
 use borrow.Author.Tests.{eq-eqb, ne-eqb}
 use Rattle.layout.specs.Layout.{waitingAt}
-use borrow.Author.Needs.{needs}
 use Rattle.layout.proofs.area.waiting_at.Statement.{statement}
 use Rattle.layout.proofs.area.waiting_at.Tie as tie
 
@@ -8,9 +7,9 @@ pub waiting-at-spec : {M : Type 1} → statement M
 unfolding waitingAt
 waiting-at-spec = tie.close (tie.spec
     -- waiting-place-requires 91:31
-    (λ c κs. search needs)
+    (λ c κs. tt)
     -- byte-at-requires 91:9
-    (λ c κs. search needs)
+    (λ c κs. tt)
     -- returns 93:9
     (λ c. rw (eq-eqb _ _ (c .if1 .taken), ← (c .before .before .waiting-place .ensures), c .before .byte-at .ensures))
     -- returns-2 88:1

@@ -8,7 +8,7 @@ use Rattle.layout.proofs.arrays.of_queues.Tie as tie
 pub of-queues-spec : {M : Type 1} → statement M
 of-queues-spec = tie.close (tie.spec
     -- wide-requires 115:9
-    (λ c κs. search needs)
+    (λ c κs. tt)
     -- mul-result 117:16
     (λ c. search needs)
     -- array-read-result 117:16

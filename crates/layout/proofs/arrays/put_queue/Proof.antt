@@ -9,7 +9,7 @@ use Rattle.layout.proofs.arrays.put_queue.Tie as tie
 pub put-queue-spec : {M : Type 1} → statement M
 put-queue-spec = tie.close (tie.spec
     -- wide-requires 125:9
-    (λ c κs. search needs)
+    (λ c κs. tt)
     -- mul-next 128:9
     (λ c. search needs)
     -- array-write-next 128:9

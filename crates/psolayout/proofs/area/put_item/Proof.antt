@@ -7,7 +7,7 @@ use Rattle.psolayout.proofs.area.put_item.Tie as tie
 pub put-item-spec : {M : Type 1} → statement M
 put-item-spec = tie.close (tie.spec
     -- item-place-requires
-    (λ c κs. search needs)
+    (λ c κs. tt)
     -- returns
     (λ c. rw (← (c .before .item-place .ensures)) (sym (set-out _ _ _ (c .if1 .taken))))
     -- slice-write-lower

@@ -1,5 +1,4 @@
 use Rattle.psolayout.specs.Layout.{emptyIn}
-use borrow.Author.Needs.{needs}
 use Rattle.psolayout.proofs.buffers.is_empty.Statement.{statement}
 use Rattle.psolayout.proofs.buffers.is_empty.Tie as tie
 
@@ -7,10 +6,10 @@ pub is-empty-spec : {M : Type 1} → statement M
 unfolding emptyIn
 is-empty-spec = tie.close (tie.spec
     -- queue-number-requires
-    (λ c κs. search needs)
+    (λ c κs. tt)
     -- of-queues-requires
-    (λ c κs. search needs)
+    (λ c κs. tt)
     -- of-queues-requires-2
-    (λ c κs. search needs)
+    (λ c κs. tt)
     -- returns
     (λ c. rw (c .of-queues2 .ensures, c .before .of-queues .ensures, c .before .before .before .before .queue-number .ensures)))

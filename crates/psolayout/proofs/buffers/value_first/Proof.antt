@@ -1,5 +1,4 @@
 use Rattle.psolayout.specs.Layout.{valueFirstIn}
-use borrow.Author.Needs.{needs}
 use Rattle.psolayout.proofs.buffers.value_first.Statement.{statement}
 use Rattle.psolayout.proofs.buffers.value_first.Tie as tie
 
@@ -7,10 +6,10 @@ pub value-first-spec : {M : Type 1} → statement M
 unfolding valueFirstIn
 value-first-spec = tie.close (tie.spec
     -- is-empty-requires
-    (λ c κs. search needs)
+    (λ c κs. tt)
     -- head-item-requires
-    (λ c κs. search needs)
+    (λ c κs. tt)
     -- both-requires
-    (λ c κs. search needs)
+    (λ c κs. tt)
     -- returns
     (λ c. rw (c .both .ensures, c .before .head-item .ensures, c .before .before .is-empty .ensures)))

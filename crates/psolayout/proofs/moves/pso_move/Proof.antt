@@ -1,20 +1,19 @@
 use borrow.Author.Tests.{le-leb, lt-leb}
-use borrow.Author.Needs.{needs}
 use Rattle.psolayout.proofs.moves.pso_move.Statement.{statement}
 use Rattle.psolayout.proofs.moves.pso_move.Tie as tie
 
 pub pso-move-spec : {M : Type 1} → statement M
 pso-move-spec = tie.close (tie.spec
     -- enum-known-step
-    (λ c. search needs)
+    (λ c. c .match .keys1)
     -- returns
     (λ c. rw (c .before .before .before .step .given .1, le-leb _ _ (c .if1 .taken)))
     -- transition-in-requires
-    (λ c κs. search needs)
+    (λ c κs. tt)
     -- enum-known-step-2
-    (λ c. search needs)
+    (λ c. c .match .keys2)
     -- enum-known-step-3
-    (λ c. search needs)
+    (λ c. c .match .keys3)
     -- returns-2
     (λ c. rw (c .before .before .before .before .step .given .1, lt-leb _ _ (c .before .if1 .left), c .transition-in .ensures))
     -- returns-3

@@ -50,35 +50,35 @@ replay-steps-spec = tie.close (tie.spec
     Inv-loop
     μ-loop
     -- put-snapshot-requires
-    (λ c κs. search needs)
+    (λ c κs. tt)
     -- first-run-requires
-    (λ c κs. search needs)
+    (λ c κs. tt)
     -- first-rows-requires
-    (λ c κs. search needs)
+    (λ c κs. tt)
     -- loop-holds
     (λ c. replaying-begin _ _ _ _ _ _ _ _ _ _)
     -- last-answer-requires
-    (λ c κs. search needs)
+    (λ c κs. tt)
     -- step-at-requires
-    (λ c κs. search needs)
+    (λ c κs. tt)
     -- move-of-requires
-    (λ c κs. search needs)
+    (λ c κs. tt)
     -- step-answer-requires
-    (λ c κs. search needs)
+    (λ c κs. tt)
     -- enum-told
-    (λ c. search needs)
+    (λ c. c .match .keys1)
     -- enum-told-2
-    (λ c. search needs)
+    (λ c. c .match .keys2)
     -- stopped-by-requires
-    (λ c κs. search needs)
+    (λ c κs. tt)
     -- store-requires
-    (λ c κs. search needs)
+    (λ c κs. tt)
     -- rows-after-requires
-    (λ c κs. search needs)
+    (λ c κs. tt)
     -- run-after-requires
-    (λ c κs. search needs)
+    (λ c κs. tt)
     -- next-step-requires
-    (λ c κs. search needs)
+    (λ c κs. tt)
     -- add-i
     (λ c. omega (arith, c .before .before .before .before .before .before .before .before .before .before .before .before .before .if1 .left, c .before .before .before .before .before .before .before .before .before .before .before .before .before .before .before .before .before .before .before .before .before .before .before .before .before .before .before .before .fits .count))
     -- loop-less
@@ -90,7 +90,7 @@ replay-steps-spec = tie.close (tie.spec
     (sym (c .before .before .before .before .before .before .before .before .before .step-answer .ensures) ∙ c .before .before .before .before .before .before .before .enum-told .given .1)
     (c .next-step .ensures) (c .before .run-after .ensures) (c .before .before .rows-after .ensures) (c .before .before .before .before .before .store .ensures))
     -- clear-requires
-    (λ c κs. search needs)
+    (λ c κs. tt)
     -- same-length
     (λ c. kept c)
     -- returns
