@@ -69,7 +69,7 @@ use Rattle.whole_file.specs.EvidencePart.{
 }
 use Rattle.whole_file.specs.Reading.{Input, combined, pair, evidenceAt, Evidence, entries, claimThen, runEvidence, evidenceFrom, programThen, partsOf, FileRead, partsRead, readFile}
 use Rattle.by_number.specs.Offending.{bodyOf, recordAt, isOfRecord, offendingBy, offending}
-use Rattle.replay.specs.Causes.{firstCause}
+use Rattle.causes.specs.Causes.{firstCause}
 use Rattle.judge.specs.Judge.{Verdict, ofFile, judged}
 use Rattle.judge.specs.Cases.{Row, file, files, hands, below, notBelow, Holds, caseA, Each, no-row, row, cases}
 

@@ -26,11 +26,11 @@ use Rattle.whole_file.specs.Reading as reading
 use Rattle.by_number.specs.Contents.{ListRead, StepOf}
 use Rattle.by_number.proofs.Contents.{list-read, run-read, pso-run-read}
 use Rattle.by_number.proofs.Counts.{HasCounts, file-counts}
-use Rattle.replay.specs.declared.step.Cause.{Cause}
-use Rattle.replay.specs.declared.step.Cause.the-variants.{State, Queue, Pointer, Value, Nothing}
-use Rattle.replay.specs.declared.run.RunAnswer.{RunAnswer}
-use Rattle.replay.specs.declared.run.RunAnswer.the-variants.{Reachable, Stopped, Missed}
-use Rattle.replay.specs.Causes.{causeNumber}
+use Rattle.causes.specs.declared.Cause.{Cause}
+use Rattle.causes.specs.declared.Cause.the-variants.{State, Queue, Pointer, Value, Nothing}
+use Rattle.last_test.specs.declared.RunAnswer.{RunAnswer}
+use Rattle.last_test.specs.declared.RunAnswer.the-variants.{Reachable, Stopped, Missed}
+use Rattle.causes.specs.Causes.{causeNumber}
 use Rattle.replay.specs.Answers.{runAnswer}
 use Rattle.pso.specs.declared.PsoStep.the-variants.{RemoveMark}
 use Rattle.psoreplay.specs.Answers.{psoSteps, PsoAnswered, psoRunAnswer}

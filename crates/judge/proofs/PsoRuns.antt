@@ -9,14 +9,14 @@ use Rattle.pws.specs.Program.{Program}
 use Rattle.pso.specs.declared.PsoStep.{PsoStep}
 use Rattle.pso.specs.declared.PsoStep.the-variants.{Operate, UpdateVariable, RemoveMark}
 use Rattle.pso.specs.Machine.{PsoConfiguration, psoMay}
-use Rattle.replay.specs.declared.step.Answer.{Answer}
-use Rattle.replay.specs.declared.step.Answer.the-variants.{Permitted, Refused}
-use Rattle.replay.specs.declared.step.Cause.{Cause}
-use Rattle.replay.specs.declared.step.Cause.the-variants.{Pointer}
-use Rattle.replay.specs.Causes.{isPermitted}
-use Rattle.psoreplay.specs.Causes.{Because, psoStepAnswer}
+use Rattle.causes.specs.declared.Answer.{Answer}
+use Rattle.causes.specs.declared.Answer.the-variants.{Permitted, Refused}
+use Rattle.causes.specs.declared.Cause.{Cause}
+use Rattle.causes.specs.declared.Cause.the-variants.{Pointer}
+use Rattle.causes.specs.Causes.{isPermitted}
+use Rattle.psoanswering.specs.Causes.{Because, psoStepAnswer}
 use Rattle.psoreplay.specs.Answers.{PsoStopped}
-use Rattle.psoreplay.proofs.CauseLaws.{Answers, answers, because-only}
+use Rattle.psoanswering.proofs.CauseLaws.{Answers, answers, because-only}
 use Rattle.judge.specs.PsoRuns.{PsoHalts}
 
 -- ---- one step

@@ -16,16 +16,16 @@ use Rattle.pws.specs.Configurations.{StartingMemory, startingMemory, Start, sta
 use Rattle.pws.specs.Sequences.{Takes, done, step}
 use Rattle.pws.proofs.Starts.{start-exists}
 use Rattle.lists.specs.Verdict.{target}
-use Rattle.replay.specs.declared.step.Answer.{Answer}
-use Rattle.replay.specs.declared.step.Answer.the-variants.{Permitted, Refused}
-use Rattle.replay.specs.declared.step.Cause.{Cause}
-use Rattle.replay.specs.declared.step.Cause.the-variants.{State}
-use Rattle.replay.specs.declared.run.RunAnswer.{RunAnswer}
-use Rattle.replay.specs.declared.run.RunAnswer.the-variants.{Reachable, Stopped, Missed}
+use Rattle.causes.specs.declared.Answer.{Answer}
+use Rattle.causes.specs.declared.Answer.the-variants.{Permitted, Refused}
+use Rattle.causes.specs.declared.Cause.{Cause}
+use Rattle.causes.specs.declared.Cause.the-variants.{State}
+use Rattle.last_test.specs.declared.RunAnswer.{RunAnswer}
+use Rattle.last_test.specs.declared.RunAnswer.the-variants.{Reachable, Stopped, Missed}
 use Rattle.replay.specs.Replay.{lowestMet}
-use Rattle.replay.specs.Causes.{stepAnswer, isPermitted}
+use Rattle.causes.specs.Causes.{stepAnswer, isPermitted}
 use Rattle.replay.specs.Answers.{lastAnswer, answerThen, answerFrom, runAnswer}
-use Rattle.replay.proofs.CauseLaws.{answer-may}
+use Rattle.causes.proofs.CauseLaws.{answer-may}
 use Rattle.replay.proofs.Accepted.{answer-free, target-yes, target-is}
 use Rattle.judge.specs.Demands.{Reaches, Stops, Misses, Cannot}
 use Rattle.judge.proofs.StepCauses.{ReasonOf, cause-reason, reason-cause}

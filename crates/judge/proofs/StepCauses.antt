@@ -14,11 +14,11 @@ use Rattle.pws.specs.declared.Step.{Step}
 use Rattle.pws.specs.declared.Step.the-variants.{Take, Serialise, Update}
 use Rattle.pws.specs.Program.{Shape, Program, transition}
 use Rattle.pws.specs.Machine.{Configuration, isEmpty, allBelow, newest, sees}
-use Rattle.replay.specs.declared.step.Answer.{Answer}
-use Rattle.replay.specs.declared.step.Answer.the-variants.{Permitted, Refused}
-use Rattle.replay.specs.declared.step.Cause.{Cause}
-use Rattle.replay.specs.declared.step.Cause.the-variants.{State, Queue, Pointer, Value, Nothing}
-use Rattle.replay.specs.Causes.{firstCause, queueFits, pointerFits, valueFits, takeAnswer, stepAnswer}
+use Rattle.causes.specs.declared.Answer.{Answer}
+use Rattle.causes.specs.declared.Answer.the-variants.{Permitted, Refused}
+use Rattle.causes.specs.declared.Cause.{Cause}
+use Rattle.causes.specs.declared.Cause.the-variants.{State, Queue, Pointer, Value, Nothing}
+use Rattle.causes.specs.Causes.{firstCause, queueFits, pointerFits, valueFits, takeAnswer, stepAnswer}
 use Rattle.judge.specs.Demands.{InState, QueuesEmpty, AtNewest, ValueThere, OtherState, QueueWaits, PointerBehind, OtherValue, NothingThere}
 
 -- the reason that each cause stands for

@@ -14,7 +14,7 @@ use Rattle.whole_file.specs.declared.evidence.Part.{Part}
 use Rattle.whole_file.specs.declared.evidence.Part.the-variants.{InProgram, InEvidence}
 use Rattle.whole_file.specs.Reading.{Input, readFile}
 use Rattle.by_number.specs.Offending.{Offending, offendingBy, offending}
-use Rattle.replay.specs.Causes.{causeNumber}
+use Rattle.causes.specs.Causes.{causeNumber}
 use Rattle.judge.specs.Judge.{Verdict, safe, reachable, pso, refused, entered, Judged, judged}
 
 abbrev pub verdictIn : Answer → Verdict

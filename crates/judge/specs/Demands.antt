@@ -23,7 +23,7 @@ use Rattle.lists.specs.Verdict.{target, SafeList, Unheld, Started, Entered}
 use Rattle.program_part.specs.Bytes.{byte}
 use Rattle.whole_file.specs.declared.evidence.Part.{Part}
 use Rattle.whole_file.specs.Reading as reading
-use Rattle.replay.specs.declared.step.Cause.the-variants.{State, Queue, Value, Nothing}
+use Rattle.causes.specs.declared.Cause.the-variants.{State, Queue, Value, Nothing}
 use Rattle.psoreplay.specs.Answers.{PsoReached, PsoStopped, PsoMissed}
 use Rattle.judge.specs.Judge.{Verdict, safe, reachable, pso, refused, entered, Judged, judged}
 use Rattle.judge.specs.PsoRuns.{OfPsoRun, PsoHalts}

@@ -11,9 +11,9 @@ use Rattle.lists.specs.Decision as decision
 use Rattle.program_part.specs.Bytes.{choose}
 use Rattle.whole_file.specs.EvidencePart.{entriesAllowed}
 use Rattle.whole_file.specs.Reading as reading
-use Rattle.replay.specs.declared.run.RunAnswer.{RunAnswer}
-use Rattle.replay.specs.declared.run.RunAnswer.the-variants.{Reachable, Stopped, Missed}
-use Rattle.replay.specs.Causes.{causeNumber}
+use Rattle.last_test.specs.declared.RunAnswer.{RunAnswer}
+use Rattle.last_test.specs.declared.RunAnswer.the-variants.{Reachable, Stopped, Missed}
+use Rattle.causes.specs.Causes.{causeNumber}
 use Rattle.replay.specs.Answers.{runAnswer}
 use Rattle.psoreplay.specs.Answers.{psoSteps, psoRunAnswer}
 

@@ -1,5 +1,5 @@
 -- What the bytes of a file give whose claim is 2, and a step that the PSO machine cannot take (document 02, N7). What else the machine does with a run
--- stands in psoreplay/specs/Answers, why it refuses a step in psoreplay/specs/Causes.
+-- stands in psoreplay/specs/Answers, why it refuses a step in psoanswering/specs/Causes.
 use Prim.Native.Nat.{ℕ, _<_}
 use mathlib.Core.Path.{_≡_}
 use mathlib.Core.Bool.{false}

@@ -7,11 +7,11 @@ ghost use Rattle.judge.specs.Answers.{verdictIn, stepless, enteredBy, in
 use by_number::offending::offending;
 use by_number::offending::offending_part;
 use by_number::offending::offending_place;
+use causes::Cause;
+use causes::cause_number;
+use last_test::RunAnswer;
 use program_part::program::Refusal;
 use pws::Step;
-use replay::run::RunAnswer;
-use replay::step::Cause;
-use replay::step::cause_number;
 use whole_file::evidence::Part;
 
 // The number and the values of each are given by `verdictIn`.

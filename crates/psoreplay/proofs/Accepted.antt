@@ -18,14 +18,14 @@ use Rattle.pso.specs.declared.PsoStep.{PsoStep}
 use Rattle.pso.specs.declared.PsoStep.the-variants.{RemoveMark}
 use Rattle.pso.specs.Machine.{PsoConfiguration, psoMay, psoAfter}
 use Rattle.pso.specs.Runs.{PsoStart, psoStartWith, PsoTakes, done, step, PsoInTarget, psoInTarget}
-use Rattle.replay.specs.declared.step.Answer.{Answer}
-use Rattle.replay.specs.declared.step.Answer.the-variants.{Permitted, Refused}
-use Rattle.replay.specs.declared.run.RunAnswer.{RunAnswer}
-use Rattle.replay.specs.declared.run.RunAnswer.the-variants.{Reachable, Stopped, Missed}
+use Rattle.causes.specs.declared.Answer.{Answer}
+use Rattle.causes.specs.declared.Answer.the-variants.{Permitted, Refused}
+use Rattle.last_test.specs.declared.RunAnswer.{RunAnswer}
+use Rattle.last_test.specs.declared.RunAnswer.the-variants.{Reachable, Stopped, Missed}
 use Rattle.replay.specs.Answers.{lastAnswer, answerThen}
-use Rattle.psoreplay.specs.Causes.{Because, psoStepAnswer}
+use Rattle.psoanswering.specs.Causes.{Because, psoStepAnswer}
 use Rattle.psoreplay.specs.Answers.{PsoAnswered, psoLowestMet, psoAnswerFrom, psoRunAnswer}
-use Rattle.psoreplay.proofs.CauseLaws.{Answers, answers, because-only}
+use Rattle.psoanswering.proofs.CauseLaws.{Answers, answers, because-only}
 use Rattle.psoreplay.proofs.Alike.{Alike, answers-alike}
 
 -- ---- targets

@@ -17,14 +17,14 @@ use Rattle.pws.specs.Machine.{allBelow}
 use Rattle.pso.specs.declared.PsoStep.{PsoStep}
 use Rattle.pso.specs.declared.PsoStep.the-variants.{Operate, UpdateVariable, RemoveMark}
 use Rattle.pso.specs.Machine.{Item, value, mark, PsoConfiguration, noItem, valueFirst, markFirst, oldestValue, withoutFirst, putBuffer, eachBuffer, bufferAfter, psoMemoryAfter, mayOperateBy, psoMay, psoAfter}
-use Rattle.replay.specs.declared.step.Cause.the-variants.{State}
-use Rattle.replay.specs.declared.step.Answer.{Answer}
-use Rattle.replay.specs.declared.step.Answer.the-variants.{Permitted, Refused}
+use Rattle.causes.specs.declared.Cause.the-variants.{State}
+use Rattle.causes.specs.declared.Answer.{Answer}
+use Rattle.causes.specs.declared.Answer.the-variants.{Permitted, Refused}
 use Rattle.replay.specs.Answers.{lastAnswer, answerThen}
-use Rattle.replay.specs.Causes.{firstCause}
-use Rattle.psoreplay.specs.Causes.{psoQueueFits, psoValueFits, psoStepAnswer}
+use Rattle.causes.specs.Causes.{firstCause}
+use Rattle.psoanswering.specs.Causes.{psoQueueFits, psoValueFits, psoStepAnswer}
 use Rattle.psoreplay.specs.Answers.{psoLowestMet, psoAnswerFrom}
-use Rattle.psoreplay.proofs.CauseLaws.{Answers, answers}
+use Rattle.psoanswering.proofs.CauseLaws.{Answers, answers}
 
 pub record Alike (S : Shape) (d e : PsoConfiguration) : Type 0 where
   pub states : (p : ℕ) → p < S .processes → d .state p ≡ e .state p

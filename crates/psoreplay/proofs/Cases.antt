@@ -1,6 +1,6 @@
 -- Each row of the table of worked runs holds: by computation.
 use mathlib.Core.Path.{refl}
-use Rattle.replay.specs.Causes.{firstCause}
+use Rattle.causes.specs.Causes.{firstCause}
 use Rattle.psoreplay.specs.Cases.{Holds, Each, no-row, row, cases}
 
 pub cases-hold : Each Holds cases

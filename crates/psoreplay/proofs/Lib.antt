@@ -1,10 +1,5 @@
-pub mod AreaLaws
 pub mod LoopLaws
-pub mod Items
-pub mod Holding
-pub mod Answering
 pub mod Stepping
-pub mod CauseLaws
 pub mod Alike
 pub mod Accepted
 pub mod Replaying

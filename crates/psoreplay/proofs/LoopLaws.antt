@@ -7,17 +7,20 @@ use lib.ListN.{length}
 use Rattle.program_part.specs.declared.program.Shape.{Shape}
 use Rattle.program_part.specs.declared.program.Row.{Row}
 use Rattle.program_part.specs.Records.{stepAt}
-use Rattle.replay.specs.declared.step.Cause.{Cause}
-use Rattle.replay.specs.declared.step.Answer.{Answer}
-use Rattle.replay.specs.declared.step.Answer.the-variants.{Permitted, Refused}
-use Rattle.replay.specs.declared.run.RunAnswer.{RunAnswer}
+use Rattle.causes.specs.declared.Cause.{Cause}
+use Rattle.causes.specs.declared.Answer.{Answer}
+use Rattle.causes.specs.declared.Answer.the-variants.{Permitted, Refused}
+use Rattle.last_test.specs.declared.RunAnswer.{RunAnswer}
 use Rattle.replay.specs.Answers.{answerThen}
-use Rattle.replay.specs.Loop.{nextStep, lastIn, stoppedBy}
-use Rattle.psoreplay.specs.declared.step.PsoMove.{PsoMove}
-use Rattle.psoreplay.specs.declared.step.PsoRun.{PsoRun}
-use Rattle.psoreplay.specs.Layout.{psoMoveOf, answerIn, runAfter, lowerAfterMove}
+use Rattle.last_test.specs.LastTest.{lastIn}
+use Rattle.replay.specs.Loop.{nextStep, stoppedBy}
+use Rattle.psolayout.specs.declared.moves.PsoMove.{PsoMove}
+use Rattle.psolayout.specs.declared.buffers.PsoRun.{PsoRun}
+use Rattle.psolayout.specs.Layout.{psoMoveOf}
+use Rattle.psoanswering.specs.Answering.{answerIn}
+use Rattle.psostepping.specs.After.{runAfter, lowerAfterMove}
 use Rattle.psoreplay.specs.Loop.{runFrom}
-use Rattle.psoreplay.proofs.AreaLaws.{area-length}
+use Rattle.psostepping.proofs.Lengths.{area-length}
 
 -- after k steps: what is left to do gives the answer of all
 pub record Replaying (g f : List ℕ) (s : Shape) (transitions targets : Row) (steps at : ℕ) (run₀ : PsoRun) (a₀ : List ℕ) (k place : ℕ) (run : PsoRun) (a : List ℕ) : Type 0 where

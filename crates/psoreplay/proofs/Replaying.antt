@@ -18,20 +18,21 @@ use Rattle.program_part.specs.declared.program.Program.{Program}
 use Rattle.program_part.specs.Records.{stepAt}
 use Rattle.program_part.specs.ProgramPart.{shapeOf, programOf, targetsOf}
 use Rattle.whole_file.specs.EvidencePart.{stepsOf}
-use Rattle.replay.specs.declared.step.Answer.{Answer}
-use Rattle.replay.specs.declared.step.Answer.the-variants.{Permitted, Refused}
-use Rattle.replay.specs.declared.run.RunAnswer.{RunAnswer}
+use Rattle.causes.specs.declared.Answer.{Answer}
+use Rattle.causes.specs.declared.Answer.the-variants.{Permitted, Refused}
+use Rattle.last_test.specs.declared.RunAnswer.{RunAnswer}
 use Rattle.replay.specs.Replay.{lowestMet}
 use Rattle.replay.specs.Answers.{lastAnswer, answerThen}
 use Rattle.replay.specs.Loop.{nextStep}
 use Rattle.replay.proofs.Replaying.{zeros-at, steps-next, steps-length, targets-last}
-use Rattle.psoreplay.specs.declared.step.PsoRun.{PsoRun}
-use Rattle.psoreplay.specs.Causes.{psoStepAnswer}
+use Rattle.psolayout.specs.declared.buffers.PsoRun.{PsoRun}
+use Rattle.psoanswering.specs.Causes.{psoStepAnswer}
 use Rattle.psoreplay.specs.Answers.{psoStep, psoSteps, psoLowestMet, psoAnswerFrom, psoRunAnswer}
-use Rattle.psoreplay.specs.Layout.{psoMoveOf, runAfter, lowerAfterMove}
+use Rattle.psolayout.specs.Layout.{psoMoveOf}
+use Rattle.psostepping.specs.After.{runAfter, lowerAfterMove}
 use Rattle.psoreplay.specs.Loop.{firstRun, runFrom, replayIn}
-use Rattle.psoreplay.proofs.CauseLaws.{Answers, answers}
-use Rattle.psoreplay.proofs.Answering.{Kept}
+use Rattle.psoanswering.proofs.CauseLaws.{Answers, answers}
+use Rattle.psolayout.proofs.Kept.{Kept}
 use Rattle.psoreplay.proofs.Stepping.{answer-is, step-kept}
 
 -- ---- the last test looks at local states alone

@@ -24,49 +24,26 @@ use Rattle.pso.specs.Machine.{Item, value, mark, PsoConfiguration, valueFirst, 
 use Rattle.program_part.specs.declared.program.Shape.{Shape}
 use Rattle.program_part.specs.declared.program.Program.{Program}
 use Rattle.program_part.specs.ProgramPart.{shapeOf, programOf}
-use Rattle.replay.specs.declared.step.Cause.the-variants.{State}
-use Rattle.replay.specs.declared.step.Answer.the-variants.{Refused}
-use Rattle.replay.specs.Causes.{firstCause}
-use Rattle.replay.specs.Layout.{nextNumber, advanced}
-use Rattle.replay.proofs.ByteLaws.{next-is}
-use Rattle.replay.proofs.Answering.{queue-is}
-use Rattle.replay.proofs.Stepping.{transition-count, transition-is, exists-is, exists-not}
-use Rattle.psoreplay.specs.declared.step.PsoMove.{PsoMove}
-use Rattle.psoreplay.specs.declared.step.PsoMove.the-variants.{Absent, Operate, UpdateVariable, RemoveMark}
-use Rattle.psoreplay.specs.declared.step.PsoRun.{PsoRun}
-use Rattle.psoreplay.specs.Causes.{psoOperateAnswer, psoStepAnswer}
+use Rattle.causes.specs.declared.Cause.the-variants.{State}
+use Rattle.causes.specs.declared.Answer.the-variants.{Refused}
+use Rattle.causes.specs.Causes.{firstCause}
+use Rattle.layout.specs.Layout.{nextNumber, advanced}
+use Rattle.layout.proofs.ByteLaws.{next-is}
+use Rattle.layout.proofs.Kept.{queue-is}
+use Rattle.layout.proofs.MoveLaws.{transition-count, transition-is, exists-is, exists-not}
+use Rattle.psolayout.specs.declared.moves.PsoMove.{PsoMove}
+use Rattle.psolayout.specs.declared.moves.PsoMove.the-variants.{Absent, Operate, UpdateVariable, RemoveMark}
+use Rattle.psolayout.specs.declared.buffers.PsoRun.{PsoRun}
+use Rattle.psoanswering.specs.Causes.{psoOperateAnswer, psoStepAnswer}
 use Rattle.psoreplay.specs.Answers.{psoStep}
-use Rattle.psoreplay.specs.Layout.{
-  itemAt,
-  psoMoveOf,
-  headItem,
-  answerIn,
-  advancedBelow,
-  memoryOperated,
-  tailsOperated,
-  lastsOperated,
-  runAfter,
-  markedBelow,
-  areaOperated,
-  lowerAfterMove,
-}
-use Rattle.psoreplay.proofs.AreaLaws.{area-length}
-use Rattle.psoreplay.proofs.Items.{BufferHeld, held-keep, held-value, held-mark, held-pop, oldest-held, marked-held}
-use Rattle.psoreplay.proofs.Holding.{
-  putBuffer-each,
-  eachBuffer-each,
-  advanced-length,
-  advanced-same,
-  advanced-other,
-  below-length,
-  below-out,
-  below-in,
-  item-same,
-  item-other,
-  marked-out,
-  marked-in,
-}
-use Rattle.psoreplay.proofs.Answering.{Kept, operate-is, update-is, remove-is}
+use Rattle.psolayout.specs.Layout.{itemAt, psoMoveOf, headItem}
+use Rattle.psoanswering.specs.Answering.{answerIn}
+use Rattle.psostepping.specs.After.{advancedBelow, memoryOperated, tailsOperated, lastsOperated, runAfter, markedBelow, areaOperated, lowerAfterMove}
+use Rattle.psostepping.proofs.Lengths.{area-length}
+use Rattle.psolayout.proofs.Items.{BufferHeld, held-keep, held-value, held-mark, held-pop, oldest-held, marked-held}
+use Rattle.psostepping.proofs.Holding.{putBuffer-each, eachBuffer-each, advanced-length, advanced-same, advanced-other, below-length, below-out, below-in, item-same, item-other, marked-out, marked-in}
+use Rattle.psolayout.proofs.Kept.{Kept}
+use Rattle.psoanswering.proofs.AnsweringLaws.{operate-is, update-is, remove-is}
 
 module _ (s : Shape) (pl : s .processes ≤ 4) (vl : s .variables ≤ 4) (xl : (v : ℕ) → v < s .variables → shapeOf s .values v ≤ 4) (k : ℕ) (run : PsoRun) (a : List ℕ)
     (d : PsoConfiguration) (K : Kept (shapeOf s) k run a d) (few : k < 1024) where

@@ -13,11 +13,11 @@ use Rattle.pso.specs.declared.PsoStep.{PsoStep}
 use Rattle.pso.specs.declared.PsoStep.the-variants.{Operate, UpdateVariable, RemoveMark}
 use Rattle.pso.specs.Machine.{PsoConfiguration, psoAfter}
 use Rattle.pso.specs.Runs.{PsoStart, psoStartWith, PsoTakes, PsoInTarget, psoInTarget}
-use Rattle.replay.specs.declared.step.Cause.{Cause}
-use Rattle.replay.specs.declared.run.RunAnswer.{RunAnswer}
-use Rattle.replay.specs.declared.run.RunAnswer.the-variants.{Reachable, Stopped, Missed}
+use Rattle.causes.specs.declared.Cause.{Cause}
+use Rattle.last_test.specs.declared.RunAnswer.{RunAnswer}
+use Rattle.last_test.specs.declared.RunAnswer.the-variants.{Reachable, Stopped, Missed}
 use Rattle.replay.specs.Answers.{lastAnswer, answerThen}
-use Rattle.psoreplay.specs.Causes.{Because, psoStepAnswer}
+use Rattle.psoanswering.specs.Causes.{Because, psoStepAnswer}
 
 -- ---- the steps of a file: 20 is a transition, 21 an update of a variable, 22 the removal of a mark
 

@@ -8,9 +8,9 @@ use Rattle.pws.specs.Cases.{programG, programJ}
 use Rattle.pso.specs.declared.PsoStep.{PsoStep}
 use Rattle.pso.specs.declared.PsoStep.the-variants.{Operate, UpdateVariable, RemoveMark}
 use Rattle.pso.specs.Cases.{zeros, fenced, marked, atomic, inOrder}
-use Rattle.replay.specs.declared.step.Cause.the-variants.{State, Queue, Value, Nothing}
-use Rattle.replay.specs.declared.run.RunAnswer.{RunAnswer}
-use Rattle.replay.specs.declared.run.RunAnswer.the-variants.{Reachable, Stopped, Missed}
+use Rattle.causes.specs.declared.Cause.the-variants.{State, Queue, Value, Nothing}
+use Rattle.last_test.specs.declared.RunAnswer.{RunAnswer}
+use Rattle.last_test.specs.declared.RunAnswer.the-variants.{Reachable, Stopped, Missed}
 use Rattle.psoreplay.specs.Answers.{psoRunAnswer}
 
 pub record Row : Type 0 where

@@ -7,11 +7,14 @@ use Rattle.program_part.specs.declared.program.Shape.{Shape}
 use Rattle.program_part.specs.declared.program.Row.{Row}
 use Rattle.program_part.specs.declared.program.Program.{Program}
 use Rattle.program_part.specs.Records.{stepAt}
-use Rattle.replay.specs.declared.run.RunAnswer.{RunAnswer}
+use Rattle.last_test.specs.declared.RunAnswer.{RunAnswer}
 use Rattle.replay.specs.Answers.{answerThen}
-use Rattle.replay.specs.Loop.{nextStep, lastIn}
-use Rattle.psoreplay.specs.declared.step.PsoRun.{PsoRun}
-use Rattle.psoreplay.specs.Layout.{psoMoveOf, answerIn, runAfter, lowerAfterMove}
+use Rattle.last_test.specs.LastTest.{lastIn}
+use Rattle.replay.specs.Loop.{nextStep}
+use Rattle.psolayout.specs.declared.buffers.PsoRun.{PsoRun}
+use Rattle.psolayout.specs.Layout.{psoMoveOf}
+use Rattle.psoanswering.specs.Answering.{answerIn}
+use Rattle.psostepping.specs.After.{runAfter, lowerAfterMove}
 
 abbrev pub firstRun : List ℕ → List ℕ → PsoRun
 firstRun states memory = record { states = states; memory = memory; heads = replicate 16 0; tails = replicate 16 0; lasts = replicate 16 0 }

@@ -1,7 +1,4 @@
 // Runs of the PSO machine (report, 4.1; request N7): the steps of a file, replayed on a configuration that lies in the lower 16,384 bytes of
-// the work area and in a few small arrays. What a run's answer is stands in specs/Answers.antt, how a configuration is held in specs/Layout.antt.
+// the work area and in a few small arrays. What a run's answer is stands in specs/Answers.antt, how a configuration is held in the crate `psolayout`.
 
-mod after;
-mod area;
 pub mod run;
-mod step;

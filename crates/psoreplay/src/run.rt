@@ -7,18 +7,18 @@ ghost use Rattle.program_part.specs.ProgramPart.{programOf, targetsOf};
 ghost use Rattle.whole_file.specs.EvidencePart.{stepsOf};
 ghost use Rattle.psoreplay.specs.Answers.{psoSteps, psoRunAnswer};
 ghost use Rattle.psoreplay.specs.Loop.{firstRun, replayIn};
-use crate::after::run_after;
-use crate::after::store;
-use crate::step::PsoRun;
-use crate::step::pso_move;
-use crate::step::step_answer;
+use causes::Answer;
+use last_test::RunAnswer;
+use last_test::last_answer;
+use layout::area::clear;
 use program_part::program::Program;
-use replay::area::clear;
-use replay::run::RunAnswer;
-use replay::run::last_answer;
+use psoanswering::step_answer;
+use psolayout::buffers::PsoRun;
+use psolayout::moves::pso_move;
+use psostepping::run_after;
+use psostepping::store;
 use replay::run::next_step;
 use replay::run::stopped_by;
-use replay::step::Answer;
 use whole_file::steps::step_at;
 
 // Initial local states, empty buffers, and this memory.

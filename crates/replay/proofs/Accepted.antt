@@ -2,7 +2,7 @@
 -- the first message makes no difference, also not to the cause of a refused step.
 use Prim.Native.Nat.{ℕ, zero, suc, _<_, _≤_, max}
 use mathlib.Core.Path.{_≡_, refl, sym, ap, ap₂, subst, _∙_}
-use mathlib.Core.Bool.{Bool, true, false, cond, _&&_, not}
+use mathlib.Core.Bool.{Bool, true, false, cond, not}
 use mathlib.Core.Option.{Option, none, some}
 use mathlib.Core.List.{List, [], _∷_}
 use native.Mathlib.Omega.{arith}
@@ -22,14 +22,14 @@ use Rattle.pws.specs.Sequences.{Takes, done, step, Replay, ended, stopped, repl
 use Rattle.pws.proofs.Starts.{start-is, start-exists}
 use Rattle.pws.proofs.Facts.{put-each, T-eq}
 use Rattle.pws.proofs.Cases.{all-yes}
-use Rattle.replay.specs.declared.step.Answer.{Answer}
-use Rattle.replay.specs.declared.step.Answer.the-variants.{Refused}
-use Rattle.replay.specs.declared.step.Cause.the-variants.{State}
-use Rattle.replay.specs.declared.run.RunAnswer.{RunAnswer}
+use Rattle.causes.specs.declared.Answer.{Answer}
+use Rattle.causes.specs.declared.Answer.the-variants.{Refused}
+use Rattle.causes.specs.declared.Cause.the-variants.{State}
+use Rattle.last_test.specs.declared.RunAnswer.{RunAnswer}
 use Rattle.replay.specs.Replay as run
-use Rattle.replay.specs.Causes.{firstCause, queueFits, pointerFits, valueFits, takeAnswer, stepAnswer, isPermitted}
+use Rattle.causes.specs.Causes.{firstCause, queueFits, pointerFits, valueFits, takeAnswer, stepAnswer, isPermitted}
 use Rattle.replay.specs.Answers.{lastAnswer, answerThen, answerFrom, runAnswer}
-use Rattle.replay.proofs.CauseLaws.{answer-may}
+use Rattle.causes.proofs.CauseLaws.{answer-may}
 
 -- ---- cases that differ
 

@@ -13,25 +13,11 @@ use Rattle.pws.specs.Program.{Shape}
 use Rattle.pws.specs.Machine.{Memory, put, putQueue, message, newest, lastLabelled, lastWrite, copyWith, append, point, withoutOldest}
 use Rattle.pws.proofs.Facts.{put-same, put-other, put-each, putQueue-each, last-is}
 use Rattle.program_part.specs.ProgramPart.{tableFrom}
-use Rattle.replay.specs.Layout.{
-  nextNumber,
-  queueNumber,
-  snapshotAt,
-  putSnapshot,
-  waitingAt,
-  putWaiting,
-  pointerOf,
-  lastWriteOf,
-  advanced,
-  pointed,
-  putLast,
-  later,
-  updatedRow,
-  updated,
-  appended,
-}
-use Rattle.replay.proofs.ByteLaws.{next-is, snapshot-same, snapshot-other, waiting-same, waiting-other, waiting-before}
-use Rattle.replay.proofs.Answering.{queue-is, pointer-is, last-write-is}
+use Rattle.layout.specs.Layout.{nextNumber, queueNumber, snapshotAt, putSnapshot, waitingAt, putWaiting, pointerOf, lastWriteOf, advanced}
+use Rattle.stepping.specs.After.{pointed, putLast, later, updatedRow, updated}
+use Rattle.storing.specs.Stored.{appended}
+use Rattle.layout.proofs.ByteLaws.{next-is, snapshot-same, snapshot-other, waiting-same, waiting-other, waiting-before}
+use Rattle.layout.proofs.Kept.{queue-is, pointer-is, last-write-is}
 
 -- ---- the memory: n messages
 

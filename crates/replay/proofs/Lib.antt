@@ -1,9 +1,5 @@
 pub mod Accepted
-pub mod AreaLaws
 pub mod LoopLaws
-pub mod ByteLaws
-pub mod CauseLaws
-pub mod Answering
 pub mod Holding
 pub mod Stepping
 pub mod Replaying

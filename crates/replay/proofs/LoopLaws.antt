@@ -1,49 +1,39 @@
 -- Laws of the loops: what one turn does to the definitions of specs/Loop.antt.
-use Prim.Native.Nat.{ℕ, suc, _+_, _-_, _<_, _≤_}
+use Prim.Native.Nat.{ℕ, _+_, _-_, _<_, _≤_}
 use mathlib.Core.Path.{_≡_, refl, sym, ap, _∙_}
-use mathlib.Core.Bool.{true, false}
+use mathlib.Core.Bool.{Bool, true, false, cond}
 use mathlib.Core.List.{List}
 use native.Mathlib.Omega.{arith}
 use lib.ListN.{length}
 use Rattle.program_part.specs.declared.program.Shape.{Shape}
 use Rattle.program_part.specs.declared.program.Row.{Row}
-use Rattle.program_part.specs.Records.{stepAt}
-use Rattle.replay.specs.declared.step.Cause.{Cause}
-use Rattle.replay.specs.declared.step.Answer.{Answer}
-use Rattle.replay.specs.declared.step.Answer.the-variants.{Permitted, Refused}
-use Rattle.replay.specs.declared.step.Move.{Move}
-use Rattle.replay.specs.declared.step.Run.{Run}
-use Rattle.replay.specs.declared.run.RunAnswer.{RunAnswer}
-use Rattle.replay.specs.declared.run.RunAnswer.the-variants.{Reachable, Stopped, Missed}
+use Rattle.program_part.specs.Records.{isKind, stepBody, stepAt}
+use Rattle.causes.specs.declared.Cause.{Cause}
+use Rattle.causes.specs.declared.Answer.{Answer}
+use Rattle.causes.specs.declared.Answer.the-variants.{Permitted, Refused}
+use Rattle.layout.specs.declared.moves.Move.{Move}
+use Rattle.layout.specs.declared.arrays.Run.{Run}
+use Rattle.last_test.specs.declared.RunAnswer.{RunAnswer}
+use Rattle.last_test.specs.declared.RunAnswer.the-variants.{Stopped}
 use Rattle.replay.specs.Answers.{answerThen}
-use Rattle.replay.specs.Layout.{moveOf, answerIn, runAfter, rowsAfter, lowerAfter}
-use Rattle.replay.specs.Loop.{inTargetIn, nextTarget, nextStep, lastFrom, lastIn, stoppedBy, runFrom}
-use Rattle.replay.proofs.AreaLaws.{area-length}
+use Rattle.layout.specs.Layout.{moveOf}
+use Rattle.answering.specs.Answering.{answerIn}
+use Rattle.stepping.specs.After.{runAfter, rowsAfter}
+use Rattle.storing.specs.Stored.{lowerAfter}
+use Rattle.last_test.specs.LastTest.{lastIn}
+use Rattle.replay.specs.Loop.{nextStep, stoppedBy, runFrom}
+use Rattle.storing.proofs.Lengths.{area-length}
+use Rattle.last_test.proofs.LastLaws.{left-suc, left-zero}
 
-left-suc : (n i : ℕ) → i < n → n - i ≡ suc (n - (i + 1))
-left-suc n i l = omega arith
+-- ---- steps
 
-left-zero : (n i : ℕ) → n ≤ i → n - i ≡ 0
-left-zero n i l = omega arith
-
--- ---- the targets
-
-module _ (f : List ℕ) (s : Shape) (states : List ℕ) (steps : ℕ) where
-  pub last-begin : (n at : ℕ) → lastFrom f s states steps at 0 (n - 0) ≡ lastFrom f s states steps at 0 n
-  last-begin n at = ap (lastFrom f s states steps at 0) (omega arith)
-
-  pub last-hit : (n at i : ℕ) → i < n → inTargetIn f at s states ≡ true → lastFrom f s states steps at i (n - i) ≡ Reachable steps i
-  unfolding lastFrom
-  last-hit n at i l e = ap (lastFrom f s states steps at i) (left-suc n i l) ∙ rw e
-
-  pub last-next : (n at i : ℕ) → i < n → inTargetIn f at s states ≡ false
-      → lastFrom f s states steps at i (n - i) ≡ lastFrom f s states steps (nextTarget f at) (i + 1) (n - (i + 1))
-  unfolding lastFrom
-  last-next n at i l e = ap (lastFrom f s states steps at i) (left-suc n i l) ∙ rw e
-
-  pub last-none : (n at i : ℕ) → n ≤ i → lastFrom f s states steps at i (n - i) ≡ Missed steps
-  unfolding lastFrom
-  last-none n at i l = ap (lastFrom f s states steps at i) (left-zero n i l)
+pub body-most : (f : List ℕ) (at : ℕ) → stepBody f at ≤ 2
+unfolding stepBody
+body-most f at = go (isKind f at 33)
+  where
+    go : (b : Bool) → cond b 2 1 ≤ 2
+    go true = omega arith
+    go false = omega arith
 
 -- ---- the steps
 

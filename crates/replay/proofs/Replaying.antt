@@ -21,20 +21,24 @@ use Rattle.program_part.specs.Bytes.{choose, byte}
 use Rattle.program_part.specs.Records.{isKind, stateAt, stepBody, stepAt}
 use Rattle.program_part.specs.ProgramPart.{tableFrom, shapeOf, programOf, targetsOf}
 use Rattle.whole_file.specs.EvidencePart.{stepsOf}
-use Rattle.replay.specs.declared.step.Answer.{Answer}
-use Rattle.replay.specs.declared.step.Answer.the-variants.{Permitted, Refused}
-use Rattle.replay.specs.declared.step.Run.{Run}
-use Rattle.replay.specs.declared.run.RunAnswer.{RunAnswer}
-use Rattle.replay.specs.declared.run.RunAnswer.the-variants.{Reachable}
+use Rattle.causes.specs.declared.Answer.{Answer}
+use Rattle.causes.specs.declared.Answer.the-variants.{Permitted, Refused}
+use Rattle.layout.specs.declared.arrays.Run.{Run}
+use Rattle.last_test.specs.declared.RunAnswer.{RunAnswer}
+use Rattle.last_test.specs.declared.RunAnswer.the-variants.{Reachable}
 use Rattle.replay.specs.Replay as run
-use Rattle.replay.specs.Causes.{stepAnswer, isPermitted}
+use Rattle.causes.specs.Causes.{stepAnswer, isPermitted}
 use Rattle.replay.specs.Answers.{verdictOfRun, lastAnswer, answerThen, answerFrom, runAnswer, RunOf}
-use Rattle.replay.specs.Layout.{putSnapshot, moveOf, answerIn, runAfter, rowsAfter, lowerAfter}
-use Rattle.replay.specs.Loop.{agreesIn, inTargetIn, nextTarget, nextStep, lastFrom, firstRun, firstRows, runFrom, replayIn}
-use Rattle.replay.proofs.AreaLaws.{snapshot-length}
-use Rattle.replay.proofs.ByteLaws.{snapshot-same}
-use Rattle.replay.proofs.CauseLaws.{answer-may}
-use Rattle.replay.proofs.Answering.{Kept, all-four}
+use Rattle.layout.specs.Layout.{putSnapshot, moveOf}
+use Rattle.answering.specs.Answering.{answerIn}
+use Rattle.stepping.specs.After.{runAfter, rowsAfter}
+use Rattle.storing.specs.Stored.{lowerAfter}
+use Rattle.last_test.specs.LastTest.{agreesIn, inTargetIn, nextTarget, lastFrom}
+use Rattle.replay.specs.Loop.{nextStep, firstRun, firstRows, runFrom, replayIn}
+use Rattle.layout.proofs.AreaLaws.{snapshot-length}
+use Rattle.layout.proofs.ByteLaws.{snapshot-same}
+use Rattle.causes.proofs.CauseLaws.{answer-may}
+use Rattle.layout.proofs.Kept.{Kept, all-four}
 use Rattle.replay.proofs.Holding.{MemoryHeld, QueuesHeld}
 use Rattle.replay.proofs.Stepping.{kept-of, answer-is, step-kept}
 

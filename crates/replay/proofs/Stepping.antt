@@ -1,6 +1,6 @@
 -- One step: if the bytes and arrays represent a configuration, then the answer is the machine's, and a permitted step leaves them
 -- representing the configuration after it.
-use Prim.Native.Nat.{ℕ, zero, suc, _+_, _*_, _-_, _<_, _≤_}
+use Prim.Native.Nat.{ℕ, suc, _+_, _*_, _-_, _<_, _≤_}
 use mathlib.Core.Path.{_≡_, refl, sym, ap, subst, _∙_}
 use mathlib.Core.Bool.{Bool, true, false, cond, _&&_, not}
 use mathlib.Core.List.{List}
@@ -9,7 +9,7 @@ use native.Mathlib.Decide.{decLt, ℕ-discrete}
 use lib.ListN.{length, length-set, getD, set}
 use lib.Seq.{getD-set-same, getD-set-other}
 use lib.Dec.{T, ltb}
-use borrow.Author.Tests.{le-leb, lt-leb, lt-ltb, le-ltb, leb-false, ltb-true}
+use borrow.Author.Tests.{leb-false, ltb-true}
 use mir.Facts.{and-yes}
 use Rattle.pws.specs.declared.Operation.{Operation}
 use Rattle.pws.specs.declared.Operation.the-variants.{Nop, Read, Write, Mfence, Sfence, Arw}
@@ -21,31 +21,25 @@ use Rattle.pws.specs.Machine.{Configuration, put, isEmpty, queueAfter, memoryAf
 use Rattle.pws.proofs.Facts.{put-same, put-other}
 use Rattle.program_part.specs.declared.program.Shape.{Shape}
 use Rattle.program_part.specs.declared.program.Program.{Program}
-use Rattle.program_part.specs.Records.{transitionAt}
 use Rattle.program_part.specs.ProgramPart.{tableFrom, shapeOf, programOf}
-use Rattle.replay.specs.declared.step.Answer.the-variants.{Refused}
-use Rattle.replay.specs.declared.step.Cause.the-variants.{State}
-use Rattle.replay.specs.declared.step.Move.{Move}
-use Rattle.replay.specs.declared.step.Move.the-variants.{Absent, Take, Serialise, Update}
-use Rattle.replay.specs.declared.step.Run.{Run}
-use Rattle.replay.specs.Causes.{firstCause, takeAnswer, stepAnswer, isPermitted}
-use Rattle.replay.specs.Layout.{queueNumber, snapshotAt, waitingAt, appended, moveOf, answerIn, runAfter, rowsTaken, rowsAfter, messagesTaken, tailsTaken, lowerTaken, lowerAfter}
-use Rattle.replay.specs.Represents.{Represents}
-use Rattle.replay.proofs.AreaLaws.{area-length}
-use Rattle.replay.proofs.ByteLaws.{next-is, waiting-past, snapshot-below}
-use Rattle.replay.proofs.CauseLaws.{answer-may}
-use Rattle.replay.proofs.Answering.{Kept, table-empty, queue-is, take-is, serialise-is, update-is}
-use Rattle.replay.proofs.Holding.{
-  MemoryHeld,
-  memory-area,
-  memory-append,
-  memory-update,
-  memory-arw,
-  QueuesHeld,
-  queues-area,
-  queues-push,
-  queues-pop,
-}
+use Rattle.causes.specs.declared.Answer.the-variants.{Refused}
+use Rattle.causes.specs.declared.Cause.the-variants.{State}
+use Rattle.layout.specs.declared.moves.Move.{Move}
+use Rattle.layout.specs.declared.moves.Move.the-variants.{Take, Serialise, Update}
+use Rattle.layout.specs.declared.arrays.Run.{Run}
+use Rattle.causes.specs.Causes.{firstCause, takeAnswer, stepAnswer, isPermitted}
+use Rattle.layout.specs.Layout.{queueNumber, snapshotAt, waitingAt, moveOf}
+use Rattle.storing.specs.Stored.{appended, lowerTaken, lowerAfter}
+use Rattle.answering.specs.Answering.{answerIn}
+use Rattle.stepping.specs.After.{runAfter, rowsTaken, rowsAfter, messagesTaken, tailsTaken}
+use Rattle.layout.specs.Represents.{Represents}
+use Rattle.storing.proofs.Lengths.{area-length}
+use Rattle.layout.proofs.ByteLaws.{next-is, waiting-past, snapshot-below}
+use Rattle.causes.proofs.CauseLaws.{answer-may}
+use Rattle.layout.proofs.MoveLaws.{transition-count, move-take, move-absent, exists-is, exists-not}
+use Rattle.layout.proofs.Kept.{Kept, table-empty, queue-is}
+use Rattle.answering.proofs.AnsweringLaws.{take-is, serialise-is, update-is}
+use Rattle.replay.proofs.Holding.{MemoryHeld, memory-area, memory-append, memory-update, memory-arw, QueuesHeld, queues-area, queues-push, queues-pop}
 
 -- ---- the parts of what is kept
 
@@ -180,96 +174,66 @@ module _ (s : Shape) (pl : s .processes ≤ 4) (vl : s .variables ≤ 4) (xl : (
 
 -- ---- the steps of a program
 
-table-length {ℓ} : {A : Type ℓ} (g : ℕ → A) (i n : ℕ) → length (tableFrom g i n) ≡ n
-table-length g i zero = refl
-table-length g i (suc n) = ap suc (table-length g (suc i) n)
+module _ (f : List ℕ) (p : Program) (R : pws.ProgramInRange (programOf f p)) (k : ℕ) (run : Run) (rows : List (List ℕ)) (a : List ℕ) (c : Configuration)
+    (K : Kept (shapeOf (p .shape)) k run rows a c) where
+  -- the step's answer is the machine's
+  pub answer-is : (s : steps.Step) → answerIn run rows a (p .shape) (moveOf f (p .transitions) s) ≡ stepAnswer (programOf f p) c s
+  answer-is (step.Take n) = elim (decLt n (p .transitions .count)) [
+    | yes l ↦
+        let t = R .transitions n (omega (arith, transition-count f p)) in
+        ap (answerIn run rows a (p .shape)) (move-take f p n l)
+        ∙ take-is (p .shape) (R .shape .processes) (R .shape .variables) k run rows a c K (pws.transition (programOf f p) n) (t .process) (t .operation)
+        ∙ ap (λ (b : Bool). cond b (takeAnswer (shapeOf (p .shape)) c (pws.transition (programOf f p) n)) (Refused State)) (sym (exists-is f p n l))
+    | no l ↦
+        ap (answerIn run rows a (p .shape)) (move-absent f p n (omega arith))
+        ∙ ap (λ (b : Bool). cond b (takeAnswer (shapeOf (p .shape)) c (pws.transition (programOf f p) n)) (Refused State)) (sym (exists-not f p n (omega arith)))
+  ]
+  answer-is (step.Serialise q v) = ap (firstCause true true true true) (serialise-is (p .shape) (R .shape .processes) (R .shape .variables) k run rows a c K q v)
+  answer-is (step.Update q) = ap (firstCause true true true true) (update-is (p .shape) (R .shape .processes) (R .shape .variables) k run rows a c K q)
 
-table-at {ℓ} : {A : Type ℓ} (g : ℕ → A) (i n k : ℕ) (d : A) → k < n → getD (tableFrom g i n) k d ≡ g (i + k)
-table-at g i zero k d l = absurd (omega arith)
-table-at g i (suc n) zero d l = ap g (omega arith)
-table-at g i (suc n) (suc k) d l = table-at g (suc i) n k d (omega arith) ∙ ap g (omega arith)
+  some-waits : (q v : ℕ) → q < p .shape .processes → v < p .shape .variables → T (not (isEmpty (c .queue q v)))
+      → getD (run .heads) (4 * q + v) 0 < getD (run .tails) (4 * q + v) 0
+  some-waits q v qe ve t =
+      let h = getD (run .heads) (4 * q + v) 0 in
+      let z = getD (run .tails) (4 * q + v) 0 in
+      leb-false z h (table-empty (waitingAt a (4 * q + v)) h z ∙ ap isEmpty (K .represents .queues q v qe ve) ∙ not-T (isEmpty (c .queue q v)) t)
+    where
+      not-T : (b : Bool) → T (not b) → b ≡ false
+      not-T true t = absurd t
+      not-T false t = refl
 
-module _ (f : List ℕ) (p : Program) where
-  pub transition-count : length (programOf f p .transitions) ≡ p .transitions .count
-  transition-count = table-length (λ i. transitionAt f (p .transitions .at + 8 * i)) 0 (p .transitions .count)
+  T-true : (b : Bool) → T b → b ≡ true
+  T-true true t = refl
+  T-true false t = absurd t
 
-  pub transition-is : (n : ℕ) → n < p .transitions .count → pws.transition (programOf f p) n ≡ transitionAt f (p .transitions .at + 8 * n)
-  transition-is n l =
-      table-at (λ i. transitionAt f (p .transitions .at + 8 * i)) 0 (p .transitions .count) n pws.noTransition l
-      ∙ ap (λ (i : ℕ). transitionAt f (p .transitions .at + 8 * i)) (omega arith)
+  -- a permitted step leaves a representation of the configuration after it
+  pub step-kept : k < 1024 → (s : steps.Step) → T (may (programOf f p) c s)
+      → Kept (shapeOf (p .shape)) (suc k) (runAfter run (moveOf f (p .transitions) s)) (rowsAfter rows (run .messages) (moveOf f (p .transitions) s))
+      (lowerAfter a run (moveOf f (p .transitions) s)) (after (programOf f p) c s)
+  step-kept few (step.Take n) t =
+      let y = and-yes (ltb n (length (programOf f p .transitions))) (mayTake (shapeOf (p .shape)) c (pws.transition (programOf f p) n)) t in
+      let l : n < length (programOf f p .transitions) = ltb-true n (length (programOf f p .transitions)) (T-true (ltb n (length (programOf f p .transitions))) (y .0)) in
+      let o = R .transitions n l in
+      let w = pws.transition (programOf f p) n in
+      subst (λ (m : Move). Kept (shapeOf (p .shape)) (suc k) (runAfter run m) (rowsAfter rows (run .messages) m) (lowerAfter a run m) (afterTake c w))
+      (sym (move-take f p n (omega (arith, transition-count f p))))
+      (kept-taken (p .shape) (R .shape .processes) (R .shape .variables) (R .shape .values) k run rows a c K few w (o .process) (o .operation))
+  step-kept few (step.Serialise q v) t =
+      let y = and-yes (ltb q (p .shape .processes) && ltb v (p .shape .variables)) (not (isEmpty (c .queue q v))) t in
+      let z = and-yes (ltb q (p .shape .processes)) (ltb v (p .shape .variables)) (y .0) in
+      let qe = ltb-true q (p .shape .processes) (T-true (ltb q (p .shape .processes)) (z .0)) in
+      let ve = ltb-true v (p .shape .variables) (T-true (ltb v (p .shape .variables)) (z .1)) in
+      kept-serialised (p .shape) (R .shape .processes) (R .shape .variables) (R .shape .values) k run rows a c K few q v qe ve (some-waits q v qe ve (y .1))
+  step-kept few (step.Update q) t =
+      let y = and-yes (ltb q (p .shape .processes)) (ltb (c .memory .pointer q) (length (c .memory .channel))) t in
+      let qe = ltb-true q (p .shape .processes) (T-true (ltb q (p .shape .processes)) (y .0)) in
+      let l = ltb-true (c .memory .pointer q) (length (c .memory .channel)) (T-true (ltb (c .memory .pointer q) (length (c .memory .channel))) (y .1)) in
+      kept-updated (p .shape) (R .shape .processes) (R .shape .variables) (R .shape .values) k run rows a c K few q qe l
 
-  move-take : (n : ℕ) → n < p .transitions .count → moveOf f (p .transitions) (step.Take n) ≡ Take (pws.transition (programOf f p) n)
-  move-take n l = rw (lt-leb (p .transitions .count) n l) (ap Take (sym (transition-is n l)))
-
-  move-absent : (n : ℕ) → p .transitions .count ≤ n → moveOf f (p .transitions) (step.Take n) ≡ Absent
-  move-absent n l = rw (le-leb (p .transitions .count) n l)
-
-  pub exists-is : (n : ℕ) → n < p .transitions .count → ltb n (length (programOf f p .transitions)) ≡ true
-  exists-is n l = lt-ltb n (length (programOf f p .transitions)) (omega (arith, transition-count))
-
-  pub exists-not : (n : ℕ) → p .transitions .count ≤ n → ltb n (length (programOf f p .transitions)) ≡ false
-  exists-not n l = le-ltb n (length (programOf f p .transitions)) (omega (arith, transition-count))
-
-  module _ (R : pws.ProgramInRange (programOf f p)) (k : ℕ) (run : Run) (rows : List (List ℕ)) (a : List ℕ) (c : Configuration)
-      (K : Kept (shapeOf (p .shape)) k run rows a c) where
-    -- the step's answer is the machine's
-    pub answer-is : (s : steps.Step) → answerIn run rows a (p .shape) (moveOf f (p .transitions) s) ≡ stepAnswer (programOf f p) c s
-    answer-is (step.Take n) = elim (decLt n (p .transitions .count)) [
-      | yes l ↦
-          let t = R .transitions n (omega (arith, transition-count)) in
-          ap (answerIn run rows a (p .shape)) (move-take n l)
-          ∙ take-is (p .shape) (R .shape .processes) (R .shape .variables) k run rows a c K (pws.transition (programOf f p) n) (t .process) (t .operation)
-          ∙ ap (λ (b : Bool). cond b (takeAnswer (shapeOf (p .shape)) c (pws.transition (programOf f p) n)) (Refused State)) (sym (exists-is n l))
-      | no l ↦
-          ap (answerIn run rows a (p .shape)) (move-absent n (omega arith))
-          ∙ ap (λ (b : Bool). cond b (takeAnswer (shapeOf (p .shape)) c (pws.transition (programOf f p) n)) (Refused State)) (sym (exists-not n (omega arith)))
-    ]
-    answer-is (step.Serialise q v) = ap (firstCause true true true true) (serialise-is (p .shape) (R .shape .processes) (R .shape .variables) k run rows a c K q v)
-    answer-is (step.Update q) = ap (firstCause true true true true) (update-is (p .shape) (R .shape .processes) (R .shape .variables) k run rows a c K q)
-
-    some-waits : (q v : ℕ) → q < p .shape .processes → v < p .shape .variables → T (not (isEmpty (c .queue q v)))
-        → getD (run .heads) (4 * q + v) 0 < getD (run .tails) (4 * q + v) 0
-    some-waits q v qe ve t =
-        let h = getD (run .heads) (4 * q + v) 0 in
-        let z = getD (run .tails) (4 * q + v) 0 in
-        leb-false z h (table-empty (waitingAt a (4 * q + v)) h z ∙ ap isEmpty (K .represents .queues q v qe ve) ∙ not-T (isEmpty (c .queue q v)) t)
-      where
-        not-T : (b : Bool) → T (not b) → b ≡ false
-        not-T true t = absurd t
-        not-T false t = refl
-
-    T-true : (b : Bool) → T b → b ≡ true
-    T-true true t = refl
-    T-true false t = absurd t
-
-    -- a permitted step leaves a representation of the configuration after it
-    pub step-kept : k < 1024 → (s : steps.Step) → T (may (programOf f p) c s)
-        → Kept (shapeOf (p .shape)) (suc k) (runAfter run (moveOf f (p .transitions) s)) (rowsAfter rows (run .messages) (moveOf f (p .transitions) s))
-        (lowerAfter a run (moveOf f (p .transitions) s)) (after (programOf f p) c s)
-    step-kept few (step.Take n) t =
-        let y = and-yes (ltb n (length (programOf f p .transitions))) (mayTake (shapeOf (p .shape)) c (pws.transition (programOf f p) n)) t in
-        let l : n < length (programOf f p .transitions) = ltb-true n (length (programOf f p .transitions)) (T-true (ltb n (length (programOf f p .transitions))) (y .0)) in
-        let o = R .transitions n l in
-        let w = pws.transition (programOf f p) n in
-        subst (λ (m : Move). Kept (shapeOf (p .shape)) (suc k) (runAfter run m) (rowsAfter rows (run .messages) m) (lowerAfter a run m) (afterTake c w))
-        (sym (move-take n (omega (arith, transition-count))))
-        (kept-taken (p .shape) (R .shape .processes) (R .shape .variables) (R .shape .values) k run rows a c K few w (o .process) (o .operation))
-    step-kept few (step.Serialise q v) t =
-        let y = and-yes (ltb q (p .shape .processes) && ltb v (p .shape .variables)) (not (isEmpty (c .queue q v))) t in
-        let z = and-yes (ltb q (p .shape .processes)) (ltb v (p .shape .variables)) (y .0) in
-        let qe = ltb-true q (p .shape .processes) (T-true (ltb q (p .shape .processes)) (z .0)) in
-        let ve = ltb-true v (p .shape .variables) (T-true (ltb v (p .shape .variables)) (z .1)) in
-        kept-serialised (p .shape) (R .shape .processes) (R .shape .variables) (R .shape .values) k run rows a c K few q v qe ve (some-waits q v qe ve (y .1))
-    step-kept few (step.Update q) t =
-        let y = and-yes (ltb q (p .shape .processes)) (ltb (c .memory .pointer q) (length (c .memory .channel))) t in
-        let qe = ltb-true q (p .shape .processes) (T-true (ltb q (p .shape .processes)) (y .0)) in
-        let l = ltb-true (c .memory .pointer q) (length (c .memory .channel)) (T-true (ltb (c .memory .pointer q) (length (c .memory .channel))) (y .1)) in
-        kept-updated (p .shape) (R .shape .processes) (R .shape .variables) (R .shape .values) k run rows a c K few q qe l
-
-    -- both: the step is permitted exactly if the machine may take it, and then what is left represents the configuration after it
-    pub step-right : k < 1024 → (s : steps.Step)
-        → (isPermitted (answerIn run rows a (p .shape) (moveOf f (p .transitions) s)) ≡ may (programOf f p) c s)
-        × (T (may (programOf f p) c s)
-        → Represents (shapeOf (p .shape)) (runAfter run (moveOf f (p .transitions) s)) (rowsAfter rows (run .messages) (moveOf f (p .transitions) s))
-        (lowerAfter a run (moveOf f (p .transitions) s)) (after (programOf f p) c s))
-    step-right few s = (ap isPermitted (answer-is s) ∙ answer-may (programOf f p) c s, (λ t. step-kept few s t .represents))
+  -- both: the step is permitted exactly if the machine may take it, and then what is left represents the configuration after it
+  pub step-right : k < 1024 → (s : steps.Step)
+      → (isPermitted (answerIn run rows a (p .shape) (moveOf f (p .transitions) s)) ≡ may (programOf f p) c s)
+      × (T (may (programOf f p) c s)
+      → Represents (shapeOf (p .shape)) (runAfter run (moveOf f (p .transitions) s)) (rowsAfter rows (run .messages) (moveOf f (p .transitions) s))
+      (lowerAfter a run (moveOf f (p .transitions) s)) (after (programOf f p) c s))
+  step-right few s = (ap isPermitted (answer-is s) ∙ answer-may (programOf f p) c s, (λ t. step-kept few s t .represents))

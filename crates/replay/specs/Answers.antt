@@ -8,12 +8,12 @@ use Rattle.pws.specs.declared.Step.{Step}
 use Rattle.pws.specs.Program.{Program}
 use Rattle.pws.specs.Machine.{Configuration, after}
 use Rattle.pws.specs.Configurations.{startWith}
-use Rattle.replay.specs.declared.step.Answer.{Answer}
-use Rattle.replay.specs.declared.step.Answer.the-variants.{Permitted, Refused}
-use Rattle.replay.specs.declared.run.RunAnswer.{RunAnswer}
-use Rattle.replay.specs.declared.run.RunAnswer.the-variants.{Reachable, Stopped, Missed}
+use Rattle.causes.specs.declared.Answer.{Answer}
+use Rattle.causes.specs.declared.Answer.the-variants.{Permitted, Refused}
+use Rattle.last_test.specs.declared.RunAnswer.{RunAnswer}
+use Rattle.last_test.specs.declared.RunAnswer.the-variants.{Reachable, Stopped, Missed}
 use Rattle.replay.specs.Replay.{RunVerdict, reachable, stopped, missed, lowestMet, runVerdict}
-use Rattle.replay.specs.Causes.{stepAnswer}
+use Rattle.causes.specs.Causes.{stepAnswer}
 
 -- what document 01 says of it
 abbrev pub verdictOfRun : RunAnswer → RunVerdict

@@ -1,51 +1,29 @@
 -- The replay as the code makes it, over the bytes and arrays of Layout. No statement rests on these definitions: `replay-right` says that they
 -- give the verdict of the machine.
 use Prim.Native.Nat.{ℕ, zero, suc, _+_}
-use mathlib.Core.Bool.{Bool, cond, _&&_, _||_}
+use mathlib.Core.Bool.{cond}
 use mathlib.Core.List.{List}
-use lib.ListN.{length, getD, replicate}
-use lib.Dec.{eqb, leb}
+use lib.ListN.{length, replicate}
+use lib.Dec.{leb}
 use Rattle.program_part.specs.declared.program.Shape.{Shape}
 use Rattle.program_part.specs.declared.program.Row.{Row}
 use Rattle.program_part.specs.declared.program.Program.{Program}
-use Rattle.program_part.specs.Bytes.{choose, byte}
 use Rattle.program_part.specs.Records.{stepBody, stepAt}
-use Rattle.replay.specs.declared.step.Cause.the-variants.{Nothing}
-use Rattle.replay.specs.declared.step.Answer.{Answer}
-use Rattle.replay.specs.declared.step.Answer.the-variants.{Permitted, Refused}
-use Rattle.replay.specs.declared.step.Run.{Run}
-use Rattle.replay.specs.declared.run.RunAnswer.{RunAnswer}
-use Rattle.replay.specs.declared.run.RunAnswer.the-variants.{Reachable, Stopped, Missed}
+use Rattle.causes.specs.declared.Cause.the-variants.{Nothing}
+use Rattle.causes.specs.declared.Answer.{Answer}
+use Rattle.causes.specs.declared.Answer.the-variants.{Permitted, Refused}
+use Rattle.layout.specs.declared.arrays.Run.{Run}
+use Rattle.last_test.specs.declared.RunAnswer.{RunAnswer}
+use Rattle.last_test.specs.declared.RunAnswer.the-variants.{Stopped}
+use Rattle.last_test.specs.LastTest.{lastIn}
 use Rattle.replay.specs.Answers.{answerThen}
-use Rattle.replay.specs.Layout.{putSnapshot, moveOf, answerIn, runAfter, rowsAfter, lowerAfter}
-
--- ---- the last test
-
-unfoldable pub agreesIn : Shape → ℕ → ℕ → ℕ → Bool
-agreesIn s p x y = leb (s .processes) p || eqb x y
-
-unfoldable pub inTargetIn : List ℕ → ℕ → Shape → List ℕ → Bool
-inTargetIn f at s states =
-    agreesIn s 0 (getD states 0 0) (byte f (at + 1))
-    && (agreesIn s 1 (getD states 1 0) (byte f (at + 2))
-    && (agreesIn s 2 (getD states 2 0) (byte f (at + 3)) && agreesIn s 3 (getD states 3 0) (byte f (at + 4))))
-
-unfoldable pub nextTarget : List ℕ → ℕ → ℕ
-nextTarget f at = cond (leb (length f) at) at (at + 5)
+use Rattle.layout.specs.Layout.{putSnapshot, moveOf}
+use Rattle.answering.specs.Answering.{answerIn}
+use Rattle.stepping.specs.After.{runAfter, rowsAfter}
+use Rattle.storing.specs.Stored.{lowerAfter}
 
 unfoldable pub nextStep : List ℕ → ℕ → ℕ
 nextStep f at = cond (leb (length f) at) at (at + (1 + stepBody f at))
-
--- the targets from number i on, which stands at `at`; n of them are left
-unfoldable pub lastFrom : List ℕ → Shape → List ℕ → ℕ → ℕ → ℕ → ℕ → RunAnswer
-lastFrom f s states steps at i zero = Missed steps
-lastFrom f s states steps at i (suc n) =
-    choose (inTargetIn f at s states) (λ _. Reachable steps i) (λ _. lastFrom f s states steps (nextTarget f at) (i + 1) n)
-
-abbrev pub lastIn : List ℕ → Row → Shape → List ℕ → ℕ → RunAnswer
-lastIn f targets s states steps = lastFrom f s states steps (targets .at) 0 (targets .count)
-
--- ---- the replay
 
 abbrev pub stoppedBy : ℕ → Answer → RunAnswer
 stoppedBy k Permitted = Stopped k Nothing

@@ -6,64 +6,25 @@ ghost use Rattle.pws.specs.Program.{ProgramInRange};
 ghost use Rattle.program_part.specs.ProgramPart.{programOf, targetsOf};
 ghost use Rattle.whole_file.specs.EvidencePart.{stepsOf};
 ghost use Rattle.replay.specs.Answers.{runAnswer, RunOf};
-ghost use Rattle.replay.specs.Loop.{agreesIn, inTargetIn, nextTarget, nextStep, lastIn, stoppedBy, firstRun, firstRows, replayIn};
-use crate::after::rows_after;
-use crate::after::store;
-use crate::area::clear;
-use crate::area::put_snapshot;
-use crate::step::Answer;
-use crate::step::Cause;
-use crate::step::Run;
-use crate::step::move_of;
-use crate::step::step_answer;
-use program_part::bytes::both;
-use program_part::bytes::either;
-use program_part::bytes::field;
+ghost use Rattle.replay.specs.Loop.{nextStep, stoppedBy, firstRun, firstRows, replayIn};
+use answering::step_answer;
+use causes::Answer;
+use causes::Cause;
+use last_test::RunAnswer;
+use last_test::last_answer;
+use layout::area::clear;
+use layout::area::put_snapshot;
+use layout::arrays::Run;
+use layout::moves::move_of;
 use program_part::program::Program;
-use program_part::program::Row;
-use program_part::program::Shape;
-use program_part::program::of_four;
+use stepping::rows_after;
+use stepping::run_after;
+use storing::store;
 use whole_file::evidence::Contents;
 use whole_file::steps::step_at;
 use whole_file::steps::step_body;
 
-// The verdict of a run: reachable with the number of steps and the lowest target met; the number of the step that is refused, and why; or
-// the number of steps, after which no target is met.
-pub enum RunAnswer {
-    Reachable { steps: usize, target: usize },
-    Stopped { step: usize, cause: Cause },
-    Missed { steps: usize },
-}
-
-// ---- the last test
-
-fn agrees(shape: Shape, p: usize, x: u8, y: u8) -> bool
-    ensures { λ r. ⌜ r ≡ agreesIn shape p x y ⌝ }
-{
-    either(shape.processes <= p, x == y)
-}
-
-// The states are those of the target at a place.
-fn in_target(file: &[u8], at: usize, shape: Shape, states: [u8; 4]) -> bool
-    ensures { λ r. ⌜ r ≡ inTargetIn (now (file .entry)) at shape states ⌝ }
-{
-    let a = agrees(shape, 0, of_four(states, 0), field(file, at, 1));
-    let b = agrees(shape, 1, of_four(states, 1), field(file, at, 2));
-    let c = agrees(shape, 2, of_four(states, 2), field(file, at, 3));
-    let d = agrees(shape, 3, of_four(states, 3), field(file, at, 4));
-    both(a, both(b, both(c, d)))
-}
-
-// Where the next target stands, and the next step; past the file's end there is nothing to pass.
-fn next_target(file: &[u8], at: usize) -> usize
-    ensures { λ r. ⌜ r ≡ nextTarget (now (file .entry)) at ⌝ }
-{
-    if file.len() <= at {
-        return at;
-    }
-    at + 5
-}
-
+// Where the next step stands; past the file's end there is nothing to pass.
 pub fn next_step(file: &[u8], at: usize) -> usize
     ensures { λ r. ⌜ r ≡ nextStep (now (file .entry)) at ⌝ }
 {
@@ -72,30 +33,6 @@ pub fn next_step(file: &[u8], at: usize) -> usize
     }
     at + (1 + step_body(file, at))
 }
-
-pub fn last_answer(
-    file: &[u8],
-    targets: Row,
-    shape: Shape,
-    states: [u8; 4],
-    steps: usize,
-) -> RunAnswer
-    ensures { λ r. ⌜ r ≡ lastIn (now (file .entry)) targets shape states steps ⌝ }
-{
-    let mut k = targets.at;
-    for i in 0..targets.count {
-        if in_target(file, k, shape, states) {
-            return RunAnswer::Reachable {
-                steps: steps,
-                target: i,
-            };
-        }
-        k = next_target(file, k);
-    }
-    RunAnswer::Missed { steps: steps }
-}
-
-// ---- the replay
 
 pub fn stopped_by(step: usize, answer: Answer) -> RunAnswer
     ensures { λ r. ⌜ r ≡ stoppedBy step answer ⌝ }
@@ -170,7 +107,7 @@ fn replay_steps(
         store(lower, run, step);
         let next = rows_after(rows, run.messages, step);
         rows = next;
-        run = run.after(step);
+        run = run_after(run, step);
         k = next_step(file, k);
         i += 1;
     };

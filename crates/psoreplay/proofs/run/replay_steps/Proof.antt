@@ -3,7 +3,8 @@ use mathlib.Core.Path.{_≡_, sym, ap, _∙_}
 use mathlib.Core.Logic.{⊎-elim}
 use native.Mathlib.Omega.{arith}
 use lib.ListN.{length, length-replicate, replicate}
-use Rattle.psoreplay.specs.Layout.{psoMoveOf, answerIn}
+use Rattle.psolayout.specs.Layout.{psoMoveOf}
+use Rattle.psoanswering.specs.Answering.{answerIn}
 use Rattle.psoreplay.specs.Loop.{runFrom, replayIn}
 use Rattle.psoreplay.proofs.LoopLaws.{Replaying, replaying-begin, replaying-done, replaying-stopped, replaying-next}
 use Rattle.psoreplay.proofs.Replaying.{replay-right}
@@ -43,29 +44,29 @@ replay-steps-spec = tie.close (tie.spec
     Inv-loop
     μ-loop
     -- first-run-requires
-    (λ c κs. search needs)
+    (λ c κs. tt)
     -- loop-holds
     (λ c. replaying-begin _ _ _ _ _ _ _ _ _)
     -- last-answer-requires
-    (λ c κs. search needs)
+    (λ c κs. tt)
     -- step-at-requires
-    (λ c κs. search needs)
+    (λ c κs. tt)
     -- pso-move-requires
-    (λ c κs. search needs)
+    (λ c κs. tt)
     -- step-answer-requires
-    (λ c κs. search needs)
+    (λ c κs. tt)
     -- enum-told
-    (λ c. search needs)
+    (λ c. c .match .keys1)
     -- enum-told-2
-    (λ c. search needs)
+    (λ c. c .match .keys2)
     -- stopped-by-requires
-    (λ c κs. search needs)
+    (λ c κs. tt)
     -- after-requires
-    (λ c κs. search needs)
+    (λ c κs. tt)
     -- store-requires
-    (λ c κs. search needs)
+    (λ c κs. tt)
     -- next-step-requires
-    (λ c κs. search needs)
+    (λ c κs. tt)
     -- add-i
     (λ c. omega (arith, c .before .before .before .before .before .before .before .before .before .before .before .before .before .before .if1 .left, c .before .before .before .before .before .before .before .before .before .before .before .before .before .before .before .before .before .before .before .before .before .before .before .before .fits .count))
     -- loop-less
@@ -76,7 +77,7 @@ replay-steps-spec = tie.close (tie.spec
     (c .before .before .before .before .before .before .before .before .before .before .before .before .pso-move .ensures ∙ ap (psoMoveOf g (c .before .before .before .before .before .before .before .before .before .before .before .before .before .before .before .before .before .before .before .before .before .before .before .before .args .program .transitions)) (c .before .before .before .before .before .before .before .before .before .before .before .before .before .step-at .ensures))
     (sym (c .before .before .before .before .before .before .before .before .before .before .step-answer .ensures) ∙ c .before .before .before .before .before .before .before .before .enum-told .given .1) (c .next-step .ensures) (c .before .before .before .before .before .run-after .ensures) (c .before .before .before .store .ensures))
     -- clear-requires
-    (λ c κs. search needs)
+    (λ c κs. tt)
     -- same-length
     (λ c. kept c)
     -- returns

@@ -1,8 +1,7 @@
 use borrow.Author.Tests.{le-leb, lt-leb}
 use native.Mathlib.Omega.{arith}
-use Rattle.replay.proofs.AreaLaws.{body-most}
+use Rattle.replay.proofs.LoopLaws.{body-most}
 use Rattle.replay.specs.Loop.{nextStep}
-use borrow.Author.Needs.{needs}
 use Rattle.replay.proofs.run.next_step.Statement.{statement}
 use Rattle.replay.proofs.run.next_step.Tie as tie
 
@@ -12,7 +11,7 @@ next-step-spec = tie.close (tie.spec
     -- returns 66:9
     (λ c. rw (le-leb _ _ (c .if1 .taken)))
     -- step-body-requires 68:15
-    (λ c κs. search needs)
+    (λ c κs. tt)
     -- add-result 68:11
     (λ c. omega (arith, c .step-body .ensures, body-most (c .before .before .before .args .file .now) (c .before .before .before .args .at)))
     -- add-result-2 68:5

@@ -6,7 +6,7 @@ use Rattle.replay.proofs.run.replay.Tie as tie
 pub replay-spec : {M : Type 1} → statement M
 replay-spec = tie.close (tie.spec
     -- replay-steps-requires
-    (λ c κs. search needs)
+    (λ c κs. tt)
     -- same-length
     (λ c. search needs)
     -- returns

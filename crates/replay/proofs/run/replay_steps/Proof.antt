@@ -1,8 +1,9 @@
 use mathlib.Core.Logic.{⊎-elim}
 use lib.ListN.{length, length-replicate, replicate}
-use Rattle.replay.specs.Layout.{moveOf, answerIn}
+use Rattle.layout.specs.Layout.{moveOf}
+use Rattle.answering.specs.Answering.{answerIn}
 use Rattle.replay.specs.Loop.{runFrom, replayIn}
-use Rattle.replay.proofs.AreaLaws.{snapshot-length}
+use Rattle.layout.proofs.AreaLaws.{snapshot-length}
 use Rattle.replay.proofs.Replaying.{replay-right}
 use Prim.Native.Nat.{ℕ, _-_}
 use mathlib.Core.Path.{_≡_, sym, ap, _∙_}
@@ -49,35 +50,35 @@ replay-steps-spec = tie.close (tie.spec
     Inv-loop
     μ-loop
     -- put-snapshot-requires
-    (λ c κs. search needs)
+    (λ c κs. tt)
     -- first-run-requires
-    (λ c κs. search needs)
+    (λ c κs. tt)
     -- first-rows-requires
-    (λ c κs. search needs)
+    (λ c κs. tt)
     -- loop-holds
     (λ c. replaying-begin _ _ _ _ _ _ _ _ _ _)
     -- last-answer-requires
-    (λ c κs. search needs)
+    (λ c κs. tt)
     -- step-at-requires
-    (λ c κs. search needs)
+    (λ c κs. tt)
     -- move-of-requires
-    (λ c κs. search needs)
+    (λ c κs. tt)
     -- step-answer-requires
-    (λ c κs. search needs)
+    (λ c κs. tt)
     -- enum-told
-    (λ c. search needs)
+    (λ c. c .match .keys1)
     -- enum-told-2
-    (λ c. search needs)
+    (λ c. c .match .keys2)
     -- stopped-by-requires
-    (λ c κs. search needs)
+    (λ c κs. tt)
     -- store-requires
-    (λ c κs. search needs)
+    (λ c κs. tt)
     -- rows-after-requires
-    (λ c κs. search needs)
-    -- after-requires
-    (λ c κs. search needs)
+    (λ c κs. tt)
+    -- run-after-requires
+    (λ c κs. tt)
     -- next-step-requires
-    (λ c κs. search needs)
+    (λ c κs. tt)
     -- add-i
     (λ c. omega (arith, c .before .before .before .before .before .before .before .before .before .before .before .before .before .if1 .left, c .before .before .before .before .before .before .before .before .before .before .before .before .before .before .before .before .before .before .before .before .before .before .before .before .before .before .before .before .fits .count))
     -- loop-less
@@ -87,9 +88,9 @@ replay-steps-spec = tie.close (tie.spec
     replaying-next (c .before .before .before .before .before .before .before .before .before .before .before .before .before .before .loop .inv) (c .before .before .before .before .before .before .before .before .before .before .before .move-of .result) (c .before .before .before .before .before .before .before .before .before .before .before .before .before .if1 .left)
     (c .before .before .before .before .before .before .before .before .before .before .before .move-of .ensures ∙ ap (moveOf g (c .before .before .before .before .before .before .before .before .before .before .before .before .before .before .before .before .before .before .before .before .before .before .before .before .before .before .before .before .args .program .transitions)) (c .before .before .before .before .before .before .before .before .before .before .before .before .step-at .ensures))
     (sym (c .before .before .before .before .before .before .before .before .before .step-answer .ensures) ∙ c .before .before .before .before .before .before .before .enum-told .given .1)
-    (c .next-step .ensures) (c .before .after .ensures) (c .before .before .rows-after .ensures) (c .before .before .before .before .before .store .ensures))
+    (c .next-step .ensures) (c .before .run-after .ensures) (c .before .before .rows-after .ensures) (c .before .before .before .before .before .store .ensures))
     -- clear-requires
-    (λ c κs. search needs)
+    (λ c κs. tt)
     -- same-length
     (λ c. kept c)
     -- returns

@@ -1,0 +1,4 @@
+pub mod AreaLaws
+pub mod ByteLaws
+pub mod Kept
+pub mod MoveLaws
