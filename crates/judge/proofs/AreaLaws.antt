@@ -20,8 +20,11 @@ use Rattle.whole_file.specs.EvidencePart.{EntryRead, whole, bad, entryRead, Ent
 use Rattle.whole_file.specs.Reading as reading
 use Rattle.whole_file.specs.Reading.{Input, evidenceAt, Evidence, refusal, entries, steps, claimThen, runEvidence, evidenceFrom, Parts, partsOf, evidenceArea}
 use Rattle.whole_file.proofs.ReadingLaws.{parts-refused, parts-both}
-use Rattle.judge.specs.Judge.{usedOf, areaAfter}
-use Rattle.judge.proofs.Numbers.{each-choice}
+use Rattle.verdict.specs.Judge.{usedOf, areaAfter}
+
+pub each-choice : {A : Type 0} (F : A → Type 0) (b : Bool) (x y : Unit {0} → A) → F (x tt) → F (y tt) → F (choose b x y)
+each-choice F true x y p q = p
+each-choice F false x y p q = q
 
 pub few : (n area : ℕ) → n ≡ entriesAllowed area → n ≤ 524288
 unfolding entriesAllowed

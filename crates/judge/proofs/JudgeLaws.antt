@@ -1,6 +1,6 @@
 -- From what the reading hands on to the verdict of the file.
 use Prim.Native.Nat.{ℕ, _*_, _-_, _<_, _≤_}
-use mathlib.Core.Path.{_≡_, refl, sym, ap, ap₂, subst, _∙_}
+use mathlib.Core.Path.{_≡_, refl, sym, ap, ap₂, _∙_}
 use mathlib.Core.Bool.{Bool, true, false, cond, _&&_, not}
 use mathlib.Core.List.{List, [], _++_, append-nil}
 use native.Mathlib.Omega.{arith}
@@ -12,7 +12,6 @@ use Rattle.pws.specs.Program as pws
 use Rattle.program_part.specs.declared.program.Refusal.{Refusal}
 use Rattle.program_part.specs.declared.program.Checked.the-variants.{Fine, Refused}
 use Rattle.program_part.specs.declared.program.Program.{Program}
-use Rattle.whole_file.specs.declared.evidence.Part.{Part}
 use Rattle.whole_file.specs.declared.evidence.Part.the-variants.{InProgram, InEvidence}
 use Rattle.whole_file.specs.declared.evidence.Reading.{Reading}
 use Rattle.pws.specs.Machine.{Configuration}
@@ -24,26 +23,24 @@ use Rattle.whole_file.specs.Reading as reading
 use Rattle.whole_file.specs.Reading.{Input}
 use Rattle.by_number.specs.Again.{cubeAt, entriesOf}
 use Rattle.by_number.specs.Contents.{RunRead}
-use Rattle.by_number.specs.Offending.{endOfFile, isOfRecord, offendingBy, partBy, offending}
-use Rattle.by_number.proofs.OffendingLaws.{of-other, part-by}
+use Rattle.by_number.specs.Offending.{endOfFile, isOfRecord, offendingBy, offending}
+use Rattle.by_number.proofs.OffendingLaws.{of-other}
 use Rattle.by_number.proofs.Tables.{table-length}
 use Rattle.by_number.proofs.Rows.{steps-length}
 use Rattle.by_number.proofs.Contents.{list-read, run-read, pso-run-read}
 use Rattle.by_number.proofs.Again.{reading-refused, reading-sizes, reading-run, reading-list, reading-count, reading-cube}
 use Rattle.replay.specs.Answers.{runAnswer}
 use Rattle.psoreplay.specs.Answers.{psoSteps, psoRunAnswer}
-use Rattle.judge.specs.declared.answer.Answer.{Answer}
-use Rattle.judge.specs.declared.answer.Answer.the-variants.{Safe, Reachable, Pso, Unread, Unheld, Started, Entered, Stopped, Missed}
-use Rattle.judge.specs.declared.answer.Found.{Found}
-use Rattle.judge.specs.declared.answer.Verdict as declared
-use Rattle.judge.specs.Judge.{Verdict, refused, ofRun, ofPsoRun, ofFile, judged, usedOf}
-use Rattle.judge.specs.Answers.{verdictIn, inC, foundIn, offendingIn, fileNumber, withRecord, answerInC, saidInC, Answered}
+use Rattle.verdict.specs.declared.answer.Answer.{Answer}
+use Rattle.verdict.specs.declared.answer.Answer.the-variants.{Safe, Reachable, Pso, Unread, Unheld, Started, Entered, Stopped, Missed}
+use Rattle.verdict.specs.declared.answer.Verdict as declared
+use Rattle.verdict.specs.Judge.{Verdict, refused, ofRun, ofPsoRun, ofFile, judged, usedOf}
+use Rattle.verdict.specs.Answers.{verdictIn, offendingIn, answerInC, saidInC, Answered}
 use Rattle.judge.specs.Ready.{Listed, ListReady, slotsCleared, listSaid}
 use Rattle.judge.proofs.AreaLaws.{few, list-kept}
 use Rattle.judge.proofs.SummaryLaws.{listed-taken, said-taken, done-kept}
 use Rattle.summary.specs.Groups.{summarised}
-use Rattle.judge.proofs.Numbers.{short-file}
-use Rattle.judge.proofs.Demands.{code, run-is, pso-is, run-high, list-code, one-answer}
+use Rattle.verdict.proofs.Verdicts.{code, run-is, pso-is, run-high, list-code, short-file, judged-one}
 
 pub short-said : (x : Input) (area : ℕ) → area < 65536 → refused 8 0 ≡ judged x area
 unfolding judged
@@ -51,7 +48,7 @@ short-said x area l = sym (ap ofFile (short-file x area l))
 
 pub answered : (x : Input) (area : ℕ) (r : declared.Verdict) → r ≡ saidInC x area → Answered x area r
 unfolding saidInC
-answered x area r e = record { verdict = judged x area; judged = one-answer x area .0; same = e }
+answered x area r e = record { verdict = judged x area; judged = judged-one x area .0; same = e }
 
 -- ---- the record that is handed back
 
@@ -105,13 +102,6 @@ module _ (x : Input) (area : ℕ) (a : Answer) where
       go false q =
           let v = psoRunAnswer P m ts (psoSteps ss) in
           ends x a (omega (arith, run-high (ofPsoRun v) (pso-is v), ap code (e ∙ ap ofFile q))) ∙ sym (ap (offending x) q)
-
--- put together as C has it
-pub shown-is : (x : Input) (a : Answer) (F : Found) (v : declared.Verdict) (own : Part) (file at : ℕ) (bytes : List ℕ) → F ≡ foundIn a → v ≡ inC (verdictIn a)
-    → own ≡ partBy (F .part) (F .number) → file ≡ fileNumber (x .alone) own
-    → at ≡ offendingBy (x .code) (x .file) (F .part) (F .number) (F .place) .at → bytes ≡ offendingBy (x .code) (x .file) (F .part) (F .number) (F .place) .bytes
-    → withRecord v file at (length bytes) ≡ answerInC x (verdictIn a) (offendingIn x a)
-shown-is x a F v own file at bytes f e o n k c = rw (e, n, o ∙ sym (part-by (x .code) (x .file) (F .part) (F .number) (F .place)), k, c, f)
 
 -- what C gets
 pub shown-said : (x : Input) (area : ℕ) (a : Answer) (r : declared.Verdict) → r ≡ answerInC x (verdictIn a) (offendingIn x a)

@@ -2,9 +2,8 @@
 // and 11).
 ghost use mathlib.Core.Path.{_≡_};
 ghost use Rattle.closing.specs.Walk.{LowestFailing};
-ghost use Rattle.judge.specs.Answers.{verdictIn};
+ghost use Rattle.verdict.specs.Answers.{verdictIn};
 ghost use Rattle.judge.specs.Ready.{Ready, heldTest, startTest, enteredSaid, listSaid};
-use crate::answer::Answer;
 use by_number::entry_at;
 use by_number::target_of;
 use closing::Opening;
@@ -12,6 +11,7 @@ use closing::open_step;
 use program_part::program::Program;
 use targets::looks_started;
 use targets::target_held;
+use verdict::answer::Answer;
 
 // The lowest target that is not held, or the number of targets.
 fn lowest_unheld(

@@ -4,7 +4,7 @@ use mathlib.Core.Path.{sym, ap, _∙_}
 use native.Mathlib.Omega.{arith}
 use lib.ListN.{length, drop}
 use lib.Seq.{length-take-le}
-use Rattle.judge.specs.Judge.{usedOf}
+use Rattle.verdict.specs.Judge.{usedOf}
 use Rattle.judge.proofs.AreaLaws.{reading-kept, replay-kept, upper-part, upper-same}
 use Rattle.whole_file.specs.Reading.{input}
 use Rattle.judge.proofs.JudgeLaws.{unread-said, unread-offending, ready, list-said, list-handed, list-area, run-said, run-handed}
