@@ -14,6 +14,7 @@ ghost use Rattle.verdict.specs.Judge.{ofRun, ofPsoRun, ofFile, judged, usedOf, 
 ghost use Rattle.verdict.specs.Answers.{verdictIn, offendingIn, saidInC, Answered};
 ghost use Rattle.judge.specs.Ready.{Ready, ListReady, slotsCleared, listSaid};
 use crate::list::list_answer;
+use file_reading::evidence::read;
 use program_part::places::slot_place;
 use program_part::places::word_place;
 use program_part::program::Checked;
@@ -31,7 +32,6 @@ use verdict::answer::shown;
 use whole_file::evidence::Contents;
 use whole_file::evidence::Part;
 use whole_file::evidence::entries_allowed;
-use whole_file::evidence::read;
 
 mod list;
 

@@ -17,7 +17,7 @@ use Rattle.judge.proofs.judge_file.Lts as lts
 use Rattle.judge.proofs.replay_answer.Reads as replay-answer-reads
 use Rattle.judge.proofs.list_judged.Reads as list-judged-reads
 use Rattle.judge.proofs.summary_place.Reads as summary-place-reads
-use Rattle.whole_file.proofs.evidence.read.Reads as read-reads
+use Rattle.file_reading.proofs.evidence.read.Reads as read-reads
 use Rattle.program_part.proofs.program.refusal_of.Reads as refusal-of-reads
 
 -- src/lib.rt:78:9
