@@ -4,7 +4,8 @@ use mathlib.Core.Path.{_≡_, refl, sym, ap, ap₂, _∙_}
 use mathlib.Core.Bool.{Bool, true, false, cond, _&&_, not}
 use mathlib.Core.List.{List, [], _++_, append-nil}
 use native.Mathlib.Omega.{arith}
-use lib.ListN.{length, take, drop, length-drop, drop-of-length-le}
+use lib.ListN.{length, take, drop, replicate, length-drop, drop-of-length-le}
+use lib.Seq.{length-take-le}
 use lib.Dec.{eqb, leb}
 use borrow.Author.Tests.{eq-eqb, ne-eqb, lt-leb}
 use Rattle.pws.specs.declared.Step.{Step}
@@ -37,7 +38,7 @@ use Rattle.verdict.specs.declared.answer.Verdict as declared
 use Rattle.verdict.specs.Judge.{Verdict, refused, ofRun, ofPsoRun, ofFile, judged, usedOf}
 use Rattle.verdict.specs.Answers.{verdictIn, offendingIn, answerInC, saidInC, Answered}
 use Rattle.judge.specs.Ready.{Listed, ListReady, slotsCleared, listSaid}
-use Rattle.judge.proofs.AreaLaws.{few, list-kept}
+use Rattle.judge.proofs.AreaLaws.{few, upper-part, reading-kept, replay-kept, list-kept}
 use Rattle.judge.proofs.SummaryLaws.{listed-taken, said-taken, done-kept}
 use Rattle.summary.specs.Groups.{summarised}
 use Rattle.verdict.proofs.Verdicts.{code, run-is, pso-is, run-high, list-code, short-file, judged-one}
@@ -136,6 +137,15 @@ module _ (x : Input) (w : List ℕ) (R : Reading) (r : R ≡ reading.readingOf x
   abbrev n : ℕ
   n = R .contents .evidence .count
 
+  -- the answer a is the judgement, the record is handed back, and past the bytes that belong to the judgement the area is as it was lent
+  abbrev Said : Answer → List ℕ → Type 0
+  Said a last =
+      (verdictIn a ≡ judged x (length w))
+      × ((offendingIn x a ≡ offending x (reading.readFile x (length w))) × (drop (usedOf (length w)) last ≡ drop (usedOf (length w)) w))
+
+  left : (work : List ℕ) → work ≡ reading.areaRead (reading.partsOf x (length w)) w → 65536 ≤ length w → drop (usedOf (length w)) work ≡ drop (usedOf (length w)) w
+  left work e l = ap (drop (usedOf (length w))) e ∙ reading-kept x w l
+
   judged-of : (y : reading.FileRead) → reading.readFile x (length w) ≡ y → ofFile y ≡ judged x (length w)
   unfolding judged
   judged-of y e = sym (ap ofFile e)
@@ -152,8 +162,12 @@ module _ (x : Input) (w : List ℕ) (R : Reading) (r : R ≡ reading.readingOf x
     unread-offending =
         ap (λ (z : Refusal). offendingBy (x .code) (x .file) (R .part) (z .number) (z .place)) same ∙ sym (ap (offending x) (reading-refused x w R r y q))
 
+    -- what is returned then, and what the reading left in the area
+    pub unread-returned : (work : List ℕ) → work ≡ reading.areaRead (reading.partsOf x (length w)) w → 65536 ≤ length w → Said (Unread (R .part) z) work
+    unread-returned work e l = (unread-said, (unread-offending, left work e l))
+
   module _ (q : R .answer ≡ Fine) where
-    module _ (work : List ℕ) (e : work ≡ reading.areaRead (reading.partsOf x (length w)) w) (c : R .contents .claim ≡ 0) (list : List ℕ) (d : list ≡ drop 16384 work) where
+    module _ (work : List ℕ) (e : work ≡ reading.areaRead (reading.partsOf x (length w)) w) (c : R .contents .claim ≡ 0) where
       entries-length : length (entriesOf f (drop 16384 work) n) ≡ n
       entries-length = table-length (λ i. configurationOf (cubeAt f (drop 16384 work) i)) 0 n
 
@@ -169,7 +183,7 @@ module _ (x : Input) (w : List ℕ) (R : Reading) (r : R ≡ reading.readingOf x
           }
 
       -- there is room for the offsets of the entries allowed, and for their slots behind them
-      module _ (at : ℕ) (a : at ≡ 4 * entriesAllowed (length w)) (large : 65536 ≤ length w) (same : length work ≡ length w) where
+      module _ (list : List ℕ) (d : list ≡ drop 16384 work) (at : ℕ) (a : at ≡ 4 * entriesAllowed (length w)) (large : 65536 ≤ length w) (same : length work ≡ length w) where
         many : n ≤ entriesAllowed (length w)
         many = reading-count x w R r q work e c
 
@@ -205,6 +219,24 @@ module _ (x : Input) (w : List ℕ) (R : Reading) (r : R ≡ reading.readingOf x
             list-kept (length w) work w (last ++ drop (length work - 16384) (drop 16384 work)) y (omega arith)
             (ap (λ (t : List ℕ). drop (12 * entriesAllowed (length w)) (last ++ t)) none ∙ ap (drop (12 * entriesAllowed (length w))) (append-nil last) ∙ k)
 
+      -- the upper part of the area is lent, and what is returned of it
+      module _ (at : ℕ) (a : at ≡ 4 * entriesAllowed (length work)) (large : 65536 ≤ length w) (kept : length work ≡ length w) where
+        abbrev upper : List ℕ
+        upper = take (length work - 16384) (drop 16384 work)
+
+        placed : at ≡ 4 * entriesAllowed (length w)
+        placed = a ∙ ap (λ (m : ℕ). 4 * entriesAllowed m) kept
+
+        pub upper-ready : ListReady g f upper at n p
+        upper-ready = ready upper (upper-part 16384 work) at placed large kept
+
+        pub list-returned : (v : Answer) (last : List ℕ) → verdictIn v ≡ listSaid g f (take at upper) n p → last ≡ summarised f (p .shape) at n (slotsCleared upper at n)
+            → Said v (take 16384 work ++ (last ++ drop (length work - 16384) (drop 16384 work)))
+        list-returned v last h y =
+            let d = upper-part 16384 work in
+            let said : verdictIn v ≡ judged x (length w) = list-said upper d at placed large kept (verdictIn v) h in
+            (said, (list-handed upper d at placed large kept v said, list-area upper d at placed large kept y (left work e large)))
+
     pub run-said : (R .contents .claim ≡ 0 → ⊥) → (v : Verdict) (lower : ℕ) → lower ≡ 16384
         → (pws.ProgramInRange (programOf g p) → n ≤ 1024 → lower ≡ 16384
         → v ≡ ofFile (reading.runRead (R .contents .claim) (programOf g p) (targetsOf g p) (R .contents .memory) (stepsOf f (R .contents .evidence .at) n)))
@@ -219,3 +251,12 @@ module _ (x : Input) (w : List ℕ) (R : Reading) (r : R ≡ reading.readingOf x
     run-handed c a h =
         run-offending x (length w) a (R .contents .claim) (programOf g p) (targetsOf g p) (R .contents .memory) (stepsOf f (R .contents .evidence .at) n)
         (reading-run x w R r q c) h
+
+    pub run-returned : (R .contents .claim ≡ 0 → ⊥) → (work : List ℕ) → work ≡ reading.areaRead (reading.partsOf x (length w)) w → 65536 ≤ length w → length work ≡ length w
+        → (v : Answer) (last : List ℕ) → last ≡ replicate (length (take 16384 work)) 0
+        → (pws.ProgramInRange (programOf g p) → n ≤ 1024 → length (take 16384 work) ≡ 16384
+        → verdictIn v ≡ ofFile (reading.runRead (R .contents .claim) (programOf g p) (targetsOf g p) (R .contents .memory) (stepsOf f (R .contents .evidence .at) n)))
+        → Said v (last ++ drop 16384 work)
+    run-returned c work e large kept v last y h =
+        let said : verdictIn v ≡ judged x (length w) = run-said c (verdictIn v) (length (take 16384 work)) (length-take-le 16384 work (omega arith)) h in
+        (said, (run-handed c v said, replay-kept (length w) work w last (left work e large) (omega arith) y))
