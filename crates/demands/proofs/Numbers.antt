@@ -68,7 +68,7 @@ use Rattle.whole_file.specs.declared.evidence.Part.{Part}
 use Rattle.whole_file.specs.Reading.{Input, evidenceAt, Evidence, refusal, entries, steps, claimThen, evidenceFrom, runEvidence, twoParts, partsOf, FileRead, refused, list, run, psoRun, listRead, partsRead, readFile}
 use Rattle.whole_file.proofs.ReadingLaws.{parts-refused, parts-both}
 use Rattle.verdict.proofs.Verdicts.{short-file}
-use Rattle.judge.proofs.AreaLaws.{each-choice}
+use Rattle.verdict.proofs.AreaLaws.{each-choice}
 
 -- ---- what a refusal is
 

@@ -38,7 +38,7 @@ use Rattle.verdict.specs.declared.answer.Verdict as declared
 use Rattle.verdict.specs.Judge.{Verdict, refused, ofRun, ofPsoRun, ofFile, judged, usedOf}
 use Rattle.verdict.specs.Answers.{verdictIn, offendingIn, answerInC, saidInC, Answered}
 use Rattle.judge.specs.Ready.{Listed, ListReady, slotsCleared, listSaid}
-use Rattle.judge.proofs.AreaLaws.{few, upper-part, reading-kept, replay-kept, list-kept}
+use Rattle.verdict.proofs.AreaLaws.{few, upper-part, reading-kept, replay-kept, list-kept}
 use Rattle.judge.proofs.SummaryLaws.{listed-taken, said-taken, done-kept}
 use Rattle.summary.specs.Groups.{summarised}
 use Rattle.verdict.proofs.Verdicts.{code, run-is, pso-is, run-high, list-code, short-file, judged-one}

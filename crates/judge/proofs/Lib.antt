@@ -1,4 +1,3 @@
-pub mod AreaLaws
 pub mod LowestLaws
 pub mod SummaryLaws
 pub mod ListLaws

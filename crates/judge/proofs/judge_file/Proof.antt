@@ -1,7 +1,7 @@
 use mathlib.Core.Path.{sym}
 use native.Mathlib.Omega.{arith}
 use lib.Seq.{length-take-le}
-use Rattle.judge.proofs.AreaLaws.{upper-same}
+use Rattle.verdict.proofs.AreaLaws.{upper-same}
 use Rattle.whole_file.specs.Reading.{input}
 use Rattle.judge.proofs.JudgeLaws.{unread-returned, upper-ready, list-returned, run-returned}
 use native.Mathlib.Omega.{arith}

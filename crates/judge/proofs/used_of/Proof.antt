@@ -4,7 +4,7 @@ use native.Mathlib.Omega.{arith}
 use borrow.Author.Needs.{needs}
 use Rattle.whole_file.specs.EvidencePart.{entriesAllowed}
 use Rattle.verdict.specs.Judge.{usedOf}
-use Rattle.judge.proofs.AreaLaws.{few}
+use Rattle.verdict.proofs.AreaLaws.{few}
 use Rattle.judge.proofs.used_of.Statement.{statement}
 use Rattle.judge.proofs.used_of.Tie as tie
 
