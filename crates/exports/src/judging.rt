@@ -2,11 +2,11 @@
 ghost use mathlib.Core.Path.{_≡_};
 ghost use lib.ListN.{length};
 ghost use Rattle.whole_file.specs.Reading.{combined, pair};
-ghost use Rattle.judge.specs.Judge.{areaAfter};
-ghost use Rattle.judge.specs.Answers.{saidInC, Answered};
-use judge::answer::Verdict;
+ghost use Rattle.verdict.specs.Judge.{areaAfter};
+ghost use Rattle.verdict.specs.Answers.{saidInC, Answered};
 use judge::judge;
 use judge::judge_pair;
+use verdict::answer::Verdict;
 
 // A combined file.
 #[no_mangle]

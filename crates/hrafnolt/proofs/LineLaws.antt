@@ -21,10 +21,10 @@ use Rattle.drawing.specs.Runs.{StepInRange, stepInRange}
 use Rattle.drawing.specs.Writing.{shown}
 use Rattle.drawing.proofs.LineLaws.{letters-short}
 use Rattle.whole_file.specs.Reading.{Input, combined}
-use Rattle.judge.specs.declared.answer.Verdict as declared
-use Rattle.judge.specs.Judge.{Verdict, safe, reachable, pso, refused, entered, judged}
-use Rattle.judge.specs.Answers.{inC, withRecord, saidInC}
-use Rattle.judge.proofs.Demands as demands
+use Rattle.verdict.specs.declared.answer.Verdict as declared
+use Rattle.verdict.specs.Judge.{Verdict, safe, reachable, pso, refused, entered, judged}
+use Rattle.verdict.specs.Answers.{inC, withRecord, saidInC}
+use Rattle.verdict.proofs.Verdicts as verdicts
 use Rattle.hrafnolt.specs.Line.{Numbered, TwoNumbers, LineOf, wordSafe, wordReachable, wordPso, wordRefused, wordOf, stepIn, StepKnown, said}
 
 -- ---- a text put in place
@@ -266,7 +266,7 @@ judged-known x area = go (judged x area) refl
     go (reachable n k) e = tt
     go (pso n k) e = tt
     go (refused n k) e = tt
-    go (entered k s) e = let x = demands.entered-step x area k s e in in-program (x .0) (x .1) (x .2) s (x .3)
+    go (entered k s) e = let x = verdicts.entered-step x area k s e in in-program (x .0) (x .1) (x .2) s (x .3)
 
 -- ---- what is said of an input
 

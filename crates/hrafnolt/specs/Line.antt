@@ -12,8 +12,8 @@ use Rattle.program_part.specs.Bytes.{choose}
 use Rattle.drawing.specs.Text.{letters}
 use Rattle.drawing.specs.Runs.{StepInRange}
 use Rattle.whole_file.specs.Reading.{combined}
-use Rattle.judge.specs.declared.answer.Verdict as declared
-use Rattle.judge.specs.Judge.{Verdict, safe, reachable, pso, refused, entered, judged}
+use Rattle.verdict.specs.declared.answer.Verdict as declared
+use Rattle.verdict.specs.Judge.{Verdict, safe, reachable, pso, refused, entered, judged}
 
 -- `safe`, `reachable`, `pso` and `refused`
 abbrev pub wordSafe : List ℕ

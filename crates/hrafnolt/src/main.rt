@@ -5,17 +5,17 @@ ghost use mathlib.Core.List.{_∷_};
 ghost use Prim.Native.Nat.{_+_, _≤_};
 ghost use lib.ListN.{length, take};
 ghost use Rattle.io.specs.Counts.{Counts};
-ghost use Rattle.judge.specs.Judge.{Verdict as Judge·Verdict};
-ghost use Rattle.judge.specs.Answers.{inC, withRecord};
+ghost use Rattle.verdict.specs.Judge.{Verdict as Judge·Verdict};
+ghost use Rattle.verdict.specs.Answers.{inC, withRecord};
 ghost use Rattle.drawing.specs.Text.{letters};
 ghost use Rattle.drawing.specs.Runs.{StepInRange};
 ghost use Rattle.hrafnolt.specs.Line.{Numbered, LineOf, wordOf, stepIn, StepKnown, said};
 use drawing::step_letters;
-use judge::answer::Verdict;
 use judge::judge;
 use libc::STDIN_FILENO;
 use libc::STDOUT_FILENO;
 use pws::Step;
+use verdict::answer::Verdict;
 
 // Room for the longest input that is judged, and one byte more.
 fn input_buffer() -> [u8; 65537]

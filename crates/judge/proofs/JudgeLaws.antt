@@ -1,10 +1,11 @@
 -- From what the reading hands on to the verdict of the file.
 use Prim.Native.Nat.{ℕ, _*_, _-_, _<_, _≤_}
-use mathlib.Core.Path.{_≡_, refl, sym, ap, ap₂, subst, _∙_}
+use mathlib.Core.Path.{_≡_, refl, sym, ap, ap₂, _∙_}
 use mathlib.Core.Bool.{Bool, true, false, cond, _&&_, not}
 use mathlib.Core.List.{List, [], _++_, append-nil}
 use native.Mathlib.Omega.{arith}
-use lib.ListN.{length, take, drop, length-drop, drop-of-length-le}
+use lib.ListN.{length, take, drop, replicate, length-drop, drop-of-length-le}
+use lib.Seq.{length-take-le}
 use lib.Dec.{eqb, leb}
 use borrow.Author.Tests.{eq-eqb, ne-eqb, lt-leb}
 use Rattle.pws.specs.declared.Step.{Step}
@@ -12,7 +13,6 @@ use Rattle.pws.specs.Program as pws
 use Rattle.program_part.specs.declared.program.Refusal.{Refusal}
 use Rattle.program_part.specs.declared.program.Checked.the-variants.{Fine, Refused}
 use Rattle.program_part.specs.declared.program.Program.{Program}
-use Rattle.whole_file.specs.declared.evidence.Part.{Part}
 use Rattle.whole_file.specs.declared.evidence.Part.the-variants.{InProgram, InEvidence}
 use Rattle.whole_file.specs.declared.evidence.Reading.{Reading}
 use Rattle.pws.specs.Machine.{Configuration}
@@ -24,26 +24,24 @@ use Rattle.whole_file.specs.Reading as reading
 use Rattle.whole_file.specs.Reading.{Input}
 use Rattle.by_number.specs.Again.{cubeAt, entriesOf}
 use Rattle.by_number.specs.Contents.{RunRead}
-use Rattle.by_number.specs.Offending.{endOfFile, isOfRecord, offendingBy, partBy, offending}
-use Rattle.by_number.proofs.OffendingLaws.{of-other, part-by}
+use Rattle.by_number.specs.Offending.{endOfFile, isOfRecord, offendingBy, offending}
+use Rattle.by_number.proofs.OffendingLaws.{of-other}
 use Rattle.by_number.proofs.Tables.{table-length}
 use Rattle.by_number.proofs.Rows.{steps-length}
 use Rattle.by_number.proofs.Contents.{list-read, run-read, pso-run-read}
 use Rattle.by_number.proofs.Again.{reading-refused, reading-sizes, reading-run, reading-list, reading-count, reading-cube}
 use Rattle.replay.specs.Answers.{runAnswer}
 use Rattle.psoreplay.specs.Answers.{psoSteps, psoRunAnswer}
-use Rattle.judge.specs.declared.answer.Answer.{Answer}
-use Rattle.judge.specs.declared.answer.Answer.the-variants.{Safe, Reachable, Pso, Unread, Unheld, Started, Entered, Stopped, Missed}
-use Rattle.judge.specs.declared.answer.Found.{Found}
-use Rattle.judge.specs.declared.answer.Verdict as declared
-use Rattle.judge.specs.Judge.{Verdict, refused, ofRun, ofPsoRun, ofFile, judged, usedOf}
-use Rattle.judge.specs.Answers.{verdictIn, inC, foundIn, offendingIn, fileNumber, withRecord, answerInC, saidInC, Answered}
+use Rattle.verdict.specs.declared.answer.Answer.{Answer}
+use Rattle.verdict.specs.declared.answer.Answer.the-variants.{Safe, Reachable, Pso, Unread, Unheld, Started, Entered, Stopped, Missed}
+use Rattle.verdict.specs.declared.answer.Verdict as declared
+use Rattle.verdict.specs.Judge.{Verdict, refused, ofRun, ofPsoRun, ofFile, judged, usedOf}
+use Rattle.verdict.specs.Answers.{verdictIn, offendingIn, answerInC, saidInC, Answered}
 use Rattle.judge.specs.Ready.{Listed, ListReady, slotsCleared, listSaid}
-use Rattle.judge.proofs.AreaLaws.{few, list-kept}
+use Rattle.verdict.proofs.AreaLaws.{few, upper-part, reading-kept, replay-kept, list-kept}
 use Rattle.judge.proofs.SummaryLaws.{listed-taken, said-taken, done-kept}
 use Rattle.summary.specs.Groups.{summarised}
-use Rattle.judge.proofs.Numbers.{short-file}
-use Rattle.judge.proofs.Demands.{code, run-is, pso-is, run-high, list-code, one-answer}
+use Rattle.verdict.proofs.Verdicts.{code, run-is, pso-is, run-high, list-code, short-file, judged-one}
 
 pub short-said : (x : Input) (area : ℕ) → area < 65536 → refused 8 0 ≡ judged x area
 unfolding judged
@@ -51,7 +49,7 @@ short-said x area l = sym (ap ofFile (short-file x area l))
 
 pub answered : (x : Input) (area : ℕ) (r : declared.Verdict) → r ≡ saidInC x area → Answered x area r
 unfolding saidInC
-answered x area r e = record { verdict = judged x area; judged = one-answer x area .0; same = e }
+answered x area r e = record { verdict = judged x area; judged = judged-one x area .0; same = e }
 
 -- ---- the record that is handed back
 
@@ -106,13 +104,6 @@ module _ (x : Input) (area : ℕ) (a : Answer) where
           let v = psoRunAnswer P m ts (psoSteps ss) in
           ends x a (omega (arith, run-high (ofPsoRun v) (pso-is v), ap code (e ∙ ap ofFile q))) ∙ sym (ap (offending x) q)
 
--- put together as C has it
-pub shown-is : (x : Input) (a : Answer) (F : Found) (v : declared.Verdict) (own : Part) (file at : ℕ) (bytes : List ℕ) → F ≡ foundIn a → v ≡ inC (verdictIn a)
-    → own ≡ partBy (F .part) (F .number) → file ≡ fileNumber (x .alone) own
-    → at ≡ offendingBy (x .code) (x .file) (F .part) (F .number) (F .place) .at → bytes ≡ offendingBy (x .code) (x .file) (F .part) (F .number) (F .place) .bytes
-    → withRecord v file at (length bytes) ≡ answerInC x (verdictIn a) (offendingIn x a)
-shown-is x a F v own file at bytes f e o n k c = rw (e, n, o ∙ sym (part-by (x .code) (x .file) (F .part) (F .number) (F .place)), k, c, f)
-
 -- what C gets
 pub shown-said : (x : Input) (area : ℕ) (a : Answer) (r : declared.Verdict) → r ≡ answerInC x (verdictIn a) (offendingIn x a)
     → verdictIn a ≡ judged x area → offendingIn x a ≡ offending x (reading.readFile x area) → r ≡ saidInC x area
@@ -146,6 +137,15 @@ module _ (x : Input) (w : List ℕ) (R : Reading) (r : R ≡ reading.readingOf x
   abbrev n : ℕ
   n = R .contents .evidence .count
 
+  -- the answer a is the judgement, the record is handed back, and past the bytes that belong to the judgement the area is as it was lent
+  abbrev Said : Answer → List ℕ → Type 0
+  Said a last =
+      (verdictIn a ≡ judged x (length w))
+      × ((offendingIn x a ≡ offending x (reading.readFile x (length w))) × (drop (usedOf (length w)) last ≡ drop (usedOf (length w)) w))
+
+  left : (work : List ℕ) → work ≡ reading.areaRead (reading.partsOf x (length w)) w → 65536 ≤ length w → drop (usedOf (length w)) work ≡ drop (usedOf (length w)) w
+  left work e l = ap (drop (usedOf (length w))) e ∙ reading-kept x w l
+
   judged-of : (y : reading.FileRead) → reading.readFile x (length w) ≡ y → ofFile y ≡ judged x (length w)
   unfolding judged
   judged-of y e = sym (ap ofFile e)
@@ -162,8 +162,12 @@ module _ (x : Input) (w : List ℕ) (R : Reading) (r : R ≡ reading.readingOf x
     unread-offending =
         ap (λ (z : Refusal). offendingBy (x .code) (x .file) (R .part) (z .number) (z .place)) same ∙ sym (ap (offending x) (reading-refused x w R r y q))
 
+    -- what is returned then, and what the reading left in the area
+    pub unread-returned : (work : List ℕ) → work ≡ reading.areaRead (reading.partsOf x (length w)) w → 65536 ≤ length w → Said (Unread (R .part) z) work
+    unread-returned work e l = (unread-said, (unread-offending, left work e l))
+
   module _ (q : R .answer ≡ Fine) where
-    module _ (work : List ℕ) (e : work ≡ reading.areaRead (reading.partsOf x (length w)) w) (c : R .contents .claim ≡ 0) (list : List ℕ) (d : list ≡ drop 16384 work) where
+    module _ (work : List ℕ) (e : work ≡ reading.areaRead (reading.partsOf x (length w)) w) (c : R .contents .claim ≡ 0) where
       entries-length : length (entriesOf f (drop 16384 work) n) ≡ n
       entries-length = table-length (λ i. configurationOf (cubeAt f (drop 16384 work) i)) 0 n
 
@@ -179,7 +183,7 @@ module _ (x : Input) (w : List ℕ) (R : Reading) (r : R ≡ reading.readingOf x
           }
 
       -- there is room for the offsets of the entries allowed, and for their slots behind them
-      module _ (at : ℕ) (a : at ≡ 4 * entriesAllowed (length w)) (large : 65536 ≤ length w) (same : length work ≡ length w) where
+      module _ (list : List ℕ) (d : list ≡ drop 16384 work) (at : ℕ) (a : at ≡ 4 * entriesAllowed (length w)) (large : 65536 ≤ length w) (same : length work ≡ length w) where
         many : n ≤ entriesAllowed (length w)
         many = reading-count x w R r q work e c
 
@@ -215,6 +219,24 @@ module _ (x : Input) (w : List ℕ) (R : Reading) (r : R ≡ reading.readingOf x
             list-kept (length w) work w (last ++ drop (length work - 16384) (drop 16384 work)) y (omega arith)
             (ap (λ (t : List ℕ). drop (12 * entriesAllowed (length w)) (last ++ t)) none ∙ ap (drop (12 * entriesAllowed (length w))) (append-nil last) ∙ k)
 
+      -- the upper part of the area is lent, and what is returned of it
+      module _ (at : ℕ) (a : at ≡ 4 * entriesAllowed (length work)) (large : 65536 ≤ length w) (kept : length work ≡ length w) where
+        abbrev upper : List ℕ
+        upper = take (length work - 16384) (drop 16384 work)
+
+        placed : at ≡ 4 * entriesAllowed (length w)
+        placed = a ∙ ap (λ (m : ℕ). 4 * entriesAllowed m) kept
+
+        pub upper-ready : ListReady g f upper at n p
+        upper-ready = ready upper (upper-part 16384 work) at placed large kept
+
+        pub list-returned : (v : Answer) (last : List ℕ) → verdictIn v ≡ listSaid g f (take at upper) n p → last ≡ summarised f (p .shape) at n (slotsCleared upper at n)
+            → Said v (take 16384 work ++ (last ++ drop (length work - 16384) (drop 16384 work)))
+        list-returned v last h y =
+            let d = upper-part 16384 work in
+            let said : verdictIn v ≡ judged x (length w) = list-said upper d at placed large kept (verdictIn v) h in
+            (said, (list-handed upper d at placed large kept v said, list-area upper d at placed large kept y (left work e large)))
+
     pub run-said : (R .contents .claim ≡ 0 → ⊥) → (v : Verdict) (lower : ℕ) → lower ≡ 16384
         → (pws.ProgramInRange (programOf g p) → n ≤ 1024 → lower ≡ 16384
         → v ≡ ofFile (reading.runRead (R .contents .claim) (programOf g p) (targetsOf g p) (R .contents .memory) (stepsOf f (R .contents .evidence .at) n)))
@@ -229,3 +251,12 @@ module _ (x : Input) (w : List ℕ) (R : Reading) (r : R ≡ reading.readingOf x
     run-handed c a h =
         run-offending x (length w) a (R .contents .claim) (programOf g p) (targetsOf g p) (R .contents .memory) (stepsOf f (R .contents .evidence .at) n)
         (reading-run x w R r q c) h
+
+    pub run-returned : (R .contents .claim ≡ 0 → ⊥) → (work : List ℕ) → work ≡ reading.areaRead (reading.partsOf x (length w)) w → 65536 ≤ length w → length work ≡ length w
+        → (v : Answer) (last : List ℕ) → last ≡ replicate (length (take 16384 work)) 0
+        → (pws.ProgramInRange (programOf g p) → n ≤ 1024 → length (take 16384 work) ≡ 16384
+        → verdictIn v ≡ ofFile (reading.runRead (R .contents .claim) (programOf g p) (targetsOf g p) (R .contents .memory) (stepsOf f (R .contents .evidence .at) n)))
+        → Said v (last ++ drop 16384 work)
+    run-returned c work e large kept v last y h =
+        let said : verdictIn v ≡ judged x (length w) = run-said c (verdictIn v) (length (take 16384 work)) (length-take-le 16384 work (omega arith)) h in
+        (said, (run-handed c v said, replay-kept (length w) work w last (left work e large) (omega arith) y))

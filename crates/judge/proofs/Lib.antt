@@ -1,15 +1,5 @@
-pub mod Numbers
-pub mod StepCauses
-pub mod Runs
-pub mod PsoRuns
-pub mod Demands
-pub mod PsoDemands
-pub mod Cases
-pub mod AreaLaws
 pub mod LowestLaws
 pub mod SummaryLaws
 pub mod ListLaws
 pub mod FullLaws
 pub mod JudgeLaws
-pub mod GroupLaws
-pub mod Pairs

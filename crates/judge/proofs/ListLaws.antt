@@ -30,7 +30,7 @@ use Rattle.closing.specs.declared.Opening.the-variants.{Shut, Through}
 use Rattle.closing.specs.Walk.{LowestFailing, Walkable, openingOf}
 use Rattle.closing.proofs.StepLaws.{walkable}
 use Rattle.closing.proofs.WalkLaws.{opening-through, opening-shut}
-use Rattle.judge.specs.Judge.{Verdict, refused, safe, entered, ofList}
+use Rattle.verdict.specs.Judge.{Verdict, refused, safe, entered, ofList}
 use Rattle.judge.specs.Ready.{Ready, heldTest, startTest, closedTest, enteredSaid, listSaid}
 use Rattle.judge.proofs.LowestLaws.{SoFar, so-far-fails, so-far-all, lowest-some, lowest-none}
 

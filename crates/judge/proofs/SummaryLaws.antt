@@ -25,7 +25,7 @@ use Rattle.summary.specs.Groups.{statesAt, sameStates, leaderFrom, leaderOf, ad
 use Rattle.summary.specs.Summary.{Summed}
 use Rattle.summary.proofs.ChainLaws.{home-below}
 use Rattle.summary.proofs.AddedLaws.{all-added}
-use Rattle.judge.specs.Judge.{ofList}
+use Rattle.verdict.specs.Judge.{ofList}
 use Rattle.judge.specs.Ready.{Listed, ListReady, Ready, slotsCleared, listSaid}
 
 -- ---- the offsets below `at` are those of the whole

@@ -15,7 +15,7 @@ use Rattle.by_number.specs.Again.{cubeAt, entriesOf, targetOf}
 use Rattle.full_states.specs.Table.{withStates}
 use Rattle.by_number.specs.Contents.{ProgramPartRead, EntryRange, ProgramSizes, CubeRange}
 use Rattle.summary.specs.Summary.{Summed}
-use Rattle.judge.specs.Judge.{Verdict, safe, entered, ofList}
+use Rattle.verdict.specs.Judge.{Verdict, safe, entered, ofList}
 
 -- a list of n entries, as it was read
 pub record Listed (g f list : List ℕ) (n : ℕ) (p : Program) : Type 0 where

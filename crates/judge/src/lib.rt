@@ -1,4 +1,4 @@
-// The whole judgement (document 01). What it says stands in specs/Judge.antt; the demands, as theorems about it, in specs/Demands.antt.
+// The whole judgement (document 01). What it says stands in verdict/specs/Judge.antt; the demands, as theorems about it, in demands/specs/Demands.antt.
 ghost use mathlib.Core.Path.{_≡_};
 ghost use mathlib.Core.List.{_++_};
 ghost use Prim.Native.Nat.{_*_, _-_, _≤_};
@@ -10,15 +10,12 @@ ghost use Rattle.program_part.specs.ProgramPart.{programOf, targetsOf};
 ghost use Rattle.whole_file.specs.EvidencePart.{stepsOf};
 ghost use Rattle.whole_file.specs.Reading.{input, combined, pair, runRead, readFile};
 ghost use Rattle.by_number.specs.Offending.{offending};
-ghost use Rattle.judge.specs.Judge.{ofFile, judged, usedOf, areaAfter};
-ghost use Rattle.judge.specs.Answers.{verdictIn, offendingIn, saidInC, Answered};
+ghost use Rattle.verdict.specs.Judge.{ofRun, ofPsoRun, ofFile, judged, usedOf, areaAfter};
+ghost use Rattle.verdict.specs.Answers.{verdictIn, offendingIn, saidInC, Answered};
 ghost use Rattle.judge.specs.Ready.{Ready, ListReady, slotsCleared, listSaid};
-use crate::answer::Answer;
-use crate::answer::Verdict;
-use crate::answer::pso_answer;
-use crate::answer::run_answer;
-use crate::answer::shown;
 use crate::list::list_answer;
+use file_reading::evidence::read;
+use last_test::RunAnswer;
 use layout::area::clear;
 use program_part::places::slot_place;
 use program_part::places::word_place;
@@ -29,12 +26,13 @@ use program_part::program::refusal_of;
 use psoreplay::run::replay_steps;
 use replay::run::replay;
 use summary::summarise;
+use verdict::answer::Answer;
+use verdict::answer::Verdict;
+use verdict::answer::shown;
 use whole_file::evidence::Contents;
 use whole_file::evidence::Part;
 use whole_file::evidence::entries_allowed;
-use whole_file::evidence::read;
 
-pub mod answer;
 mod list;
 
 // The bytes of a work area that belong to the judgement: the first 16,384, and twelve for each entry allowed.
@@ -101,6 +99,40 @@ fn list_judged(
     let shape = program.shape;
     summarise(file, upper, at, n, shape);
     summed_answer(code, file, upper, at, n, program)
+}
+
+// A run's answer.
+fn run_answer(answer: RunAnswer) -> Answer
+    ensures { λ r. ⌜ verdictIn r ≡ ofRun answer ⌝ }
+{
+    match answer {
+        RunAnswer::Reachable { steps, target } => Answer::Reachable {
+            steps: steps,
+            target: target,
+        },
+        RunAnswer::Stopped { step, cause } => Answer::Stopped {
+            step: step,
+            cause: cause,
+        },
+        RunAnswer::Missed { steps } => Answer::Missed { steps: steps },
+    }
+}
+
+// The answer of a run of the PSO machine.
+fn pso_answer(answer: RunAnswer) -> Answer
+    ensures { λ r. ⌜ verdictIn r ≡ ofPsoRun answer ⌝ }
+{
+    match answer {
+        RunAnswer::Reachable { steps, target } => Answer::Pso {
+            steps: steps,
+            target: target,
+        },
+        RunAnswer::Stopped { step, cause } => Answer::Stopped {
+            step: step,
+            cause: cause,
+        },
+        RunAnswer::Missed { steps } => Answer::Missed { steps: steps },
+    }
 }
 
 // A run, in the machine of its claim; afterwards the lower part is 0.

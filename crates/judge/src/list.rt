@@ -8,9 +8,8 @@ ghost use Rattle.by_number.specs.Again.{entriesOf};
 ghost use Rattle.full_states.specs.Table.{Full};
 ghost use Rattle.targets.specs.Walk.{Searches};
 ghost use Rattle.closing.specs.Walk.{LowestFailing};
-ghost use Rattle.judge.specs.Answers.{verdictIn};
+ghost use Rattle.verdict.specs.Answers.{verdictIn};
 ghost use Rattle.judge.specs.Ready.{Ready, TargetsHeld, withTargets, heldTest, startTest, enteredSaid, listSaid};
-use crate::answer::Answer;
 use by_number::target_of;
 use closing::Opening;
 use closing::open_step;
@@ -21,6 +20,7 @@ use program_part::program::Shape;
 use targets::entry_started;
 use targets::put_groups;
 use targets::target_held;
+use verdict::answer::Answer;
 
 // The lowest target that is not held, or the number of targets.
 fn lowest_unheld(

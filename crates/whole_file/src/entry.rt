@@ -29,7 +29,7 @@ pub struct Cube {
     pub count: usize,
 }
 
-pub(crate) fn message_at(file: &[u8], at: usize) -> Message
+pub fn message_at(file: &[u8], at: usize) -> Message
     ensures { λ r. ⌜ r ≡ messageAt (now (file .entry)) at ⌝ }
 {
     // one test for the record, and not one for each byte

@@ -1,6 +1,6 @@
-// The claim, and the steps of a run (document 01, "Records").
+// The steps of a run (document 01, "Records").
 ghost use mathlib.Core.Path.{_≡_};
-ghost use Rattle.program_part.specs.Records.{checked, claimNumber, isStep, stepBody, exists, stepNames, stepNumber, stepAt};
+ghost use Rattle.program_part.specs.Records.{checked, isStep, stepBody, exists, stepNames, stepNumber, stepAt};
 ghost use Rattle.whole_file.specs.EvidencePart.{stepsFrom};
 use program_part::bytes::both;
 use program_part::bytes::cut;
@@ -15,21 +15,6 @@ use program_part::record::answer;
 use program_part::record::first_number;
 use program_part::record::is_kind;
 use pws::Step;
-
-pub(crate) fn check_claim(file: &[u8], at: usize) -> Checked
-    ensures { λ r. ⌜ r ≡ checked (claimNumber (now (file .entry)) at) at ⌝ }
-{
-    answer(
-        first_number(
-            !is_kind(file, at, 15),
-            cut(file, at, 1),
-            false,
-            false,
-            !(field(file, at, 1) <= 2),
-        ),
-        at,
-    )
-}
 
 fn is_step(file: &[u8], at: usize) -> bool
     ensures { λ r. ⌜ r ≡ isStep (now (file .entry)) at ⌝ }

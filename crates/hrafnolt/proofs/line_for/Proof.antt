@@ -2,7 +2,7 @@ use mathlib.Core.Path.{refl, sym}
 use lib.ListN.{length}
 use borrow.Author.Needs.{needs}
 use Rattle.whole_file.specs.Reading.{combined}
-use Rattle.judge.specs.Judge.{refused, judged}
+use Rattle.verdict.specs.Judge.{refused, judged}
 use Rattle.hrafnolt.proofs.LineLaws.{judged-known, over-said, judged-said, bare}
 use Rattle.hrafnolt.proofs.line_for.Statement.{statement}
 use Rattle.hrafnolt.proofs.line_for.Tie as tie

@@ -1,7 +1,7 @@
 use mathlib.Core.Path.{sym}
 use lib.Seq.{length-take-le}
 use borrow.Author.Needs.{needs}
-use Rattle.judge.proofs.AreaLaws.{front-cleared}
+use Rattle.verdict.proofs.AreaLaws.{front-cleared}
 use Rattle.judge.proofs.clear_used.Statement.{statement}
 use Rattle.judge.proofs.clear_used.Tie as tie
 

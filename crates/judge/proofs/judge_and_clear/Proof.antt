@@ -5,7 +5,7 @@ use native.Mathlib.Omega.{arith}
 use lib.ListN.{length, drop, replicate}
 use borrow.Author.Needs.{needs}
 use Rattle.whole_file.specs.Reading.{input}
-use Rattle.judge.proofs.AreaLaws.{used-fits, cleared-all, untouched}
+use Rattle.verdict.proofs.AreaLaws.{used-fits, cleared-all, untouched}
 use Rattle.judge.proofs.JudgeLaws.{short-said, short-offending}
 use Rattle.judge.proofs.judge_and_clear.Statement.{statement}
 use Rattle.judge.proofs.judge_and_clear.Tie as tie

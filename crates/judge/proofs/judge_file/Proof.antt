@@ -1,13 +1,9 @@
-use Prim.Native.Nat.{ℕ, _*_}
-use Rattle.whole_file.specs.EvidencePart.{entriesAllowed}
-use mathlib.Core.Path.{sym, ap, _∙_}
+use mathlib.Core.Path.{sym}
 use native.Mathlib.Omega.{arith}
-use lib.ListN.{length, drop}
 use lib.Seq.{length-take-le}
-use Rattle.judge.specs.Judge.{usedOf}
-use Rattle.judge.proofs.AreaLaws.{reading-kept, replay-kept, upper-part, upper-same}
+use Rattle.verdict.proofs.AreaLaws.{upper-same}
 use Rattle.whole_file.specs.Reading.{input}
-use Rattle.judge.proofs.JudgeLaws.{unread-said, unread-offending, ready, list-said, list-handed, list-area, run-said, run-handed}
+use Rattle.judge.proofs.JudgeLaws.{unread-returned, upper-ready, list-returned, run-returned}
 use native.Mathlib.Omega.{arith}
 use borrow.Author.Needs.{needs}
 use Rattle.judge.proofs.judge_file.Statement.{statement}
@@ -17,7 +13,7 @@ use Rattle.judge.proofs.judge_file.Lts as lts
 use Rattle.judge.proofs.replay_answer.Reads as replay-answer-reads
 use Rattle.judge.proofs.list_judged.Reads as list-judged-reads
 use Rattle.judge.proofs.summary_place.Reads as summary-place-reads
-use Rattle.whole_file.proofs.evidence.read.Reads as read-reads
+use Rattle.file_reading.proofs.evidence.read.Reads as read-reads
 use Rattle.program_part.proofs.program.refusal_of.Reads as refusal-of-reads
 
 -- src/lib.rt:78:9
@@ -42,11 +38,8 @@ same-length c = search needs
 -- src/lib.rt:81:9
 returns : tie.Need-returns
 returns c =
-    let a = c .before .before .before .before .before .before .before .before .before .before .args in
-    let x = input (a .alone) (a .code .now) (a .file .now) in
-    let R = c .before .before .before .before .before .read .result in
-    let r = c .before .before .before .before .before .read .ensures .0 in
-    (unread-said x (a .work .now) R r (c .before .enum-told2 .given .0 .0) _ (c .before .enum-told2 .given .1) (c .refusal-of .ensures), (unread-offending x (a .work .now) R r (c .before .enum-told2 .given .0 .0) _ (c .before .enum-told2 .given .1) (c .refusal-of .ensures), ap (drop (usedOf (length (a .work .now)))) (c .before .before .before .before .before .read .ensures .1) ∙ reading-kept x (a .work .now) (c .before .before .before .before .before .before .before .before .before .before .pre)))
+    unread-returned (input (c .before .before .before .before .before .before .before .before .before .before .args .alone) (c .before .before .before .before .before .before .before .before .before .before .args .code .now) (c .before .before .before .before .before .before .before .before .before .before .args .file .now)) (c .before .before .before .before .before .before .before .before .before .before .args .work .now) (c .before .before .before .before .before .read .result) (c .before .before .before .before .before .read .ensures .0)
+    (c .before .enum-told2 .given .0 .0) _ (c .before .enum-told2 .given .1) (c .refusal-of .ensures) _ (c .before .before .before .before .before .read .ensures .1) (c .before .before .before .before .before .before .before .before .before .before .pre)
 
 -- src/lib.rt:87:13
 summary-place-requires : tie.Need-summary-place-requires
@@ -66,7 +59,10 @@ part-list-judged-end c = search needs
 
 -- src/lib.rt:88:9
 list-judged-requires : tie.Need-list-judged-requires
-list-judged-requires c κs = ready (input (c .before .before .before .before .before .before .before .before .before .before .before .before .before .before .before .before .args .alone) (c .before .before .before .before .before .before .before .before .before .before .before .before .before .before .before .before .args .code .now) (c .before .before .before .before .before .before .before .before .before .before .before .before .before .before .before .before .args .file .now)) (c .before .before .before .before .before .before .before .before .before .before .before .before .before .before .before .before .args .work .now) (c .before .before .before .before .before .before .before .before .before .before .before .read .result) (c .before .before .before .before .before .before .before .before .before .before .before .read .ensures .0) (c .before .before .before .before .before .before .before .enum-told .given .1) _ (c .before .before .before .before .before .before .before .before .before .before .before .read .ensures .1) (c .before .before .before .before .if1 .taken) _ (upper-part 16384 (c .before .before .before .before .before .before .before .before .before .before .before .read .last .1 .1 .1 .0)) _ (c .before .summary-place .ensures ∙ ap (λ (x : ℕ). 4 * entriesAllowed x) (c .before .before .before .before .before .before .before .before .before .before .before .read .kept .1 .1 .1 .0)) (c .before .before .before .before .before .before .before .before .before .before .before .before .before .before .before .before .pre) (c .before .before .before .before .before .before .before .before .before .before .before .read .kept .1 .1 .1 .0)
+list-judged-requires c κs =
+    upper-ready (input (c .before .before .before .before .before .before .before .before .before .before .before .before .before .before .before .before .args .alone) (c .before .before .before .before .before .before .before .before .before .before .before .before .before .before .before .before .args .code .now) (c .before .before .before .before .before .before .before .before .before .before .before .before .before .before .before .before .args .file .now)) (c .before .before .before .before .before .before .before .before .before .before .before .before .before .before .before .before .args .work .now) (c .before .before .before .before .before .before .before .before .before .before .before .read .result) (c .before .before .before .before .before .before .before .before .before .before .before .read .ensures .0)
+    (c .before .before .before .before .before .before .before .enum-told .given .1) _ (c .before .before .before .before .before .before .before .before .before .before .before .read .ensures .1) (c .before .before .before .before .if1 .taken) _ (c .before .summary-place .ensures)
+    (c .before .before .before .before .before .before .before .before .before .before .before .before .before .before .before .before .pre) (c .before .before .before .before .before .before .before .before .before .before .before .read .kept .1 .1 .1 .0)
 
 -- src/lib.rt:88:9
 same-length-2 : tie.Need-same-length-2
@@ -75,13 +71,9 @@ same-length-2 c = upper-same 16384 (c .before .before .before .before .before .b
 -- src/lib.rt:88:9
 returns-2 : tie.Need-returns-2
 returns-2 c =
-    let a = c .before .before .before .before .before .before .before .before .before .before .before .before .before .before .before .before .before .before .before .args in
-    let x = input (a .alone) (a .code .now) (a .file .now) in
-    let R = c .before .before .before .before .before .before .before .before .before .before .before .before .before .before .read .result in
-    let r = c .before .before .before .before .before .before .before .before .before .before .before .before .before .before .read .ensures .0 in
-    let q = c .before .before .before .before .before .before .before .before .before .before .enum-told .given .1 in
-    let said = list-said x (a .work .now) R r q _ (c .before .before .before .before .before .before .before .before .before .before .before .before .before .before .read .ensures .1) (c .before .before .before .before .before .before .before .if1 .taken) _ (upper-part 16384 (c .before .before .before .before .before .before .before .before .before .before .before .before .before .before .read .last .1 .1 .1 .0)) _ (c .before .before .before .before .summary-place .ensures ∙ ap (λ (x : ℕ). 4 * entriesAllowed x) (c .before .before .before .before .before .before .before .before .before .before .before .before .before .before .read .kept .1 .1 .1 .0)) (c .before .before .before .before .before .before .before .before .before .before .before .before .before .before .before .before .before .before .before .pre) (c .before .before .before .before .before .before .before .before .before .before .before .before .before .before .read .kept .1 .1 .1 .0) _ (c .before .before .list-judged .ensures .0) in
-    (said, (list-handed x (a .work .now) R r q _ (c .before .before .before .before .before .before .before .before .before .before .before .before .before .before .read .ensures .1) (c .before .before .before .before .before .before .before .if1 .taken) _ (upper-part 16384 (c .before .before .before .before .before .before .before .before .before .before .before .before .before .before .read .last .1 .1 .1 .0)) _ (c .before .before .before .before .summary-place .ensures ∙ ap (λ (x : ℕ). 4 * entriesAllowed x) (c .before .before .before .before .before .before .before .before .before .before .before .before .before .before .read .kept .1 .1 .1 .0)) (c .before .before .before .before .before .before .before .before .before .before .before .before .before .before .before .before .before .before .before .pre) (c .before .before .before .before .before .before .before .before .before .before .before .before .before .before .read .kept .1 .1 .1 .0) (c .before .before .list-judged .result) said, list-area x (a .work .now) R r q _ (c .before .before .before .before .before .before .before .before .before .before .before .before .before .before .read .ensures .1) (c .before .before .before .before .before .before .before .if1 .taken) _ (upper-part 16384 (c .before .before .before .before .before .before .before .before .before .before .before .before .before .before .read .last .1 .1 .1 .0)) _ (c .before .before .before .before .summary-place .ensures ∙ ap (λ (x : ℕ). 4 * entriesAllowed x) (c .before .before .before .before .before .before .before .before .before .before .before .before .before .before .read .kept .1 .1 .1 .0)) (c .before .before .before .before .before .before .before .before .before .before .before .before .before .before .before .before .before .before .before .pre) (c .before .before .before .before .before .before .before .before .before .before .before .before .before .before .read .kept .1 .1 .1 .0) (c .before .before .list-judged .ensures .1) (ap (drop (usedOf (length (a .work .now)))) (c .before .before .before .before .before .before .before .before .before .before .before .before .before .before .read .ensures .1) ∙ reading-kept x (a .work .now) (c .before .before .before .before .before .before .before .before .before .before .before .before .before .before .before .before .before .before .before .pre))))
+    list-returned (input (c .before .before .before .before .before .before .before .before .before .before .before .before .before .before .before .before .before .before .before .args .alone) (c .before .before .before .before .before .before .before .before .before .before .before .before .before .before .before .before .before .before .before .args .code .now) (c .before .before .before .before .before .before .before .before .before .before .before .before .before .before .before .before .before .before .before .args .file .now)) (c .before .before .before .before .before .before .before .before .before .before .before .before .before .before .before .before .before .before .before .args .work .now) (c .before .before .before .before .before .before .before .before .before .before .before .before .before .before .read .result) (c .before .before .before .before .before .before .before .before .before .before .before .before .before .before .read .ensures .0)
+    (c .before .before .before .before .before .before .before .before .before .before .enum-told .given .1) _ (c .before .before .before .before .before .before .before .before .before .before .before .before .before .before .read .ensures .1) (c .before .before .before .before .before .before .before .if1 .taken) _ (c .before .before .before .before .summary-place .ensures)
+    (c .before .before .before .before .before .before .before .before .before .before .before .before .before .before .before .before .before .before .before .pre) (c .before .before .before .before .before .before .before .before .before .before .before .before .before .before .read .kept .1 .1 .1 .0) (c .before .before .list-judged .result) _ (c .before .before .list-judged .ensures .0) (c .before .before .list-judged .ensures .1)
 
 slice-relend-prefix-replay-answer : tie.Need-slice-relend-prefix-replay-answer
 slice-relend-prefix-replay-answer c = search needs
@@ -97,13 +89,9 @@ same-length-3 c = search needs
 
 returns-3 : tie.Need-returns-3
 returns-3 c =
-    let a = c .before .before .before .before .before .before .before .before .before .before .before .before .before .before .before .before .args in
-    let x = input (a .alone) (a .code .now) (a .file .now) in
-    let R = c .before .before .before .before .before .before .before .before .before .before .before .read .result in
-    let r = c .before .before .before .before .before .before .before .before .before .before .before .read .ensures .0 in
-    let q = c .before .before .before .before .before .before .before .enum-told .given .1 in
-    let said = run-said x (a .work .now) R r q (c .before .before .before .before .if1 .left) _ _ (length-take-le 16384 (c .before .before .before .before .before .before .before .before .before .before .before .read .last .1 .1 .1 .0) (omega (arith, c .before .before .before .before .before .before .before .before .before .before .before .before .before .before .before .before .pre))) (c .before .before .replay-answer .ensures .1) in
-    (said, (run-handed x (a .work .now) R r q (c .before .before .before .before .if1 .left) (c .before .before .replay-answer .result) said, replay-kept (length (a .work .now)) (c .before .before .before .before .before .before .before .before .before .before .before .read .last .1 .1 .1 .0) (a .work .now) _ (ap (drop (usedOf (length (a .work .now)))) (c .before .before .before .before .before .before .before .before .before .before .before .read .ensures .1) ∙ reading-kept x (a .work .now) (c .before .before .before .before .before .before .before .before .before .before .before .before .before .before .before .before .pre)) (omega (arith, c .before .before .before .before .before .before .before .before .before .before .before .before .before .before .before .before .pre)) (c .before .before .replay-answer .ensures .0)))
+    run-returned (input (c .before .before .before .before .before .before .before .before .before .before .before .before .before .before .before .before .args .alone) (c .before .before .before .before .before .before .before .before .before .before .before .before .before .before .before .before .args .code .now) (c .before .before .before .before .before .before .before .before .before .before .before .before .before .before .before .before .args .file .now)) (c .before .before .before .before .before .before .before .before .before .before .before .before .before .before .before .before .args .work .now) (c .before .before .before .before .before .before .before .before .before .before .before .read .result) (c .before .before .before .before .before .before .before .before .before .before .before .read .ensures .0)
+    (c .before .before .before .before .before .before .before .enum-told .given .1) (c .before .before .before .before .if1 .left) _ (c .before .before .before .before .before .before .before .before .before .before .before .read .ensures .1) (c .before .before .before .before .before .before .before .before .before .before .before .before .before .before .before .before .pre) (c .before .before .before .before .before .before .before .before .before .before .before .read .kept .1 .1 .1 .0)
+    (c .before .before .replay-answer .result) _ (c .before .before .replay-answer .ensures .0) (c .before .before .replay-answer .ensures .1)
 
 pub judge-file-spec : {M : Type 1} → statement M
 judge-file-spec =

@@ -1,6 +1,6 @@
 use mathlib.Core.Path.{ap, _∙_}
 use borrow.Author.Needs.{needs}
-use Rattle.judge.specs.Judge.{ofRun, ofPsoRun}
+use Rattle.verdict.specs.Judge.{ofRun, ofPsoRun}
 use Rattle.judge.proofs.JudgeLaws.{run-claimed, pso-claimed}
 use Rattle.judge.proofs.replay_answer.Statement.{statement}
 use Rattle.judge.proofs.replay_answer.Tie as tie

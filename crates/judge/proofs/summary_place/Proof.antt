@@ -3,7 +3,7 @@ use mathlib.Core.Path.{_≡_}
 use native.Mathlib.Omega.{arith}
 use borrow.Author.Needs.{needs}
 use Rattle.whole_file.specs.EvidencePart.{entriesAllowed}
-use Rattle.judge.proofs.AreaLaws.{few}
+use Rattle.verdict.proofs.AreaLaws.{few}
 use Rattle.judge.proofs.summary_place.Statement.{statement}
 use Rattle.judge.proofs.summary_place.Tie as tie
 

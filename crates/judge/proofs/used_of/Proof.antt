@@ -3,8 +3,8 @@ use mathlib.Core.Path.{_≡_}
 use native.Mathlib.Omega.{arith}
 use borrow.Author.Needs.{needs}
 use Rattle.whole_file.specs.EvidencePart.{entriesAllowed}
-use Rattle.judge.specs.Judge.{usedOf}
-use Rattle.judge.proofs.AreaLaws.{few}
+use Rattle.verdict.specs.Judge.{usedOf}
+use Rattle.verdict.proofs.AreaLaws.{few}
 use Rattle.judge.proofs.used_of.Statement.{statement}
 use Rattle.judge.proofs.used_of.Tie as tie
 

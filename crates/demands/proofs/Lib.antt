@@ -1,0 +1,9 @@
+pub mod Numbers
+pub mod StepCauses
+pub mod Runs
+pub mod PsoRuns
+pub mod Demands
+pub mod PsoDemands
+pub mod Cases
+pub mod GroupLaws
+pub mod Pairs

@@ -1,0 +1,66 @@
+-- The theorems of specs/PsoDemands: by the demands, which speak of the PWS machine, and the equivalence of the two machines.
+use Rattle.lists.specs.Verdict.{target}
+use Rattle.lists.proofs.Verdict.{safe-visited}
+use Rattle.equivalence.proofs.Reachability.{permitted-start, start-of, visited-takes, takes-visited, same-reachability}
+use Rattle.psoreplay.specs.Answers.{psoSteps}
+use Rattle.demands.specs.PsoDemands.{PsoSafety, PsoReachability, PwsReachability}
+use Rattle.verdict.proofs.Verdicts.{list-range}
+use Rattle.demands.proofs.Demands.{run-range, pso-run-range, accepted-list, accepted-run, accepted-pso-run}
+
+pub pso-safety : PsoSafety
+pso-safety f area n e =
+    let x = accepted-list f area n .0 e in
+    let P = x .program in
+    let R = list-range f area P (x .targets) (x .entries) (x .reads) in
+    record {
+      program = P;
+      targets = x .targets;
+      entries = x .entries;
+      reads = x .reads;
+      holds = λ memory d s us a v k l h.
+          let t = visited-takes v in
+          let r =
+          same-reachability P R memory (target (x .targets) k) .1
+          (record { first = d; starts = s; steps = t .0; last = a; takes = t .1; reached = h }) in
+          safe-visited P R (x .targets) (x .entries) (x .holds .1) (permitted-start P memory (r .first) (r .starts)) (r .steps) (takes-visited (r .takes)) .0
+          k l (r .reached);
+    }
+
+pub pso-reachability : PsoReachability
+pso-reachability f area n k e =
+    let x = accepted-run f area n k .0 e in
+    let P = x .program in
+    let R = run-range f area P (x .targets) (x .memory) (x .steps) (x .reads) in
+    let r = x .holds in
+    record {
+      program = P;
+      targets = x .targets;
+      memory = x .memory;
+      steps = x .steps;
+      reads = x .reads;
+      holds = same-reachability P R (x .memory) (target (x .targets) k) .0
+          (record {
+            first = r .start;
+            starts = start-of P (x .memory) (r .start) (r .permitted) (r .memory);
+            steps = x .steps;
+            last = r .end;
+            takes = r .takes;
+            reached = r .met;
+          });
+    }
+
+pub pws-reachability : PwsReachability
+pws-reachability f area n k e =
+    let x = accepted-pso-run f area n k .0 e in
+    let P = x .program in
+    let R = pso-run-range f area P (x .targets) (x .memory) (x .records) (x .reads) in
+    let r = x .holds in
+    record {
+      program = P;
+      targets = x .targets;
+      memory = x .memory;
+      records = x .records;
+      reads = x .reads;
+      holds = same-reachability P R (x .memory) (target (x .targets) k) .1
+          (record { first = r .start; starts = r .permitted; steps = psoSteps (x .records); last = r .end; takes = r .takes; reached = r .met });
+    }

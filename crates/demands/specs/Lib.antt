@@ -1,0 +1,6 @@
+pub mod PsoRuns
+pub mod Demands
+pub mod PsoDemands
+pub mod Cases
+pub mod Groups
+pub mod Pairs

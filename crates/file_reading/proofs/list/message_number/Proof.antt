@@ -1,0 +1,16 @@
+use Rattle.program_part.specs.Records.{messageNumber}
+use borrow.Author.Needs.{needs}
+use Rattle.file_reading.proofs.list.message_number.Statement.{statement}
+use Rattle.file_reading.proofs.list.message_number.Tie as tie
+
+pub message-number-spec : {M : Type 1} → statement M
+unfolding messageNumber
+message-number-spec = tie.close (tie.spec
+    -- cut-requires 214:25
+    (λ c κs. search needs)
+    -- message-names-requires 214:67
+    (λ c κs. search needs)
+    -- first-number-requires 214:5
+    (λ c κs. search needs)
+    -- returns 211:1
+    (λ c. rw (c .first-number .ensures, c .before .message-names .ensures, c .before .before .cut .ensures)))

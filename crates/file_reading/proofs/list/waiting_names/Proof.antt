@@ -1,0 +1,24 @@
+use Rattle.program_part.specs.Records.{waitingNames}
+use borrow.Author.Needs.{needs}
+use Rattle.file_reading.proofs.list.waiting_names.Statement.{statement}
+use Rattle.file_reading.proofs.list.waiting_names.Tie as tie
+
+pub waiting-names-spec : {M : Type 1} → statement M
+unfolding waitingNames
+waiting-names-spec = tie.close (tie.spec
+    -- field-requires 167:9
+    (λ c κs. search needs)
+    -- field-requires-2 168:29
+    (λ c κs. search needs)
+    -- pair-exists-requires 168:10
+    (λ c κs. search needs)
+    -- wide-requires 168:78
+    (λ c κs. search needs)
+    -- field-requires-3 168:94
+    (λ c κs. search needs)
+    -- value-name-requires 168:60
+    (λ c κs. search needs)
+    -- both-requires 168:5
+    (λ c κs. search needs)
+    -- returns 164:1
+    (λ c. rw (c .both .ensures, c .before .value-name .ensures, c .before .before .field3 .ensures, c .before .before .before .wide .ensures, c .before .before .before .before .pair-exists .ensures, c .before .before .before .before .before .field2 .ensures, c .before .before .before .before .before .before .field .ensures)))
