@@ -67,10 +67,13 @@ fn check_entry(file: &[u8], at: usize, shape: Shape, states: [u8; 4], full: bool
 fn value_name(shape: Shape, variable: usize, value: u8) -> bool
     ensures { λ r. ⌜ r ≡ valueName shape variable value ⌝ }
 {
-    if variable < shape.variables {
-        return either(value == 255, value < value_count(shape, variable));
+    if shape.variables <= variable {
+        return value == 0;
     }
-    value == 0
+    if value == 255 {
+        return true;
+    }
+    value < value_count(shape, variable)
 }
 
 fn value_names(shape: Shape, snapshot: [u8; 4]) -> bool
