@@ -1,0 +1,15 @@
+use borrow.Author.Needs.{needs}
+use Rattle.exports.proofs.judging.hrafnolt_judge_pair.Statement.{statement}
+use Rattle.exports.proofs.judging.hrafnolt_judge_pair.Tie as tie
+
+judge-pair-requires : tie.Need-judge-pair-requires
+judge-pair-requires c κs = search needs
+
+same-length : tie.Need-same-length
+same-length c = search needs
+
+returns : tie.Need-returns
+returns c = search needs
+
+pub hrafnolt-judge-pair-spec : {M : Type 1} → statement M
+hrafnolt-judge-pair-spec = tie.close (tie.spec judge-pair-requires same-length returns)

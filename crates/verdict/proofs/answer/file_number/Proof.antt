@@ -1,0 +1,21 @@
+use borrow.Author.Needs.{needs}
+use Rattle.verdict.proofs.answer.file_number.Statement.{statement}
+use Rattle.verdict.proofs.answer.file_number.Tie as tie
+
+enum-told : tie.Need-enum-told
+enum-told c = search needs
+
+enum-told-2 : tie.Need-enum-told-2
+enum-told-2 c = search needs
+
+returns : tie.Need-returns
+returns c = search needs
+
+returns-2 : tie.Need-returns-2
+returns-2 c = search needs
+
+returns-3 : tie.Need-returns-3
+returns-3 c = search needs
+
+pub file-number-spec : {M : Type 1} → statement M
+file-number-spec = tie.close (tie.spec enum-told enum-told-2 returns returns-2 returns-3)
