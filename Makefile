@@ -6,11 +6,11 @@ PREFIX ?= /usr/local
 all: build
 	@examples/judge-all
 
-# The crates below the program and the library; what neither needs is `make test`'s.
+# The program, the library for C, and the crates below them; what neither needs is `make test`'s.
 build:
 	@[ -e target/bin/hrafnolt-files ] || echo 'proving the judge, then building it: some minutes, the first time'
-	@.ci/prove hrafnolt exports
-	@rt staticlib exports >target/make.log 2>&1 && c/build || { cat target/make.log; exit 1; }
+	@.ci/prove hrafnolt exports.a
+	@c/build
 
 test:
 	@.ci/run
