@@ -4,7 +4,7 @@ ghost use mathlib.Core.Bool.{_&&_};
 ghost use mathlib.Core.List.{[]};
 ghost use Prim.Native.Nat.{_+_, _≤_};
 ghost use lib.ListN.{length, getD};
-ghost use Rattle.program_part.specs.Records.{checked, messageNumber, waitingNumber, pointerAt, pointerName, pointerNames, entryNumber, valueName, messageNames, waitingNames};
+ghost use Rattle.program_part.specs.Records.{checked, messageNumber, waitingNumber, pointerAt, pointerName, pointerNames, stateNames, entryNumber, valueName, messageNames, waitingNames};
 ghost use Rattle.whole_file.specs.EvidencePart.{bodySize, pointerInside, pointsFirst, pointersFit, someFirst, complete, atBoundary, entryRead, entriesFrom, wroteFrom};
 ghost use Rattle.whole_file.specs.Tally.{queueAt, countOf};
 ghost use Rattle.file_reading.specs.Tally.{numberBy, TallyRoom, tallied, endOf, endRefusal};
@@ -24,7 +24,7 @@ use program_part::program::value_count;
 use program_part::record::answer;
 use program_part::record::first_number;
 use program_part::record::is_kind;
-use program_reading::record::state_names;
+use program_reading::record::state_name;
 use whole_file::entry::message_at;
 use whole_file::steps::pair_exists;
 
@@ -34,13 +34,26 @@ fn pointer_name(shape: Shape, p: usize, pointer: u8) -> bool
     either(p < shape.processes, pointer == 0)
 }
 
-fn pointer_names(file: &[u8], at: usize, shape: Shape) -> bool
+// Of the 10 at a place that is inside the file: its states, and its pointers.
+fn states_inside(file: &[u8], at: usize, shape: Shape, states: [u8; 4]) -> bool
+    requires { ⌜ at + 9 ≤ length (now file) ⌝ }
+    ensures { λ r. ⌜ r ≡ stateNames shape states (now (file .entry)) at ⌝ }
+{
+    let a = state_name(shape, states, 0, file[at + 1]);
+    let b = state_name(shape, states, 1, file[at + 2]);
+    let c = state_name(shape, states, 2, file[at + 3]);
+    let d = state_name(shape, states, 3, file[at + 4]);
+    both(a, both(b, both(c, d)))
+}
+
+fn pointers_inside(file: &[u8], at: usize, shape: Shape) -> bool
+    requires { ⌜ at + 9 ≤ length (now file) ⌝ }
     ensures { λ r. ⌜ r ≡ pointerNames shape (now (file .entry)) at ⌝ }
 {
-    let a = pointer_name(shape, 0, field(file, at, 5));
-    let b = pointer_name(shape, 1, field(file, at, 6));
-    let c = pointer_name(shape, 2, field(file, at, 7));
-    let d = pointer_name(shape, 3, field(file, at, 8));
+    let a = pointer_name(shape, 0, file[at + 5]);
+    let b = pointer_name(shape, 1, file[at + 6]);
+    let c = pointer_name(shape, 2, file[at + 7]);
+    let d = pointer_name(shape, 3, file[at + 8]);
     both(a, both(b, both(c, d)))
 }
 
@@ -48,20 +61,15 @@ fn pointer_names(file: &[u8], at: usize, shape: Shape) -> bool
 fn check_entry(file: &[u8], at: usize, shape: Shape, states: [u8; 4], full: bool) -> Checked
     ensures { λ r. ⌜ r ≡ checked (entryNumber shape states (now (file .entry)) at full) at ⌝ }
 {
+    let other = !is_kind(file, at, 16);
+    if cut(file, at, 8) {
+        return answer(first_number(other, true, full, false, true), at);
+    }
     let names = both(
-        state_names(file, at, shape, states),
-        pointer_names(file, at, shape),
+        states_inside(file, at, shape, states),
+        pointers_inside(file, at, shape),
     );
-    answer(
-        first_number(
-            !is_kind(file, at, 16),
-            cut(file, at, 8),
-            full,
-            false,
-            !names,
-        ),
-        at,
-    )
+    answer(first_number(other, false, full, false, !names), at)
 }
 
 fn value_name(shape: Shape, variable: usize, value: u8) -> bool
@@ -221,27 +229,30 @@ fn points_first(shape: Shape, p: usize, pointer: u8) -> bool
 
 // Each pointer of the 10 at a place names one of so many messages.
 fn pointers_fit(file: &[u8], at: usize, shape: Shape, messages: usize) -> bool
+    requires { ⌜ at + 9 ≤ length (now file) ⌝ }
     ensures { λ r. ⌜ r ≡ pointersFit shape messages (pointerAt (now (file .entry)) at) ⌝ }
 {
-    let a = pointer_fits(shape, messages, 0, field(file, at, 5));
-    let b = pointer_fits(shape, messages, 1, field(file, at, 6));
-    let c = pointer_fits(shape, messages, 2, field(file, at, 7));
-    let d = pointer_fits(shape, messages, 3, field(file, at, 8));
+    let a = pointer_fits(shape, messages, 0, file[at + 5]);
+    let b = pointer_fits(shape, messages, 1, file[at + 6]);
+    let c = pointer_fits(shape, messages, 2, file[at + 7]);
+    let d = pointer_fits(shape, messages, 3, file[at + 8]);
     both(a, both(b, both(c, d)))
 }
 
 // Some pointer of it is 1.
 fn some_first(file: &[u8], at: usize, shape: Shape) -> bool
+    requires { ⌜ at + 9 ≤ length (now file) ⌝ }
     ensures { λ r. ⌜ r ≡ someFirst shape (pointerAt (now (file .entry)) at) ⌝ }
 {
-    let a = points_first(shape, 0, field(file, at, 5));
-    let b = points_first(shape, 1, field(file, at, 6));
-    let c = points_first(shape, 2, field(file, at, 7));
-    let d = points_first(shape, 3, field(file, at, 8));
+    let a = points_first(shape, 0, file[at + 5]);
+    let b = points_first(shape, 1, file[at + 6]);
+    let c = points_first(shape, 2, file[at + 7]);
+    let d = points_first(shape, 3, file[at + 8]);
     either(a, either(b, either(c, d)))
 }
 
 fn is_complete(file: &[u8], at: usize, shape: Shape, messages: usize) -> bool
+    requires { ⌜ at + 9 ≤ length (now file) ⌝ }
     ensures { λ r. ⌜ r ≡ complete shape messages (pointerAt (now (file .entry)) at) ⌝ }
 {
     both(

@@ -166,7 +166,7 @@ pub(crate) fn check_transition(
     )
 }
 
-fn state_name(shape: Shape, states: [u8; 4], p: usize, x: u8) -> bool
+pub fn state_name(shape: Shape, states: [u8; 4], p: usize, x: u8) -> bool
     ensures { λ r. ⌜ r ≡ stateName shape states p x ⌝ }
 {
     if p < shape.processes {
@@ -176,7 +176,7 @@ fn state_name(shape: Shape, states: [u8; 4], p: usize, x: u8) -> bool
 }
 
 // The first four bytes of the body of the record at a place, as states.
-pub fn state_names(file: &[u8], at: usize, shape: Shape, states: [u8; 4]) -> bool
+pub(crate) fn state_names(file: &[u8], at: usize, shape: Shape, states: [u8; 4]) -> bool
     ensures { λ r. ⌜ r ≡ stateNames shape states (now (file .entry)) at ⌝ }
 {
     let a = state_name(shape, states, 0, field(file, at, 1));

@@ -6,10 +6,10 @@ use Rattle.file_reading.proofs.list.is_complete.Tie as tie
 pub is-complete-spec : {M : Type 1} → statement M
 unfolding complete
 is-complete-spec = tie.close (tie.spec
-    -- pointers-fit-requires 299:30
-    (λ c κs. search needs)
-    -- some-first-requires 299:71
-    (λ c κs. search needs)
+    -- pointers-fit-requires
+    (λ c κs. c .before .pre)
+    -- some-first-requires
+    (λ c κs. c .before .before .pre)
     -- both-requires 299:25
     (λ c κs. search needs)
     -- both-requires-2 299:5
