@@ -2,7 +2,7 @@
 // group that is large enough; at number 11 nothing that has full local states is searched for.
 ghost use mathlib.Core.Path.{_≡_};
 ghost use mathlib.Core.Bool.{cond};
-ghost use Prim.Native.Nat.{_≤_, _<_};
+ghost use Prim.Native.Nat.{_*_, _≤_, _<_};
 ghost use lib.ListN.{length};
 ghost use lib.Dec.{eqb};
 ghost use Rattle.full_states.specs.Table.{placeOf, isFull, withStates, statesFrom};
@@ -15,6 +15,21 @@ fn number(x: u8) -> usize
     x as usize
 }
 
+// 328 times the third, and 577 times the fourth state, by adding and shifting, as all places are formed (request N4).
+fn third_place(x: usize) -> usize
+    requires { ⌜ x < 256 ⌝ }
+    ensures { λ r. ⌜ r ≡ 328 * x ⌝ }
+{
+    (x << 8) + (x << 6) + (x << 3)
+}
+
+fn fourth_place(x: usize) -> usize
+    requires { ⌜ x < 256 ⌝ }
+    ensures { λ r. ⌜ r ≡ 577 * x ⌝ }
+{
+    (x << 9) + (x << 6) + x
+}
+
 // Where local states stand in the table, if they do.
 fn place_of(states: [u8; 4]) -> usize
     ensures { λ r. ⌜ (r ≡ placeOf states) × (r ≤ 4092) ⌝ }
@@ -23,7 +38,7 @@ fn place_of(states: [u8; 4]) -> usize
     let b = number(states[1]);
     let c = number(states[2]);
     let d = number(states[3]);
-    4 * ((a + 32 * b + 328 * c + 577 * d) % 1024)
+    (a + (b << 5) + third_place(c) + fourth_place(d)) % 1024 << 2
 }
 
 pub fn is_full(table: &[u8], shape: Shape, states: [u8; 4]) -> bool
