@@ -2,8 +2,14 @@
 ghost use mathlib.Core.Path.{_≡_};
 ghost use lib.ListN.{getD, set};
 ghost use Rattle.layout.specs.Layout.{advanced, pointerOf, lastWriteOf};
+ghost use Rattle.layout.specs.After.{runAfter};
+use crate::after::heads_after;
+use crate::after::messages_after;
+use crate::after::states_after;
+use crate::after::tails_after;
 use crate::area::next_number;
 use crate::area::queue_number;
+use crate::moves::Move;
 use program_part::bytes::wide;
 
 // The small part of a configuration. The values of queue q = 4 p + v that wait are those from the number heads[q] to the one before
@@ -13,6 +19,25 @@ pub struct Run {
     pub messages: u16,
     pub heads: [u16; 16],
     pub tails: [u16; 16],
+}
+
+impl Run {
+    // The small part after a step that is permitted.
+    pub fn after(mut self, step: Move) -> Self
+        ensures { λ r. ⌜ r ≡ runAfter self step ⌝ }
+    {
+        let states = self.states;
+        let heads = self.heads;
+        let tails = self.tails;
+        let next_states = states_after(states, step);
+        let next_heads = heads_after(heads, step);
+        let next_tails = tails_after(tails, step);
+        self.states = next_states;
+        self.messages = messages_after(self.messages, step);
+        self.heads = next_heads;
+        self.tails = next_tails;
+        self
+    }
 }
 
 // ---- numbers of queues

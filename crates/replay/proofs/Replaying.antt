@@ -31,7 +31,8 @@ use Rattle.causes.specs.Causes.{stepAnswer, isPermitted}
 use Rattle.replay.specs.Answers.{verdictOfRun, lastAnswer, answerThen, answerFrom, runAnswer, RunOf}
 use Rattle.layout.specs.Layout.{putSnapshot, moveOf}
 use Rattle.answering.specs.Answering.{answerIn}
-use Rattle.stepping.specs.After.{runAfter, rowsAfter}
+use Rattle.layout.specs.After.{runAfter}
+use Rattle.stepping.specs.After.{rowsAfter}
 use Rattle.storing.specs.Stored.{lowerAfter}
 use Rattle.last_test.specs.LastTest.{agreesIn, inTargetIn, nextTarget, lastFrom}
 use Rattle.replay.specs.Loop.{nextStep, firstRun, firstRows, runFrom, replayIn}

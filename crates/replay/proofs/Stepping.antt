@@ -31,7 +31,8 @@ use Rattle.causes.specs.Causes.{firstCause, takeAnswer, stepAnswer, isPermitted
 use Rattle.layout.specs.Layout.{queueNumber, snapshotAt, waitingAt, moveOf}
 use Rattle.storing.specs.Stored.{appended, lowerTaken, lowerAfter}
 use Rattle.answering.specs.Answering.{answerIn}
-use Rattle.stepping.specs.After.{runAfter, rowsTaken, rowsAfter, messagesTaken, tailsTaken}
+use Rattle.layout.specs.After.{runAfter, messagesTaken, tailsTaken}
+use Rattle.stepping.specs.After.{rowsTaken, rowsAfter}
 use Rattle.layout.specs.Represents.{Represents}
 use Rattle.storing.proofs.Lengths.{area-length}
 use Rattle.layout.proofs.ByteLaws.{next-is, waiting-past, snapshot-below}

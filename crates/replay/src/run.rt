@@ -18,7 +18,6 @@ use layout::arrays::Run;
 use layout::moves::move_of;
 use program_part::program::Program;
 use stepping::rows_after;
-use stepping::run_after;
 use storing::store;
 use whole_file::evidence::Contents;
 use whole_file::steps::step_at;
@@ -107,7 +106,7 @@ fn replay_steps(
         store(lower, run, step);
         let next = rows_after(rows, run.messages, step);
         rows = next;
-        run = run_after(run, step);
+        run = run.after(step);
         k = next_step(file, k);
         i += 1;
     };

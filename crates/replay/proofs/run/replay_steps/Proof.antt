@@ -75,7 +75,7 @@ replay-steps-spec = tie.close (tie.spec
     (λ c κs. tt)
     -- rows-after-requires
     (λ c κs. tt)
-    -- run-after-requires
+    -- after-requires
     (λ c κs. tt)
     -- next-step-requires
     (λ c κs. tt)
@@ -88,7 +88,7 @@ replay-steps-spec = tie.close (tie.spec
     replaying-next (c .before .before .before .before .before .before .before .before .before .before .before .before .before .before .loop .inv) (c .before .before .before .before .before .before .before .before .before .before .before .move-of .result) (c .before .before .before .before .before .before .before .before .before .before .before .before .before .if1 .left)
     (c .before .before .before .before .before .before .before .before .before .before .before .move-of .ensures ∙ ap (moveOf g (c .before .before .before .before .before .before .before .before .before .before .before .before .before .before .before .before .before .before .before .before .before .before .before .before .before .before .before .before .args .program .transitions)) (c .before .before .before .before .before .before .before .before .before .before .before .before .step-at .ensures))
     (sym (c .before .before .before .before .before .before .before .before .before .step-answer .ensures) ∙ c .before .before .before .before .before .before .before .enum-told .given .1)
-    (c .next-step .ensures) (c .before .run-after .ensures) (c .before .before .rows-after .ensures) (c .before .before .before .before .before .store .ensures))
+    (c .next-step .ensures) (c .before .after .ensures) (c .before .before .rows-after .ensures) (c .before .before .before .before .before .store .ensures))
     -- clear-requires
     (λ c κs. tt)
     -- same-length

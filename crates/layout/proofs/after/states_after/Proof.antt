@@ -1,5 +1,5 @@
-use Rattle.stepping.proofs.states_after.Statement.{statement}
-use Rattle.stepping.proofs.states_after.Tie as tie
+use Rattle.layout.proofs.after.states_after.Statement.{statement}
+use Rattle.layout.proofs.after.states_after.Tie as tie
 
 pub states-after-spec : {M : Type 1} → statement M
 states-after-spec = tie.close (tie.spec

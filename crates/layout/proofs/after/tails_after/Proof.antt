@@ -1,5 +1,5 @@
-use Rattle.stepping.proofs.tails_after.Statement.{statement}
-use Rattle.stepping.proofs.tails_after.Tie as tie
+use Rattle.layout.proofs.after.tails_after.Statement.{statement}
+use Rattle.layout.proofs.after.tails_after.Tie as tie
 
 pub tails-after-spec : {M : Type 1} → statement M
 tails-after-spec = tie.close (tie.spec

@@ -1,5 +1,5 @@
-use Rattle.stepping.proofs.messages_after.Statement.{statement}
-use Rattle.stepping.proofs.messages_after.Tie as tie
+use Rattle.layout.proofs.after.messages_after.Statement.{statement}
+use Rattle.layout.proofs.after.messages_after.Tie as tie
 
 pub messages-after-spec : {M : Type 1} → statement M
 messages-after-spec = tie.close (tie.spec

@@ -1,8 +1,8 @@
-use Rattle.stepping.proofs.run_after.Statement.{statement}
-use Rattle.stepping.proofs.run_after.Tie as tie
+use Rattle.layout.proofs.arrays.Run.after.Statement.{statement}
+use Rattle.layout.proofs.arrays.Run.after.Tie as tie
 
-pub run-after-spec : {M : Type 1} → statement M
-run-after-spec = tie.close (tie.spec
+pub after-spec : {M : Type 1} → statement M
+after-spec = tie.close (tie.spec
     -- states-after-requires 431:13
     (λ c κs. tt)
     -- heads-after-requires 432:13

@@ -1,5 +1,5 @@
-use Rattle.stepping.proofs.heads_after.Statement.{statement}
-use Rattle.stepping.proofs.heads_after.Tie as tie
+use Rattle.layout.proofs.after.heads_after.Statement.{statement}
+use Rattle.layout.proofs.after.heads_after.Tie as tie
 
 pub heads-after-spec : {M : Type 1} → statement M
 heads-after-spec = tie.close (tie.spec

@@ -1,5 +1,5 @@
-use Rattle.stepping.proofs.tails_taken.Statement.{statement}
-use Rattle.stepping.proofs.tails_taken.Tie as tie
+use Rattle.layout.proofs.after.tails_taken.Statement.{statement}
+use Rattle.layout.proofs.after.tails_taken.Tie as tie
 
 pub tails-taken-spec : {M : Type 1} → statement M
 tails-taken-spec = tie.close (tie.spec

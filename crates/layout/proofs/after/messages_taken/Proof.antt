@@ -1,5 +1,5 @@
-use Rattle.stepping.proofs.messages_taken.Statement.{statement}
-use Rattle.stepping.proofs.messages_taken.Tie as tie
+use Rattle.layout.proofs.after.messages_taken.Statement.{statement}
+use Rattle.layout.proofs.after.messages_taken.Tie as tie
 
 pub messages-taken-spec : {M : Type 1} → statement M
 messages-taken-spec = tie.close (tie.spec
