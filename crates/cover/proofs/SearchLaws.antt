@@ -235,6 +235,55 @@ module _ (f list sum : List ℕ) (n : ℕ) (s : Shape) (c : Cube) (a : Place) wh
       pub part-out : (Searchable f list sum n s part → held (shapeOf s) (entriesOf f list n) (configurationOf part) ≡ false) → held (shapeOf s) (entriesOf f list n) (configurationOf c) ≡ false
       part-out g = parts-one (Z .plain) sixteen twenty a ok x one (ap (λ (k : Cube). held (shapeOf s) (entriesOf f list n) (configurationOf k)) (sym is) ∙ g part-searchable)
 
+  -- ---- the entries for one of them
+
+  -- the parts before it are covered, and the entries walked over do not cover this one
+  pub record Parting (part : Cube) (tags : List ℕ) (number x : ℕ) (w : Walk) : Type 0 where
+    pub parts : Parts x
+    pub one : x < fillings s a
+    pub is : part ≡ partOf c a x
+    pub tagged : tags ≡ tagsOf s part
+    pub numbered : number ≡ numberOf s part
+    pub scanning : Scanning f list sum n s part tags number w
+
+  pub parting-begin : {part : Cube} {tags : List ℕ} {number x : ℕ} {w : Walk} → Parts x → x < fillings s a → part ≡ partOf c a x → tags ≡ tagsOf s part
+      → (tags ≡ tagsOf s part → number ≡ numberOf s part) → Onward f list sum n s (part .states) number n (headLink sum (homeOf number n)) false w → Parting part tags number x w
+  parting-begin {part} {tags} {number} p l e t m O =
+      record { parts = p; one = l; is = e; tagged = t; numbered = m t; scanning = scanning-begin f list sum n s part tags number O }
+
+  module _ {part : Cube} {tags : List ℕ} {number x : ℕ} {w : Walk} (W : Parting part tags number x w) where
+    pub parting-next : {v : Walk} → (Against s part tags → matches (shapeOf s) fills (configurationOf (cubeAt f list (w .entry - 1))) (configurationOf part) ≡ false)
+        → Onward f list sum n s (part .states) number (min (w .below) n) (w .link) (w .led) v → Parting part tags number x v
+    parting-next d O =
+        record {
+          parts = W .parts;
+          one = W .one;
+          is = W .is;
+          tagged = W .tagged;
+          numbered = W .numbered;
+          scanning = scanning-next f list sum n s part tags number (W .scanning) d O;
+        }
+
+    -- an entry covers it
+    pub parting-covered : w .entry ≢ 0 → (Against s part tags → matches (shapeOf s) fills (configurationOf (cubeAt f list (w .entry - 1))) (configurationOf part) ≡ true) → Parts (x + 1)
+    parting-covered d g =
+        parts-next (W .is) (W .one) (W .parts) (λ Z. scanning-covered f list sum n s part tags number (W .scanning) d g (record { sized = Z; is = W .tagged }))
+
+    -- its own parts cover it
+    pub parting-held : {h : Bool} → (Sized s part → h ≡ true → Covered f list n s part) → h ≡ true → Parts (x + 1)
+    parting-held g e = parts-next (W .is) (W .one) (W .parts) (λ Z. g Z e)
+
+    module _ (sixteen : length (c .queues) ≡ 16) (twenty : length (c .messages) ≡ 20) (ok : proper s c a ≡ true) (Z : Searchable f list sum n s c) where
+      -- none covers it, and it can't be split
+      pub parting-stuck : w .entry ≡ 0 → Stuck f list sum n s part tags number → held (shapeOf s) (entriesOf f list n) (configurationOf c) ≡ false
+      parting-stuck z q =
+          part-out (W .is) (W .one) sixteen twenty ok Z
+          (cube-out f list sum n s part tags number (W .tagged) (W .numbered) (scanning-end f list sum n s part tags number (W .scanning) z) q)
+
+      pub parting-outside : {h : Bool} → (Searchable f list sum n s part → h ≡ false → held (shapeOf s) (entriesOf f list n) (configurationOf part) ≡ false) → h ≡ false
+          → held (shapeOf s) (entriesOf f list n) (configurationOf c) ≡ false
+      parting-outside g e = part-out (W .is) (W .one) sixteen twenty ok Z (λ Y. g Y e)
+
   pub parts-done : proper s c a ≡ true → {x : ℕ} → Parts x → fillings s a ≤ x → Sized s c → Covered f list n s c
   parts-done ok {x} w l Z = go a refl
     where

@@ -110,13 +110,32 @@ fn parts_held(
 {
     let sizes = rooms(cube);
     let m = fillings(shape, place);
-    for x in 0..m {
+    'fillings: for x in 0..m {
         let part = part_of(cube, place, x as u8);
-        let found = look_for(file, list, sum, n, shape, part);
-        if found.covered {
-            continue;
+        let right = tags_of(shape, part);
+        let number = number_of(shape, part, right);
+        let states = part.states;
+        let mut walk = walk_from(file, list, sum, n, shape, states, number);
+        while walk.entry != 0 {
+            let i = walk.entry - 1;
+            if matches_at(true, file, list, i, shape, part, right) {
+                continue 'fillings;
+            }
+            let next = onward(
+                file,
+                list,
+                sum,
+                n,
+                shape,
+                states,
+                number,
+                walk.below,
+                walk.link,
+                walk.led,
+            );
+            walk = next;
         }
-        let further = found.place;
+        let further = place_for(file, list, sum, n, shape, part, right, number);
         if is_whole(further) {
             return false;
         }
