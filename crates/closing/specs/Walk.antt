@@ -61,8 +61,8 @@ pub record Stepping (g : List ℕ) (p : Program) (c : Cube) : Type 0 where
   pub program : pws.ProgramInRange (programOf g p)
   pub sound : Sound (p .shape) c
 
--- And the entries with it. It is the one condition of this crate's contracts; on other bytes its functions end, and nothing is said of
--- what they give.
+-- And the entries with it. It is the condition of this crate's contracts, beside `Full` of a table of full local states where one is lent; on
+-- other bytes its functions end, and nothing is said of what they give.
 pub record Walkable (g f list sum : List ℕ) (n : ℕ) (p : Program) (c : Cube) : Type 0 where
   pub count : n ≤ 524288
   pub transitions : p .transitions .count ≤ 256

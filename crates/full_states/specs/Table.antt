@@ -17,7 +17,7 @@ use Rattle.program_part.specs.Bytes.{choose}
 unfoldable pub fourAt : List ℕ → ℕ → List ℕ
 fourAt table at = getD table at 0 ∷ getD table (at + 1) 0 ∷ getD table (at + 2) 0 ∷ getD table (at + 3) 0 ∷ []
 
--- every configuration of the program with local states of the table is above the list
+-- the entries are the program's, and every configuration of the program with local states of the table is above the list
 pub record Full (P : Program) (es : List Configuration) (table : List ℕ) : Type 0 where
   pub entries : (k : ℕ) → k < length es → EntryOf P (entry es k)
   pub groups : (i : ℕ) → 4 * i + 4 ≤ length table → TargetHeld P es (λ q. getD (fourAt table (4 * i)) q 0)
