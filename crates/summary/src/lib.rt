@@ -8,6 +8,8 @@ mod walking;
 pub use adding::states_at;
 pub use adding::summarise;
 pub use slots::count_at;
+pub use slots::put_word;
+pub use slots::word_at;
 pub use walking::Walk;
 pub use walking::onward;
 pub use walking::walk_from;

@@ -30,7 +30,7 @@ fn four_bytes(sum: &[u8], at: usize) -> usize
     a + (b << 8) + (c << 16) + (d << 24)
 }
 
-fn word_at(sum: &[u8], i: usize) -> usize
+pub fn word_at(sum: &[u8], i: usize) -> usize
     ensures { λ r. ⌜ r ≡ word (now (sum .entry)) i ⌝ }
     ensures { λ r. ⌜ r < 4294967296 ⌝ }
 {
@@ -40,7 +40,7 @@ fn word_at(sum: &[u8], i: usize) -> usize
     four_bytes(sum, word_place(i))
 }
 
-fn put_word(sum: &mut [u8], i: usize, x: usize)
+pub fn put_word(sum: &mut [u8], i: usize, x: usize)
     ensures { λ _. ⌜ now (sum .exit) ≡ putWord (now (sum .entry)) i x ⌝ }
 {
     if sum.len() / 4 <= i {

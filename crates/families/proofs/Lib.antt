@@ -1,0 +1,3 @@
+pub mod InLaws
+pub mod FullLaws
+pub mod TableLaws

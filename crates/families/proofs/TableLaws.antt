@@ -1,0 +1,116 @@
+-- The table of full families: what stands in it, and what is said of a cube that is found there.
+use Prim.Native.Nat.{ℕ, zero, suc, _+_, _-_, _*_, _/_, _<_, _≤_, min}
+use mathlib.Core.Path.{_≡_, refl, sym, ap, subst, subst₂, _∙_}
+use mathlib.Core.Bool.{Bool, true}
+use mathlib.Core.List.{List}
+use native.Mathlib.Omega.{arith}
+use native.Mathlib.Decide.{ℕ-discrete, decLt}
+use lib.ListN.{length, getD}
+use lib.Dec.{T, eqb, eqb→eq}
+use borrow.Author.Tests.{le-ltb}
+use Rattle.pws.specs.declared.Message.{Message}
+use Rattle.pws.specs.declared.Step.the-variants.{Update}
+use Rattle.pws.specs.Program as pws
+use Rattle.pws.specs.Machine.{Configuration, noMessage, allBelow}
+use Rattle.pws.specs.Configurations.{Fits}
+use Rattle.pws.specs.Entries.{EntryOf, ValueOrFF, noEntry, entry}
+use Rattle.pws.proofs.Cases.{all-yes}
+use Rattle.lists.specs.Lists.{every}
+use Rattle.lists.specs.Values.{fills, pairwise}
+use Rattle.lists.specs.Cubes.{topmost}
+use Rattle.lists.specs.Matching.{queueMatches, QueueMatch}
+use Rattle.lists.specs.Predecessors.{predecessors}
+use Rattle.lists.specs.Decision.{held}
+use Rattle.lists.proofs.Matching.{queue-leftmost}
+use Rattle.program_part.specs.declared.program.Shape.{Shape}
+use Rattle.program_part.specs.ProgramPart.{shapeOf}
+use Rattle.whole_file.specs.declared.entry.Cube.{Cube}
+use Rattle.whole_file.specs.Cube.{noQueue, waitingOf, channelOf, configurationOf}
+use Rattle.whole_file.proofs.CubeParts.{queue-of}
+use Rattle.by_number.specs.Again.{cubeAt, entriesOf}
+use Rattle.by_number.proofs.Tables.{table-length, table-number}
+use Rattle.matching.specs.Match.{queueRow}
+use Rattle.summary.specs.Slots.{word, putWord}
+use Rattle.summary.proofs.WordLaws.{word-same, word-other}
+use Rattle.families.specs.Family.{InFamily, FamilyHeld, Families, Recorded}
+use Rattle.families.proofs.FullLaws.{family-held, family-update}
+
+-- ---- membership
+
+pub top-is : (ms : List Message) (n : ℕ) → 1 ≤ n → getD ms (n - 1) noMessage ≡ topmost (channelOf ms n)
+top-is ms zero l = absurd (omega arith)
+top-is ms (suc n) l = ap (λ (k : ℕ). getD ms k noMessage) {x = suc n - 1} {y = n} (omega arith)
+
+module _ (s : Shape) (e c : Cube) (few : s .processes ≤ 4) (narrow : s .variables ≤ 4) where
+  abbrev queueTest : ℕ → ℕ → Bool
+  queueTest p v = queueMatches fills (waitingOf (getD (e .queues) (4 * p + v) noQueue)) (waitingOf (getD (c .queues) (4 * p + v) noQueue))
+
+  row-yes : (p v : ℕ) → v < s .variables → T (queueRow (s .variables) true (e .queues) (c .queues) p) → T (queueTest p v)
+  unfolding queueRow
+  row-yes p v l t = all-yes (min (s .variables) 4) (queueTest p) t v (omega arith)
+
+  pub in-family-is : {a b : Bool} → a ≡ allBelow (min (s .processes) 4) (λ p. eqb (getD (e .states) p 0) (getD (c .states) p 0)) → a ≡ true
+      → b ≡ allBelow (min (s .processes) 4) (queueRow (s .variables) true (e .queues) (c .queues)) → b ≡ true
+      → pairwise fills (topmost (configurationOf e .memory .channel) .snapshot) (topmost (configurationOf c .memory .channel) .snapshot) ≡ true
+      → InFamily (shapeOf s) (configurationOf e) (configurationOf c)
+  in-family-is x xe y ye z =
+      record {
+        states = λ p l. eqb→eq (getD (e .states) p 0) (getD (c .states) p 0)
+            (all-yes (min (s .processes) 4) (λ p. eqb (getD (e .states) p 0) (getD (c .states) p 0)) (subst T (sym xe ∙ x) tt) p (omega arith));
+        queues = λ p v l m. subst₂ (QueueMatch fills) (sym (queue-of (e .queues) p v (omega arith) (omega arith))) (sym (queue-of (c .queues) p v (omega arith) (omega arith)))
+            (queue-leftmost fills (waitingOf (getD (e .queues) (4 * p + v) noQueue)) (waitingOf (getD (c .queues) (4 * p + v) noQueue)) .0
+            (row-yes p v m (all-yes (min (s .processes) 4) (queueRow (s .variables) true (e .queues) (c .queues)) (subst T (sym ye ∙ y) tt) p (omega arith))));
+        newest = subst T (sym z) tt;
+      }
+
+-- ---- words
+
+word-short : (table : List ℕ) (i x : ℕ) → length table / 4 ≤ i → putWord table i x ≡ table
+unfolding putWord
+word-short table i x l = rw (le-ltb i (length table / 4) l) refl
+
+module _ (S : pws.Shape) (es : List Configuration) (table : List ℕ) where
+  -- what counts is not asked
+  pub families-counted : (at x : ℕ) → 1024 ≤ at → Families S es table → Families S es (putWord table at x)
+  families-counted at x l F i a b c =
+      let e = word-other table at x i (λ d. omega arith) in
+      subst (λ (w : ℕ). FamilyHeld S es (entry es (w - 1))) (sym e) (F i a (omega (arith, e)) (omega (arith, e)))
+
+  pub families-put : (at k : ℕ) → k < 524288 → FamilyHeld S es (entry es k) → Families S es table → Families S es (putWord table at (k + 1))
+  families-put at k l H F i a b c = elim (ℕ-discrete i at) [
+    | yes d ↦ elim (decLt at (length table / 4)) [
+      | yes m ↦ let e = ap (word (putWord table at (k + 1))) d ∙ word-same table at (k + 1) m (omega arith) in
+          subst (λ (w : ℕ). FamilyHeld S es (entry es (w - 1))) (sym e) (subst (λ (w : ℕ). FamilyHeld S es (entry es w)) {x = k} {y = k + 1 - 1} (omega arith) H)
+      | no m ↦ let e = ap (λ (t : List ℕ). word t i) (word-short table at (k + 1) (omega arith)) in
+          subst (λ (w : ℕ). FamilyHeld S es (entry es (w - 1))) (sym e) (F i a (omega (arith, e)) (omega (arith, e)))
+    ]
+    | no d ↦ let e = word-other table at (k + 1) i d in subst (λ (w : ℕ). FamilyHeld S es (entry es (w - 1))) (sym e) (F i a (omega (arith, e)) (omega (arith, e)))
+  ]
+
+-- ---- a cube that is found
+
+module _ (s : Shape) (R : pws.ShapeInRange (shapeOf s)) (f list : List ℕ) (n : ℕ) (table : List ℕ) (F : Families (shapeOf s) (entriesOf f list n) table) (c : Cube) (r : Recorded table f list n s c) where
+  abbrev es : List Configuration
+  es = entriesOf f list n
+
+  abbrev number : ℕ
+  number = word table (r .slot) - 1
+
+  found-full : FamilyHeld (shapeOf s) es (configurationOf (cubeAt f list number))
+  found-full =
+      subst (FamilyHeld (shapeOf s) es) (table-number (λ i. configurationOf (cubeAt f list i)) n number noEntry (omega (arith, r .some, r .known)))
+      (F (r .slot) (r .low) (r .some) (omega (arith, r .known, table-length (λ i. configurationOf (cubeAt f list i)) 0 n)))
+
+  found-in : InFamily (shapeOf s) (configurationOf (cubeAt f list number)) (configurationOf c)
+  found-in = r .inside (R .processes) (R .variables)
+
+  pub recorded-held : ((k : ℕ) → k < length es → Fits (ValueOrFF (shapeOf s)) (shapeOf s) (entry es k)) → Fits (ValueOrFF (shapeOf s)) (shapeOf s) (configurationOf c)
+      → held (shapeOf s) es (configurationOf c) ≡ true
+  recorded-held oes o = family-held (shapeOf s) R es oes (configurationOf (cubeAt f list number)) (configurationOf c) found-full found-in o
+
+  pub recorded-update : (P : pws.Program) → pws.ProgramInRange P → P .shape ≡ shapeOf s → ((k : ℕ) → k < length es → EntryOf P (entry es k)) → EntryOf P (configurationOf c)
+      → (p : ℕ) → every (held (P .shape) es) (predecessors P (configurationOf c) (Update p)) ≡ true
+  recorded-update P RP same oes o p =
+      family-update P RP es oes (configurationOf (cubeAt f list number)) (configurationOf c)
+      (subst (λ (S : pws.Shape). FamilyHeld S es (configurationOf (cubeAt f list number))) (sym same) found-full)
+      (subst (λ (S : pws.Shape). InFamily S (configurationOf (cubeAt f list number)) (configurationOf c)) (sym same) found-in) o p

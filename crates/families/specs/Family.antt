@@ -1,0 +1,63 @@
+-- Families of configurations: what number 11 asks of an entry does not depend on most of its channel, so it is often asked of all of them at once.
+use Prim.Native.Nat.{ℕ, _-_, _<_, _≤_}
+use mathlib.Core.Path.{_≡_}
+use mathlib.Core.List.{List, [], _∷_, map}
+use lib.ListN.{length}
+use lib.Dec.{T}
+use Rattle.pws.specs.declared.Message.{Message}
+use Rattle.pws.specs.Program.{Shape}
+use Rattle.pws.specs.Machine.{Memory, Configuration}
+use Rattle.pws.specs.Configurations.{Fits, ValueOf}
+use Rattle.pws.specs.Entries.{AboveList, entry}
+use Rattle.lists.specs.Values.{fills, pairwise}
+use Rattle.lists.specs.Cubes.{memoryOf, withValues, topmost}
+use Rattle.lists.specs.Matching.{QueueMatch}
+use Rattle.lists.specs.Shapes.{memoryShapes}
+use Rattle.program_part.specs.declared.program.Shape as file
+use Rattle.program_part.specs.ProgramPart.{shapeOf}
+use Rattle.whole_file.specs.declared.entry.Cube.{Cube}
+use Rattle.whole_file.specs.Cube.{configurationOf}
+use Rattle.by_number.specs.Again.{cubeAt}
+use Rattle.summary.specs.Slots.{word}
+
+-- d is in the family of e: it has the local states of e, waiting values above those of e, and newest values that may stand where e has its own;
+-- its other messages and its pointers may be any
+pub record InFamily (S : Shape) (e d : Configuration) : Type 0 where
+  pub states : (p : ℕ) → p < S .processes → e .state p ≡ d .state p
+  pub queues : (p v : ℕ) → p < S .processes → v < S .variables → QueueMatch fills (e .queue p v) (d .queue p v)
+  pub newest : T (pairwise fills (topmost (e .memory .channel) .snapshot) (topmost (d .memory .channel) .snapshot))
+
+-- the family of e is full: every configuration in it is above the list
+abbrev pub FamilyHeld : Shape → List Configuration → Configuration → Type 0
+FamilyHeld S es e = (d : Configuration) → Fits (ValueOf S) S d → InFamily S e d → AboveList S es d
+
+-- A table of entries whose families are full: 1,024 words, each the number of an entry, counted from 1; other words are not asked. What it has of other
+-- numbers says nothing.
+abbrev pub Families : Shape → List Configuration → List ℕ → Type 0
+Families S es table = (i : ℕ) → i < 1024 → 1 ≤ word table i → word table i ≤ length es → FamilyHeld S es (entry es (word table i - 1))
+
+-- a cube is in the family of an entry that stands in the table
+pub record Recorded (table f list : List ℕ) (n : ℕ) (s : file.Shape) (c : Cube) : Type 0 where
+  pub slot : ℕ
+  pub low : slot < 1024
+  pub some : 1 ≤ word table slot
+  pub known : word table slot ≤ n
+  pub inside : s .processes ≤ 4 → s .variables ≤ 4 → InFamily (shapeOf s) (configurationOf (cubeAt f list (word table slot - 1))) (configurationOf c)
+
+-- ---- the cubes that are looked for: e with every irreducible memory in place of its own
+
+-- the newest message has these values
+abbrev pub topped : List ℕ → List Message → List Message
+topped xs [] = []
+topped xs (m ∷ ms) = withValues m xs ∷ ms
+
+abbrev pub familyCube : Configuration → Memory → Configuration
+familyCube e m =
+    record {
+      state = e .state;
+      queue = e .queue;
+      memory = memoryOf (topped (topmost (e .memory .channel) .snapshot) (m .channel)) (m .pointer);
+    }
+
+abbrev pub familyCubes : Shape → Configuration → List Configuration
+familyCubes S e = map (familyCube e) (memoryShapes S)

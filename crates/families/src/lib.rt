@@ -1,0 +1,214 @@
+// Families of configurations (theory, section 5): the family of an entry has its local states, waiting values above its own and newest values that fit,
+// and any other messages and pointers. At number 11 a cube in a full family is held, and no update leads in; nothing is searched for.
+ghost use mathlib.Core.Path.{_≡_};
+ghost use mathlib.Core.Bool.{true};
+ghost use mathlib.Core.List.{List};
+ghost use Prim.Native.Nat.{ℕ, _+_, _≤_, _<_};
+ghost use lib.ListN.{length};
+ghost use Rattle.pws.specs.Program as pws;
+ghost use Rattle.pws.specs.Machine.{Configuration};
+ghost use Rattle.pws.specs.Entries.{entry};
+ghost use Rattle.lists.specs.Values.{fills, pairwise};
+ghost use Rattle.lists.specs.Cubes.{topmost};
+ghost use Rattle.program_part.specs.ProgramPart.{shapeOf};
+ghost use Rattle.whole_file.specs.Cube.{configurationOf};
+ghost use Rattle.by_number.specs.Again.{cubeAt};
+ghost use Rattle.families.specs.Family.{InFamily, FamilyHeld, Families, Recorded};
+use by_number::entry_at;
+use matching::least;
+use matching::queues_match;
+use matching::states_match;
+use matching::states_number;
+use matching::values_related;
+use matching::waiting;
+use program_part::program::Shape;
+use summary::put_word;
+use summary::word_at;
+use whole_file::entry::Cube;
+use whole_file::entry::Queue;
+
+// The values of the newest message.
+pub fn newest_values(cube: Cube) -> [u8; 4]
+    ensures { λ r. ⌜ (1 ≤ cube .count → cube .count ≤ 20 → r ≡ topmost (configurationOf cube .memory .channel) .snapshot) ⌝ }
+{
+    let n = cube.count;
+    if n == 0 {
+        return [0u8; 4];
+    }
+    if 20 < n {
+        return [0u8; 4];
+    }
+    let messages = cube.messages;
+    let message = messages[n - 1];
+    message.snapshot
+}
+
+// ---- membership
+
+// There are newest messages, and the values of one may stand where the other has its own.
+fn newest_fits(entry: Cube, cube: Cube) -> bool
+    ensures { λ r. ⌜ (r ≡ true → pairwise fills (topmost (configurationOf entry .memory .channel) .snapshot) (topmost (configurationOf cube .memory .channel) .snapshot) ≡ true) ⌝ }
+{
+    if entry.count == 0 {
+        return false;
+    }
+    if 20 < entry.count {
+        return false;
+    }
+    if cube.count == 0 {
+        return false;
+    }
+    if 20 < cube.count {
+        return false;
+    }
+    values_related(true, newest_values(entry), newest_values(cube))
+}
+
+// The cube is in the family of entry k.
+fn in_family(file: &[u8], list: &[u8], shape: Shape, k: usize, cube: Cube) -> bool
+    ensures { λ r. ⌜ (r ≡ true → shape .processes ≤ 4 → shape .variables ≤ 4 → InFamily (shapeOf shape) (configurationOf (cubeAt (now (file .entry)) (now (list .entry)) k)) (configurationOf cube)) ⌝ }
+{
+    let entry = entry_at(file, list, k);
+    let states = entry.states;
+    let own = cube.states;
+    if !states_match(shape.processes, states, own) {
+        return false;
+    }
+    let before = entry.queues;
+    let after = cube.queues;
+    if !queues_match(true, shape, before, after) {
+        return false;
+    }
+    newest_fits(entry, cube)
+}
+
+// ---- the table: words 0 to 1,023 are entries whose families are full, eight in a row for local states and empty queues that fall together;
+// words 1,024 to 2,047 count entries. Where something stands changes only the speed.
+
+// A bit for each queue: does something wait there?
+fn open_queues(shape: Shape, queues: [Queue; 16]) -> u64 {
+    let n = least(shape.processes, 4);
+    let m = least(shape.variables, 4);
+    let mut bits = 0;
+    for p in 0..n {
+        for v in 0..m {
+            let queue = queues[4 * p + v];
+            if waiting(queue) == 0 {
+                bits = bits << 1;
+            } else {
+                bits = bits << 1 ^ 1;
+            }
+        }
+    }
+    bits
+}
+
+// The row in which full families of a cube with these local states and empty queues stand.
+fn row_of(shape: Shape, cube: Cube) -> usize
+    ensures { λ r. ⌜ r ≤ 1016 ⌝ }
+{
+    let states = cube.states;
+    let queues = cube.queues;
+    let h = states_number(shape, states) ^ open_queues(shape, queues);
+    ((h % 128) as usize) << 3
+}
+
+// The cube is in a family that stands in the table.
+pub fn in_full_family(
+    table: &[u8],
+    file: &[u8],
+    list: &[u8],
+    n: usize,
+    shape: Shape,
+    cube: Cube,
+) -> bool
+    ensures { λ r. ⌜ (r ≡ true → Recorded (now (table .entry)) (now (file .entry)) (now (list .entry)) n shape cube) ⌝ }
+{
+    let row = row_of(shape, cube);
+    for j in 0..8 {
+        let x = word_at(table, row + j);
+        if x == 0 {
+            return false;
+        }
+        if n < x {
+            return false;
+        }
+        if in_family(file, list, shape, x - 1, cube) {
+            return true;
+        }
+    }
+    false
+}
+
+// A word of the row at which nothing stands; past the table if there is none.
+fn free_word(table: &[u8], row: usize) -> usize
+    requires { ⌜ row ≤ 1016 ⌝ }
+{
+    for j in 0..8 {
+        if word_at(table, row + j) == 0 {
+            return row + j;
+        }
+    }
+    2048
+}
+
+// The family of entry k, which the cube is, stands in the table from now on, if there is room in its row.
+pub fn put_family(table: &mut [u8], shape: Shape, cube: Cube, k: usize)
+    requires { ⌜ k < 524288 ⌝ }
+    ensures { λ _. ⌜ (length (now (table .exit)) ≡ length (now (table .entry))) × ((S : pws.Shape) (es : List Configuration) → FamilyHeld S es (entry es k) → Families S es (now (table .entry)) → Families S es (now (table .exit))) ⌝ }
+{
+    let at = free_word(table, row_of(shape, cube));
+    put_word(table, at, k + 1);
+}
+
+// ---- how many entries of a family were met
+
+// h with one byte more.
+fn stirred(h: u64, x: u8) -> u64 {
+    let a = h << 7 ^ h >> 13;
+    a ^ h ^ x as u64
+}
+
+fn with_queue(h: u64, queue: Queue) -> u64 {
+    let n = waiting(queue);
+    let mut all = stirred(h, queue.count);
+    for i in 0..n {
+        all = stirred(all, queue.values[i]);
+    }
+    all
+}
+
+// The word that counts the entries with the local states, waiting values and newest values of this one.
+fn counter_of(shape: Shape, cube: Cube) -> usize
+    ensures { λ r. ⌜ 1024 ≤ r ⌝ }
+{
+    let states = cube.states;
+    let queues = cube.queues;
+    let values = newest_values(cube);
+    let mut h = states_number(shape, states);
+    let n = 4 * least(shape.processes, 4);
+    for q in 0..n {
+        let queue = queues[q];
+        let next = with_queue(h, queue);
+        h = next;
+    }
+    for v in 0..4 {
+        h = stirred(h, values[v]);
+    }
+    let folded = h ^ h >> 32;
+    let mixed = folded ^ folded >> 11;
+    1024 + (mixed % 1024) as usize
+}
+
+// One entry more of its family: how many there are now.
+pub fn count_member(table: &mut [u8], shape: Shape, cube: Cube) -> usize
+    ensures { λ _. ⌜ (length (now (table .exit)) ≡ length (now (table .entry))) × ((S : pws.Shape) (es : List Configuration) → Families S es (now (table .entry)) → Families S es (now (table .exit))) ⌝ }
+{
+    let at = counter_of(shape, cube);
+    let old = word_at(table, at);
+    if 1048576 <= old {
+        return old;
+    }
+    put_word(table, at, old + 1);
+    old + 1
+}
