@@ -17,7 +17,7 @@ use Rattle.pws.specs.Configurations.{Fits}
 use Rattle.pws.specs.Entries.{ValueOrFF}
 use Rattle.program_part.specs.declared.program.Shape.{Shape}
 use Rattle.program_part.specs.ProgramPart.{shapeOf}
-use Rattle.whole_file.specs.Cube.{channelOf}
+use Rattle.whole_file.specs.Cube.{channelOf, configurationOf}
 use Rattle.whole_file.proofs.CubeParts.{channel-equal, four-put}
 use Rattle.lists.specs.Lists.{forBelow, forEach}
 use Rattle.lists.specs.Cubes.{anyMessage}
@@ -25,7 +25,9 @@ use Rattle.lists.specs.Shapes.{Outline, choices, allowed, outlines, longest, ou
 use Rattle.lists.proofs.Lists.{each-in}
 use Rattle.lists.proofs.Shapes.{memory-shape, queues-shape}
 use Rattle.targets.specs.ShapeCube.{outlineOf, emptyShape}
-use Rattle.targets.specs.Walk.{withQueues, choicesFrom, cubesAfter, outlineCubes, labelCubes, choiceCubes}
+use Rattle.whole_file.specs.declared.entry.Cube.{Cube}
+use Rattle.families.specs.Family.{familyCube, familyCubes}
+use Rattle.targets.specs.Walk.{withQueues, choicesFrom, Leaf, targetLeaf, familyLeaf, cubesAfter, outlineCubes, allCubes, labelCubes, choiceCubes}
 use Rattle.targets.proofs.ListLaws.{each-append, each-one, each-below, each-each, each-map, each-none, below-none, each-itself}
 
 -- ---- places
@@ -50,7 +52,7 @@ choices-split (suc left) q w d place e =
 choices-all : (n d : ℕ) (place : ℕ → ℕ) → choices n place d ≡ choicesFrom place d n 0 place
 choices-all n d place = choices-split n 0 n d place (omega arith) ∙ each-one place (choicesFrom place d n 0)
 
-module _ (s : Shape) (states : List ℕ) where
+module _ (s : Shape) (leaf : Leaf) where
   abbrev S : pws.Shape
   S = shapeOf s
 
@@ -61,10 +63,10 @@ module _ (s : Shape) (states : List ℕ) where
     place k = getD places k 0
 
     abbrev more : (ℕ → ℕ) → List Configuration
-    more = labelCubes s states ms d places p v
+    more = labelCubes s leaf ms d places p v
 
     abbrev from : List ℕ → ℕ → List Configuration
-    from new q = choiceCubes s states ms d places p v new q
+    from new q = choiceCubes s leaf ms d places p v new q
 
     pub choice-branch : (new : List ℕ) (q : ℕ) → q < s .processes → q < length new → getD places q 0 ≡ 0 → from new q ≡ from new (q + 1) ++ from (set new q (d + 1)) (q + 1)
     unfolding choiceCubes
@@ -108,7 +110,7 @@ module _ (s : Shape) (states : List ℕ) where
     allows new = allowed S (channelOf ms d) place (λ k. getD new k 0) p v
 
     abbrev after : (ℕ → ℕ) → List Configuration
-    after new = forEach (outlines S (longest S - d) (suc d) (next ∷ channelOf ms d) new) (cubesAfter s states (take d ms ++ (next ∷ [])))
+    after new = forEach (outlines S (longest S - d) (suc d) (next ∷ channelOf ms d) new) (cubesAfter leaf (take d ms ++ (next ∷ [])))
 
     picked : (new : ℕ → ℕ) (b c : Bool) → b ≡ c → _≡_ {A = List Configuration} (elim b [ true ↦ after new | false ↦ [] ]) (elim c [ true ↦ after new | false ↦ [] ])
     picked new b c e = rw e refl
@@ -116,16 +118,16 @@ module _ (s : Shape) (states : List ℕ) where
     pub choice-refused : (new : List ℕ) (q : ℕ) → s .processes ≤ q → allows new ≡ false → from new q ≡ []
     choice-refused new q l e = choice-end new q l ∙ picked (λ k. getD new k 0) (allows new) false e
 
-    pub choice-allowed : (new : List ℕ) (q : ℕ) → s .processes ≤ q → allows new ≡ true → d < length ms → from new q ≡ outlineCubes s states (set ms d next) (d + 1) new
+    pub choice-allowed : (new : List ℕ) (q : ℕ) → s .processes ≤ q → allows new ≡ true → d < length ms → from new q ≡ outlineCubes s leaf (set ms d next) (d + 1) new
     unfolding outlineCubes
     choice-allowed new q l e m =
         choice-end new q l ∙ picked (λ k. getD new k 0) (allows new) true e
-        ∙ ap (λ (seen : List Message). forEach (outlines S (longest S - d) (suc d) seen (λ k. getD new k 0)) (cubesAfter s states (take d ms ++ (next ∷ []))))
+        ∙ ap (λ (seen : List Message). forEach (outlines S (longest S - d) (suc d) seen (λ k. getD new k 0)) (cubesAfter leaf (take d ms ++ (next ∷ []))))
         (ap₂ {A = Message} {B = List Message} (λ x xs. x ∷ xs) (sym (getD-set-same ms d next noMessage m))
         (channel-equal ms (set ms d next) d (λ i j. sym (getD-set-other ms d i next noMessage (λ n. omega arith)))))
-        ∙ ap (λ (front : List Message). forEach (outlines S (longest S - d) (suc d) (channelOf (set ms d next) (suc d)) (λ k. getD new k 0)) (cubesAfter s states front)) (sym (take-suc-set ms d next m))
-        ∙ ap (λ (fuel : ℕ). forEach (outlines S fuel (suc d) (channelOf (set ms d next) (suc d)) (λ k. getD new k 0)) (cubesAfter s states (take (suc d) (set ms d next)))) {x = longest S - d} {y = suc (longest S) - suc d} (omega arith)
-        ∙ ap (λ (k : ℕ). forEach (outlines S (suc (longest S) - k) k (channelOf (set ms d next) k) (λ k. getD new k 0)) (cubesAfter s states (take k (set ms d next)))) (sym (add-one d))
+        ∙ ap (λ (front : List Message). forEach (outlines S (longest S - d) (suc d) (channelOf (set ms d next) (suc d)) (λ k. getD new k 0)) (cubesAfter leaf front)) (sym (take-suc-set ms d next m))
+        ∙ ap (λ (fuel : ℕ). forEach (outlines S fuel (suc d) (channelOf (set ms d next) (suc d)) (λ k. getD new k 0)) (cubesAfter leaf (take (suc d) (set ms d next)))) {x = longest S - d} {y = suc (longest S) - suc d} (omega arith)
+        ∙ ap (λ (k : ℕ). forEach (outlines S (suc (longest S) - k) k (channelOf (set ms d next) k) (λ k. getD new k 0)) (cubesAfter leaf (take k (set ms d next)))) (sym (add-one d))
 
   -- ---- one message more
 
@@ -137,7 +139,7 @@ module _ (s : Shape) (states : List ℕ) where
     placed = allBelow (s .processes) (λ q. not (eqb (at-place q) 0))
 
     abbrev group : Outline → List Configuration
-    group = cubesAfter s states (take d ms)
+    group = cubesAfter leaf (take d ms)
 
     abbrev longer : ℕ → ℕ → Outline → Outline
     longer p v o = record { channel = anyMessage S p v ∷ o .channel; place = o .place }
@@ -155,17 +157,17 @@ module _ (s : Shape) (states : List ℕ) where
     opened : (fuel : ℕ) (b c : Bool) → b ≡ c → _≡_ {A = List Outline} (elim b [ true ↦ record { channel = []; place = at-place } ∷ [] | false ↦ labels fuel ]) (elim c [ true ↦ record { channel = []; place = at-place } ∷ [] | false ↦ labels fuel ])
     opened fuel b c e = rw e refl
 
-    fuel-left : d ≤ longest S → outlineCubes s states ms d places ≡ forEach (elim placed [ true ↦ record { channel = []; place = at-place } ∷ [] | false ↦ labels (longest S - d) ]) group
+    fuel-left : d ≤ longest S → outlineCubes s leaf ms d places ≡ forEach (elim placed [ true ↦ record { channel = []; place = at-place } ∷ [] | false ↦ labels (longest S - d) ]) group
     unfolding outlineCubes
     fuel-left l = ap (λ (fuel : ℕ). forEach (outlines S fuel d (channelOf ms d) at-place) group) {x = suc (longest S) - d} {y = suc (longest S - d)} (omega arith)
 
-    pub outline-done : d ≤ longest S → placed ≡ true → outlineCubes s states ms d places ≡ map (withQueues (emptyShape s states (outlineOf ms d places))) (queueShapes (s .processes) (s .variables))
+    pub outline-done : d ≤ longest S → placed ≡ true → outlineCubes s leaf ms d places ≡ leaf (outlineOf ms d places)
     outline-done l e =
         fuel-left l ∙ ap (λ (os : List Outline). forEach os group) (opened (longest S - d) placed true e)
         ∙ each-one (record { channel = []; place = at-place }) group
-        ∙ ap (λ (xs : List Message). map (withQueues (emptyShape s states (record { channel = xs; place = at-place }))) (queueShapes (s .processes) (s .variables))) (append-nil (take d ms))
+        ∙ ap (λ (xs : List Message). leaf (record { channel = xs; place = at-place })) (append-nil (take d ms))
 
-    open-labels : d ≤ longest S → placed ≡ false → outlineCubes s states ms d places ≡ forEach (labels (longest S - d)) group
+    open-labels : d ≤ longest S → placed ≡ false → outlineCubes s leaf ms d places ≡ forEach (labels (longest S - d)) group
     open-labels l e = fuel-left l ∙ ap (λ (os : List Outline). forEach os group) (opened (longest S - d) placed false e)
 
     no-body : (p v : ℕ) (new : ℕ → ℕ) (b : Bool) → _≡_ {A = List Outline} (elim b [ true ↦ map (longer p v) (outlines S 0 (suc d) (anyMessage S p v ∷ channelOf ms d) new) | false ↦ [] ]) []
@@ -173,7 +175,7 @@ module _ (s : Shape) (states : List ℕ) where
     no-body p v new false = refl
 
     -- no channel is as long
-    pub outline-over : d ≤ longest S → placed ≡ false → longest S ≤ d → outlineCubes s states ms d places ≡ []
+    pub outline-over : d ≤ longest S → placed ≡ false → longest S ≤ d → outlineCubes s leaf ms d places ≡ []
     outline-over l e m =
         open-labels l e
         ∙ ap (λ (fuel : ℕ). forEach (labels fuel) group) {x = longest S - d} {y = 0} (omega arith)
@@ -181,30 +183,30 @@ module _ (s : Shape) (states : List ℕ) where
         (λ new. no-body p v new (allowed S (channelOf ms d) at-place new p v)))))
 
     -- a message before those of an outline
-    one-longer : (p v : ℕ) (o : Outline) → group (longer p v o) ≡ cubesAfter s states (take d ms ++ (anyMessage S p v ∷ [])) o
-    one-longer p v o = ap (λ (xs : List Message). map (withQueues (emptyShape s states (record { channel = xs; place = o .place }))) (queueShapes (s .processes) (s .variables)))
+    one-longer : (p v : ℕ) (o : Outline) → group (longer p v o) ≡ cubesAfter leaf (take d ms ++ (anyMessage S p v ∷ [])) o
+    one-longer p v o = ap (λ (xs : List Message). leaf (record { channel = xs; place = o .place }))
         (sym (append-snoc (take d ms) (anyMessage S p v) (o .channel)))
 
-    body-is : (p v : ℕ) (new : ℕ → ℕ) → forEach (body (longest S - d) p v new) group ≡ labelCubes s states ms d places p v new
+    body-is : (p v : ℕ) (new : ℕ → ℕ) → forEach (body (longest S - d) p v new) group ≡ labelCubes s leaf ms d places p v new
     body-is p v new = at (allowed S (channelOf ms d) at-place new p v)
       where
         at : (b : Bool) → forEach (elim b [ true ↦ map (longer p v) (outlines S (longest S - d) (suc d) (anyMessage S p v ∷ channelOf ms d) new) | false ↦ [] ]) group
-            ≡ (elim b [ true ↦ forEach (outlines S (longest S - d) (suc d) (anyMessage S p v ∷ channelOf ms d) new) (cubesAfter s states (take d ms ++ (anyMessage S p v ∷ []))) | false ↦ [] ])
+            ≡ (elim b [ true ↦ forEach (outlines S (longest S - d) (suc d) (anyMessage S p v ∷ channelOf ms d) new) (cubesAfter leaf (take d ms ++ (anyMessage S p v ∷ []))) | false ↦ [] ])
         at true =
             each-map (longer p v) (outlines S (longest S - d) (suc d) (anyMessage S p v ∷ channelOf ms d) new) group
             ∙ ap (forEach (outlines S (longest S - d) (suc d) (anyMessage S p v ∷ channelOf ms d) new)) (fun-ext (one-longer p v))
         at false = refl
 
-    choices-are : (p v : ℕ) → forEach (forEach (choices (s .processes) at-place (suc d)) (body (longest S - d) p v)) group ≡ choiceCubes s states ms d places p v places 0
+    choices-are : (p v : ℕ) → forEach (forEach (choices (s .processes) at-place (suc d)) (body (longest S - d) p v)) group ≡ choiceCubes s leaf ms d places p v places 0
     unfolding choiceCubes
     choices-are p v =
         each-each (choices (s .processes) at-place (suc d)) (body (longest S - d) p v) group
         ∙ ap (forEach (choices (s .processes) at-place (suc d))) (fun-ext (body-is p v))
-        ∙ ap (λ (ns : List (ℕ → ℕ)). forEach ns (labelCubes s states ms d places p v)) (choices-all (s .processes) (suc d) at-place)
-        ∙ ap (λ (k : ℕ). forEach (choicesFrom at-place (suc d) k 0 at-place) (labelCubes s states ms d places p v)) {x = s .processes} {y = s .processes - 0} (omega arith)
+        ∙ ap (λ (ns : List (ℕ → ℕ)). forEach ns (labelCubes s leaf ms d places p v)) (choices-all (s .processes) (suc d) at-place)
+        ∙ ap (λ (k : ℕ). forEach (choicesFrom at-place (suc d) k 0 at-place) (labelCubes s leaf ms d places p v)) {x = s .processes} {y = s .processes - 0} (omega arith)
 
     pub outline-labels : d ≤ longest S → placed ≡ false
-        → outlineCubes s states ms d places ≡ forBelow (s .processes) (λ p. forBelow (s .variables) (λ v. choiceCubes s states ms d places p v places 0))
+        → outlineCubes s leaf ms d places ≡ forBelow (s .processes) (λ p. forBelow (s .variables) (λ v. choiceCubes s leaf ms d places p v places 0))
     outline-labels l e =
         open-labels l e
         ∙ each-below (s .processes) (λ p. forBelow (s .variables) (λ v. forEach (choices (s .processes) at-place (suc d)) (body (longest S - d) p v))) group
@@ -221,12 +223,23 @@ module _ (s : Shape) (states : List ℕ) where
   nobody (suc (suc (suc zero))) = refl
   nobody (suc (suc (suc (suc q)))) = refl
 
-  pub walk-all : (ms : List Message) → shapeCubes S (λ q. getD states q 0) ≡ outlineCubes s states ms 0 (0 ∷ 0 ∷ 0 ∷ 0 ∷ [])
+  pub walk-all : (ms : List Message) → allCubes s leaf ≡ outlineCubes s leaf ms 0 (0 ∷ 0 ∷ 0 ∷ 0 ∷ [])
   unfolding outlineCubes
   walk-all ms =
-      each-map (outlineMemory S) (outlines S (suc (longest S)) 0 [] (λ q. 0)) (λ m. map (λ q. record { state = λ (k : ℕ). getD states k 0; queue = q; memory = m }) (queueShapes (s .processes) (s .variables)))
-      ∙ ap (λ (z : ℕ → ℕ). forEach (outlines S (suc (longest S)) 0 [] z) (cubesAfter s states [])) (fun-ext nobody)
-      ∙ ap (λ (fuel : ℕ). forEach (outlines S fuel 0 [] (λ q. getD (0 ∷ 0 ∷ 0 ∷ 0 ∷ []) q 0)) (cubesAfter s states [])) {x = suc (longest S)} {y = suc (longest S) - 0} (omega arith)
+      ap (λ (z : ℕ → ℕ). forEach (outlines S (suc (longest S)) 0 [] z) (cubesAfter leaf [])) (fun-ext nobody)
+      ∙ ap (λ (fuel : ℕ). forEach (outlines S fuel 0 [] (λ q. getD (0 ∷ 0 ∷ 0 ∷ 0 ∷ []) q 0)) (cubesAfter leaf [])) {x = suc (longest S)} {y = suc (longest S) - 0} (omega arith)
+
+-- of a target, and of a family
+pub target-cubes : (s : Shape) (states : List ℕ) → shapeCubes (shapeOf s) (λ q. getD states q 0) ≡ allCubes s (targetLeaf s states)
+target-cubes s states =
+    each-map (outlineMemory (shapeOf s)) (outlines (shapeOf s) (suc (longest (shapeOf s))) 0 [] (λ q. 0))
+    (λ m. map (λ q. record { state = λ (k : ℕ). getD states k 0; queue = q; memory = m }) (queueShapes (s .processes) (s .variables)))
+
+pub family-cubes : (s : Shape) (e : Cube) → familyCubes (shapeOf s) (configurationOf e) ≡ allCubes s (familyLeaf s e)
+family-cubes s e =
+    sym (each-itself (map (familyCube (configurationOf e)) (memoryShapes (shapeOf s))))
+    ∙ each-map (familyCube (configurationOf e)) (memoryShapes (shapeOf s)) (λ c. c ∷ [])
+    ∙ each-map (outlineMemory (shapeOf s)) (outlines (shapeOf s) (suc (longest (shapeOf s))) 0 [] (λ q. 0)) (λ m. familyCube (configurationOf e) m ∷ [])
 
 -- each fits the shape
 pub shapes-fit : (S : pws.Shape) → pws.ShapeInRange S → (t : ℕ → ℕ) (c : Configuration) → List·Memᴰ c (shapeCubes S t) → Fits (ValueOrFF S) S c

@@ -2,6 +2,7 @@ pub mod StartLaws
 pub mod ShapeLaws
 pub mod ListLaws
 pub mod JudgeLaws
+pub mod EntryLaws
 pub mod QueueWalk
 pub mod ChannelWalk
 pub mod QueueSteps

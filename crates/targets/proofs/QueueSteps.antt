@@ -2,19 +2,18 @@
 use Prim.Native.Nat.{ℕ, _+_, _<_, _≤_}
 use mathlib.Core.Path.{_≡_, sym, subst}
 use mathlib.Core.Bool.{Bool, true, false}
-use mathlib.Core.List.{List, map}
+use mathlib.Core.List.{List}
 use native.Mathlib.Omega.{arith}
 use Rattle.pws.specs.declared.Message.{Message}
 use Rattle.program_part.specs.declared.program.Shape.{Shape}
 use Rattle.whole_file.specs.declared.entry.Cube.{Cube}
 use Rattle.program_part.specs.ProgramPart.{shapeOf}
 use Rattle.whole_file.specs.Cube.{configurationOf}
-use Rattle.lists.specs.Shapes.{queueShapes}
 use Rattle.lists.specs.Decision.{held}
-use Rattle.targets.specs.ShapeCube.{outlineOf, emptyShape, ShapeCube, withWaiting}
+use Rattle.targets.specs.ShapeCube.{outlineOf, ShapeCube, withWaiting}
 use Rattle.by_number.specs.Again.{entriesOf}
 use Rattle.cover.specs.Search.{Searchable}
-use Rattle.targets.specs.Walk.{Judges, withQueues, queueCubes}
+use Rattle.targets.specs.Walk.{Judges, queueCubes, targetLeaf}
 use Rattle.targets.specs.Depth.{SmallShape, AtQueue}
 use Rattle.targets.proofs.JudgeLaws.{judges-same, judges-one, judges-both, judges-first, judges-is}
 use Rattle.targets.proofs.QueueWalk.{cubes-branch, cubes-row, cubes-end, cubes-all, roomy-waiting}
@@ -62,5 +61,5 @@ first-queue w x = record { small = w; process = w .some; variable = omega arith;
 
 pub channel-judged : {s : Shape} {states : List ℕ} {ms : List Message} {d : ℕ} {places : List ℕ} {c : Cube} {f list sum : List ℕ} {k : ℕ} {a : Bool} → SmallShape s
     → ShapeCube s states ms d places c → Judges f list sum k s (queueCubes s (configurationOf c) 0 0) a
-    → Judges f list sum k s (map (withQueues (emptyShape s states (outlineOf ms d places))) (queueShapes (s .processes) (s .variables))) a
+    → Judges f list sum k s (targetLeaf s states (outlineOf ms d places)) a
 channel-judged {s} {states} {ms} {d} {places} {c} w x j = judges-same (cubes-all s states (outlineOf ms d places) (configurationOf c) (w .some) (x .stands)) j

@@ -1,7 +1,7 @@
 -- The walk from the first shape on says whether the target is held.
-use Prim.Native.Nat.{ℕ, zero, suc, _*_, _≤_}
+use Prim.Native.Nat.{ℕ, zero, suc, _*_, _<_, _≤_}
 use mathlib.Core.Path.{_≡_, sym, ap, subst, _∙_}
-use mathlib.Core.Bool.{Bool}
+use mathlib.Core.Bool.{Bool, true, false}
 use mathlib.Core.List.{List, [], _∷_, List·Memᴰ}
 use native.Mathlib.Omega.{arith}
 use lib.ListN.{getD}
@@ -12,9 +12,17 @@ use Rattle.program_part.specs.ProgramPart.{shapeOf}
 use Rattle.lists.specs.Lists.{every}
 use Rattle.lists.specs.Shapes.{shapeCubes}
 use Rattle.lists.specs.Decision.{held, targetHeld}
-use Rattle.by_number.specs.Again.{entriesOf}
-use Rattle.targets.specs.Walk.{Searches, Judges, outlineCubes}
-use Rattle.targets.proofs.ChannelWalk.{walk-all, shapes-fit}
+use Rattle.pws.specs.Machine.{Configuration}
+use Rattle.pws.specs.Entries.{noEntry, entry}
+use Rattle.whole_file.specs.Cube.{configurationOf}
+use Rattle.by_number.specs.Again.{cubeAt, entriesOf}
+use Rattle.by_number.proofs.Tables.{table-number}
+use Rattle.families.specs.Family.{FamilyHeld, familyCubes}
+use Rattle.families.proofs.FullLaws.{cubes-fit, family-full}
+use Rattle.targets.specs.Walk.{Searches, Judges, Leaf, targetLeaf, familyLeaf, outlineCubes, allCubes}
+use Rattle.targets.proofs.ChannelWalk.{walk-all, target-cubes, family-cubes, shapes-fit}
+use Rattle.targets.proofs.JudgeLaws.{judges-same}
+use Rattle.targets.proofs.EntryLaws.{listed}
 
 pub product : (p v : ℕ) → p ≤ 4 → v ≤ 4 → p * v ≤ 16
 product zero v a b = omega arith
@@ -24,10 +32,32 @@ product (suc (suc (suc zero))) v a b = omega arith
 product (suc (suc (suc (suc zero)))) v a b = omega arith
 product (suc (suc (suc (suc (suc p))))) v a b = absurd (omega arith)
 
-pub target-is : (s : Shape) (states : List ℕ) (ms : List Message) (f list sum : List ℕ) (n : ℕ) (r : Bool) → Judges f list sum n s (outlineCubes s states ms 0 (0 ∷ 0 ∷ 0 ∷ 0 ∷ [])) r
+-- there are no shapes to be walked where the sizes are out of range
+pub never : {f list sum : List ℕ} {n : ℕ} {s : Shape} {cs : List Configuration} → ((h : pws.ShapeInRange (shapeOf s)) → ⊥) → Judges f list sum n s cs false
+never x = record { judged = λ h a. absurd (x (h .shape)) }
+
+pub walked : (s : Shape) (leaf : Leaf) (ms : List Message) {f list sum : List ℕ} {n : ℕ} {r : Bool} → Judges f list sum n s (outlineCubes s leaf ms 0 (0 ∷ 0 ∷ 0 ∷ 0 ∷ [])) r
+    → Judges f list sum n s (allCubes s leaf) r
+walked s leaf ms j = judges-same (walk-all s leaf ms) j
+
+pub target-is : (s : Shape) (states : List ℕ) (f list sum : List ℕ) (n : ℕ) (r : Bool) → Judges f list sum n s (allCubes s (targetLeaf s states)) r
     → (P : pws.Program) → P .shape ≡ shapeOf s → Searches f list sum n s → r ≡ targetHeld P (entriesOf f list n) (λ q. getD states q 0)
-target-is s states ms f list sum n r j P e h =
-    let w = walk-all s states ms in
+target-is s states f list sum n r j P e h =
+    let w = target-cubes s states in
     j .judged h (λ c m. shapes-fit (shapeOf s) (h .shape) (λ q. getD states q 0) c (subst (List·Memᴰ c) (sym w) m))
     ∙ ap (every (held (shapeOf s) (entriesOf f list n))) (sym w)
     ∙ ap (λ (S : pws.Shape). every (held S (entriesOf f list n)) (shapeCubes S (λ q. getD states q 0))) (sym e)
+
+pub family-is : (s : Shape) (k : ℕ) (f list sum : List ℕ) (n : ℕ) (r : Bool) → k < n → Judges f list sum n s (allCubes s (familyLeaf s (cubeAt f list k))) r
+    → Searches f list sum n s → r ≡ every (held (shapeOf s) (entriesOf f list n)) (familyCubes (shapeOf s) (configurationOf (cubeAt f list k)))
+family-is s k f list sum n r l j h =
+    let w = family-cubes s (cubeAt f list k) in
+    j .judged h (λ c m. cubes-fit (shapeOf s) (h .shape) (entriesOf f list n) (listed f list sum n s h) (configurationOf (cubeAt f list k)) (h .entries k l) c (subst (List·Memᴰ c) (sym w) m))
+    ∙ ap (every (held (shapeOf s) (entriesOf f list n))) (sym w)
+
+pub family-yes : (s : Shape) (k : ℕ) (f list sum : List ℕ) (n : ℕ) {r : Bool} → k < n → Searches f list sum n s
+    → r ≡ every (held (shapeOf s) (entriesOf f list n)) (familyCubes (shapeOf s) (configurationOf (cubeAt f list k))) → r ≡ true
+    → FamilyHeld (shapeOf s) (entriesOf f list n) (entry (entriesOf f list n) k)
+family-yes s k f list sum n l h x y =
+    subst (FamilyHeld (shapeOf s) (entriesOf f list n)) (sym (table-number (λ i. configurationOf (cubeAt f list i)) n k noEntry l))
+    (family-full (shapeOf s) (h .shape) (entriesOf f list n) (listed f list sum n s h) (configurationOf (cubeAt f list k)) (h .entries k l) (sym x ∙ y))

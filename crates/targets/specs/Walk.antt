@@ -15,9 +15,11 @@ use Rattle.program_part.specs.ProgramPart.{shapeOf}
 use Rattle.whole_file.specs.Cube.{channelOf, configurationOf}
 use Rattle.lists.specs.Lists.{forEach, every}
 use Rattle.lists.specs.Cubes.{anyMessage}
-use Rattle.lists.specs.Shapes.{Outline, allowed, outlines, longest, queueShapes}
+use Rattle.lists.specs.Shapes.{Outline, allowed, outlines, longest, outlineMemory, queueShapes}
 use Rattle.lists.specs.Decision.{held}
+use Rattle.whole_file.specs.declared.entry.Cube.{Cube}
 use Rattle.by_number.specs.Again.{cubeAt, entriesOf}
+use Rattle.families.specs.Family.{familyCube}
 use Rattle.summary.specs.Summary.{Summed}
 use Rattle.targets.specs.ShapeCube.{emptyShape}
 
@@ -67,25 +69,45 @@ choicesFrom place d (suc left) q new = elim (eqb (place q) 0) [
   | false ↦ choicesFrom place d left (suc q) new
 ]
 
--- the shapes with these messages, newest first, before those of an outline
-abbrev pub cubesAfter : Shape → List ℕ → List Message → Outline → List Configuration
-cubesAfter s states front o =
-    map (withQueues (emptyShape s states (record { channel = front ++ o .channel; place = o .place }))) (queueShapes (s .processes) (s .variables))
+-- what is to be held of an outline that is complete
+abbrev pub Leaf : Type 0
+Leaf = Outline → List Configuration
+
+-- of a target: the shapes with these local states, with every choice of empty queues
+abbrev pub targetLeaf : Shape → List ℕ → Leaf
+targetLeaf s states o = map (withQueues (emptyShape s states o)) (queueShapes (s .processes) (s .variables))
+
+-- of a family: the one cube with its local states, queues and newest values
+abbrev pub familyLeaf : Shape → Cube → Leaf
+familyLeaf s e o = familyCube (configurationOf e) (outlineMemory (shapeOf s) o) ∷ []
+
+-- of the target for 0, and else of the family of an entry, counted from 1
+abbrev pub leafOf : List ℕ → List ℕ → Shape → List ℕ → ℕ → Leaf
+leafOf f list s states zero = targetLeaf s states
+leafOf f list s states (suc k) = familyLeaf s (cubeAt f list k)
+
+-- that of these messages, newest first, before those of an outline
+abbrev pub cubesAfter : Leaf → List Message → Outline → List Configuration
+cubesAfter leaf front o = leaf (record { channel = front ++ o .channel; place = o .place })
 
 -- the shapes whose newest d messages are these, with these places
-unfoldable pub outlineCubes : Shape → List ℕ → List Message → ℕ → List ℕ → List Configuration
-outlineCubes s states ms d places =
-    forEach (outlines (shapeOf s) (suc (longest (shapeOf s)) - d) d (channelOf ms d) (λ q. getD places q 0)) (cubesAfter s states (take d ms))
+unfoldable pub outlineCubes : Shape → Leaf → List Message → ℕ → List ℕ → List Configuration
+outlineCubes s leaf ms d places =
+    forEach (outlines (shapeOf s) (suc (longest (shapeOf s)) - d) d (channelOf ms d) (λ q. getD places q 0)) (cubesAfter leaf (take d ms))
+
+-- all of them
+abbrev pub allCubes : Shape → Leaf → List Configuration
+allCubes s leaf = forEach (outlines (shapeOf s) (suc (longest (shapeOf s))) 0 [] (λ q. 0)) leaf
 
 -- those whose next message has the label (p, v), and the places new
-abbrev pub labelCubes : Shape → List ℕ → List Message → ℕ → List ℕ → ℕ → ℕ → (ℕ → ℕ) → List Configuration
-labelCubes s states ms d places p v new = elim (allowed (shapeOf s) (channelOf ms d) (λ q. getD places q 0) new p v) [
+abbrev pub labelCubes : Shape → Leaf → List Message → ℕ → List ℕ → ℕ → ℕ → (ℕ → ℕ) → List Configuration
+labelCubes s leaf ms d places p v new = elim (allowed (shapeOf s) (channelOf ms d) (λ q. getD places q 0) new p v) [
   | true ↦ forEach (outlines (shapeOf s) (longest (shapeOf s) - d) (suc d) (anyMessage (shapeOf s) p v ∷ channelOf ms d) new)
-      (cubesAfter s states (take d ms ++ (anyMessage (shapeOf s) p v ∷ [])))
+      (cubesAfter leaf (take d ms ++ (anyMessage (shapeOf s) p v ∷ [])))
   | false ↦ []
 ]
 
 -- and those whose places are these up to q
-unfoldable pub choiceCubes : Shape → List ℕ → List Message → ℕ → List ℕ → ℕ → ℕ → List ℕ → ℕ → List Configuration
-choiceCubes s states ms d places p v new q =
-    forEach (choicesFrom (λ k. getD places k 0) (suc d) (s .processes - q) q (λ k. getD new k 0)) (labelCubes s states ms d places p v)
+unfoldable pub choiceCubes : Shape → Leaf → List Message → ℕ → List ℕ → ℕ → ℕ → List ℕ → ℕ → List Configuration
+choiceCubes s leaf ms d places p v new q =
+    forEach (choicesFrom (λ k. getD places k 0) (suc d) (s .processes - q) q (λ k. getD new k 0)) (labelCubes s leaf ms d places p v)

@@ -1,6 +1,5 @@
 // Targets and starts of a list (theory, sections 3 and 4): the shapes of a target here, starts in their own file.
 ghost use mathlib.Core.Path.{_≡_};
-ghost use mathlib.Core.List.{map};
 ghost use Prim.Native.Nat.{_+_, _-_, _*_, _≤_, _<_};
 ghost use lib.ListN.{getD, take};
 ghost use mathlib.Core.Bool.{cond, not};
@@ -9,16 +8,19 @@ ghost use Rattle.pws.specs.Program.{Program};
 ghost use Rattle.pws.specs.Machine.{allBelow, labelled};
 ghost use Rattle.program_part.specs.ProgramPart.{shapeOf};
 ghost use Rattle.whole_file.specs.Cube.{channelOf, configurationOf};
-ghost use Rattle.lists.specs.Lists.{anyOf};
+ghost use Rattle.lists.specs.Lists.{anyOf, every};
 ghost use Rattle.lists.specs.Cubes.{anyMessage};
-ghost use Rattle.lists.specs.Shapes.{allowed, queueShapes};
-ghost use Rattle.lists.specs.Decision.{targetHeld};
-ghost use Rattle.targets.specs.ShapeCube.{ShapeCube, outlineOf, emptyShape, withWaiting};
-ghost use Rattle.by_number.specs.Again.{entriesOf};
-ghost use Rattle.targets.specs.Walk.{Searches, Judges, withQueues, queueCubes, outlineCubes, choiceCubes};
+ghost use Rattle.lists.specs.Shapes.{allowed};
+ghost use Rattle.lists.specs.Decision.{held, targetHeld};
+ghost use Rattle.targets.specs.ShapeCube.{ShapeCube, outlineOf, withWaiting};
+ghost use Rattle.by_number.specs.Again.{cubeAt, entriesOf};
+ghost use Rattle.families.specs.Family.{familyCube, familyCubes};
+ghost use Rattle.targets.specs.Walk.{Searches, Judges, queueCubes, leafOf, outlineCubes, allCubes, choiceCubes};
 ghost use Rattle.targets.specs.Depth.{SmallShape, AtQueue, AtMessage, AtPlace};
 use crate::starts::same_bytes;
+use by_number::entry_at;
 use cover::search::search;
+use families::newest_values;
 use matching::any_message;
 use matching::least;
 use program_part::bytes::both;
@@ -29,9 +31,11 @@ use whole_file::entry::Cube;
 use whole_file::entry::Queue;
 
 mod groups;
+mod members;
 mod starts;
 
 pub use groups::put_groups;
+pub use members::put_member;
 pub use starts::entry_started;
 
 // ---- shapes (section 3)
@@ -163,7 +167,39 @@ fn with_waiting(cube: Cube, p: usize, v: usize) -> Cube
     next
 }
 
-// ---- targets: the walk ends at the first shape that is not held
+// An entry with the messages and pointers of a shape, whose newest message has the entry's newest values.
+fn with_memory(entry: Cube, shape: Cube) -> Cube
+    ensures { λ r. ⌜ (1 ≤ entry .count → entry .count ≤ 20 → 1 ≤ shape .count → shape .count ≤ 20 → (configurationOf r ≡ familyCube (configurationOf entry) (configurationOf shape .memory)) × ((r .queues ≡ entry .queues) × (r .count ≡ shape .count))) ⌝ }
+{
+    let n = shape.count;
+    if n == 0 {
+        return shape;
+    }
+    if 20 < n {
+        return shape;
+    }
+    let states = entry.states;
+    let queues = entry.queues;
+    let pointers = shape.pointers;
+    let values = newest_values(entry);
+    let mut messages = shape.messages;
+    let at = n - 1;
+    let newest = messages[at];
+    messages[at] = Message {
+        process: newest.process,
+        variable: newest.variable,
+        snapshot: values,
+    };
+    Cube {
+        states: states,
+        pointers: pointers,
+        queues: queues,
+        messages: messages,
+        count: n,
+    }
+}
+
+// ---- the walk ends at the first shape that is not held
 
 // The cube, and the shapes that differ from it in the queues of p from v on, or in those of the processes after p.
 fn queues_held(
@@ -195,7 +231,7 @@ fn queues_held(
     search(file, list, sum, n, shape, cube)
 }
 
-// The shapes with these messages, newest first, and these places.
+// The shapes with these messages, newest first, and these places; of a family, the one cube with them.
 fn channel_held(
     file: &[u8],
     list: &[u8],
@@ -206,12 +242,17 @@ fn channel_held(
     messages: [Message; 20],
     d: usize,
     places: [u8; 4],
+    rep: usize,
 ) -> bool
     requires { ⌜ SmallShape shape × (d ≤ 20) ⌝ }
-    ensures { λ r. ⌜ Judges (now (file .entry)) (now (list .entry)) (now (sum .entry)) n shape (map (withQueues (emptyShape shape states (outlineOf messages d places))) (queueShapes (shape .processes) (shape .variables))) r ⌝ }
+    ensures { λ r. ⌜ Judges (now (file .entry)) (now (list .entry)) (now (sum .entry)) n shape (leafOf (now (file .entry)) (now (list .entry)) shape states rep (outlineOf messages d places)) r ⌝ }
 {
     let cube = shape_cube(shape, states, messages, d, places);
-    queues_held(file, list, sum, n, shape, cube, 0, 0)
+    if rep == 0 {
+        return queues_held(file, list, sum, n, shape, cube, 0, 0);
+    }
+    let entry = entry_at(file, list, rep - 1);
+    search(file, list, sum, n, shape, with_memory(entry, cube))
 }
 
 // The shapes whose newest d messages are these, with these places; no channel has more than `most`.
@@ -226,14 +267,17 @@ fn outlines_held(
     messages: [Message; 20],
     d: usize,
     places: [u8; 4],
+    rep: usize,
 ) -> bool
     requires { ⌜ AtMessage shape most d ⌝ }
-    ensures { λ r. ⌜ Judges (now (file .entry)) (now (list .entry)) (now (sum .entry)) n shape (outlineCubes shape states messages d places) r ⌝ }
+    ensures { λ r. ⌜ Judges (now (file .entry)) (now (list .entry)) (now (sum .entry)) n shape (outlineCubes shape (leafOf (now (file .entry)) (now (list .entry)) shape states rep) messages d places) r ⌝ }
 {
     let processes = shape.processes;
     let variables = shape.variables;
     if all_placed(processes, places) {
-        return channel_held(file, list, sum, n, shape, states, messages, d, places);
+        return channel_held(
+            file, list, sum, n, shape, states, messages, d, places, rep,
+        );
     }
     if most <= d {
         return true;
@@ -255,6 +299,7 @@ fn outlines_held(
                 v,
                 places,
                 0,
+                rep,
             );
             if !held {
                 return held;
@@ -280,9 +325,10 @@ fn choices_held(
     v: usize,
     new: [u8; 4],
     q: usize,
+    rep: usize,
 ) -> bool
     requires { ⌜ AtPlace shape most d p v q ⌝ }
-    ensures { λ r. ⌜ Judges (now (file .entry)) (now (list .entry)) (now (sum .entry)) n shape (choiceCubes shape states messages d places p v new q) r ⌝ }
+    ensures { λ r. ⌜ Judges (now (file .entry)) (now (list .entry)) (now (sum .entry)) n shape (choiceCubes shape (leafOf (now (file .entry)) (now (list .entry)) shape states rep) messages d places p v new q) r ⌝ }
 {
     let processes = shape.processes;
     if processes <= q {
@@ -292,7 +338,19 @@ fn choices_held(
         let message = any_message(shape, p as u8, v as u8);
         let mut longer = messages;
         longer[d] = message;
-        return outlines_held(file, list, sum, n, shape, states, most, longer, d + 1, new);
+        return outlines_held(
+            file,
+            list,
+            sum,
+            n,
+            shape,
+            states,
+            most,
+            longer,
+            d + 1,
+            new,
+            rep,
+        );
     }
     let unplaced = choices_held(
         file,
@@ -309,6 +367,7 @@ fn choices_held(
         v,
         new,
         q + 1,
+        rep,
     );
     if !unplaced {
         return unplaced;
@@ -333,19 +392,21 @@ fn choices_held(
         v,
         placed,
         q + 1,
+        rep,
     )
 }
 
-// All configurations in this target are above the list (T6).
-pub fn target_held(
+// All shapes: those of a target with these local states for 0, and else the cubes of the family of entry `rep`, counted from 1.
+fn shapes_held(
     file: &[u8],
     list: &[u8],
     sum: &[u8],
     n: usize,
     shape: Shape,
     states: [u8; 4],
+    rep: usize,
 ) -> bool
-    ensures { λ r. ⌜ ((P : Program) → P .shape ≡ shapeOf shape → Searches (now (file .entry)) (now (list .entry)) (now (sum .entry)) n shape → r ≡ targetHeld P (entriesOf (now (file .entry)) (now (list .entry)) n) (λ q. getD states q 0)) ⌝ }
+    ensures { λ r. ⌜ Judges (now (file .entry)) (now (list .entry)) (now (sum .entry)) n shape (allCubes shape (leafOf (now (file .entry)) (now (list .entry)) shape states rep)) r ⌝ }
 {
     let processes = shape.processes;
     let variables = shape.variables;
@@ -366,5 +427,30 @@ pub fn target_held(
         snapshot: snapshot,
     }; 20];
     let places = [0u8; 4];
-    outlines_held(file, list, sum, n, shape, states, most, messages, 0, places)
+    outlines_held(
+        file, list, sum, n, shape, states, most, messages, 0, places, rep,
+    )
+}
+
+// All configurations in this target are above the list (T6).
+pub fn target_held(
+    file: &[u8],
+    list: &[u8],
+    sum: &[u8],
+    n: usize,
+    shape: Shape,
+    states: [u8; 4],
+) -> bool
+    ensures { λ r. ⌜ ((P : Program) → P .shape ≡ shapeOf shape → Searches (now (file .entry)) (now (list .entry)) (now (sum .entry)) n shape → r ≡ targetHeld P (entriesOf (now (file .entry)) (now (list .entry)) n) (λ q. getD states q 0)) ⌝ }
+{
+    shapes_held(file, list, sum, n, shape, states, 0)
+}
+
+// All configurations in the family of entry k are above the list.
+fn family_held(file: &[u8], list: &[u8], sum: &[u8], n: usize, shape: Shape, k: usize) -> bool
+    requires { ⌜ k < 524288 ⌝ }
+    ensures { λ r. ⌜ (k < n → Searches (now (file .entry)) (now (list .entry)) (now (sum .entry)) n shape → r ≡ every (held (shapeOf shape) (entriesOf (now (file .entry)) (now (list .entry)) n)) (familyCubes (shapeOf shape) (configurationOf (cubeAt (now (file .entry)) (now (list .entry)) k)))) ⌝ }
+{
+    let none = [0u8; 4];
+    shapes_held(file, list, sum, n, shape, none, k + 1)
 }
