@@ -4,3 +4,4 @@ pub mod TakeLaws
 pub mod SerialiseLaws
 pub mod UpdateLaws
 pub mod FullLaws
+pub mod FamilyLaws

@@ -22,6 +22,7 @@ use Rattle.program_part.specs.ProgramPart.{shapeOf, programOf}
 use Rattle.whole_file.specs.Cube.{configurationOf}
 use Rattle.by_number.specs.Again.{cubeAt, entriesOf, transitionOf}
 use Rattle.full_states.specs.Table.{isFull, statesFrom}
+use Rattle.families.specs.Family.{Families}
 use Rattle.summary.specs.Summary.{Summed}
 use Rattle.before.specs.Before.{Sound}
 use Rattle.closing.specs.declared.Opening.{Opening}
@@ -61,7 +62,7 @@ pub record Stepping (g : List ℕ) (p : Program) (c : Cube) : Type 0 where
   pub program : pws.ProgramInRange (programOf g p)
   pub sound : Sound (p .shape) c
 
--- And the entries with it. It is the condition of this crate's contracts, beside `Full` of a table of full local states where one is lent; on
+-- And the entries with it. It is the condition of this crate's contracts, beside `Full` of a table of full local states and `Families` of one of full families where such are lent; on
 -- other bytes its functions end, and nothing is said of what they give.
 pub record Walkable (g f list sum : List ℕ) (n : ℕ) (p : Program) (c : Cube) : Type 0 where
   pub count : n ≤ 524288
@@ -83,9 +84,9 @@ pub record Acting (P : pws.Program) (e : Configuration) (j p x : ℕ) (o : Opera
   pub is : transition P j ≡ record { process = p; from = x; operation = o; to = e .state p }
 
 -- r says whether all predecessor cubes for such a transition are held, whatever bytes the program is read from
-abbrev pub TakenHeld : List ℕ → List ℕ → List ℕ → ℕ → Program → Cube → ℕ → ℕ → Operation → Bool → Type 0
-TakenHeld f list sum n p c q x o r =
-    (g : List ℕ) → Walkable g f list sum n p c → (j : ℕ) → Acting (programOf g p) (configurationOf c) j q x o → r ≡ stepHeld (programOf g p) (entriesOf f list n) (configurationOf c) (Take j)
+abbrev pub TakenHeld : List ℕ → List ℕ → List ℕ → List ℕ → ℕ → Program → Cube → ℕ → ℕ → Operation → Bool → Type 0
+TakenHeld families f list sum n p c q x o r =
+    Families (shapeOf (p .shape)) (entriesOf f list n) families → (g : List ℕ) → Walkable g f list sum n p c → (j : ℕ) → Acting (programOf g p) (configurationOf c) j q x o → r ≡ stepHeld (programOf g p) (entriesOf f list n) (configurationOf c) (Take j)
 
 -- the newest message is one that a serialise of p and v made
 pub record Serialising (g f list sum : List ℕ) (n : ℕ) (s : Program) (c : Cube) (p v : ℕ) : Type 0 where

@@ -7,11 +7,12 @@ ghost use mathlib.Core.Bool.{true};
 ghost use mathlib.Core.List.{List};
 ghost use Prim.Native.Nat.{ℕ, _+_, _/_, _%_, _≤_, _<_, min};
 ghost use Rattle.pws.specs.declared.Step.the-variants.{Take, Serialise, Update};
-ghost use Rattle.program_part.specs.ProgramPart.{programOf};
+ghost use Rattle.program_part.specs.ProgramPart.{shapeOf, programOf};
 ghost use Rattle.whole_file.specs.Cube.{configurationOf};
 ghost use Rattle.by_number.specs.Again.{cubeAt, entriesOf};
 ghost use Rattle.before.specs.Before.{LastWrites};
 ghost use Rattle.full_states.specs.Table.{Full};
+ghost use Rattle.families.specs.Family.{Families};
 ghost use Rattle.closing.specs.Walk.{stepHeld, walkStep, LowestFailing, Walkable, Surrounded, openingAt, openingOf};
 use crate::serialise::serialised_held;
 use crate::take::before_held;
@@ -20,6 +21,7 @@ use before::messages::last_writes;
 use before::newest::newest;
 use by_number::entry_at;
 use by_number::transition_of;
+use families::in_full_family;
 use full_states::is_full;
 use full_states::states_from;
 use matching::least;
@@ -30,6 +32,7 @@ use pws::Step;
 use summary::states_at;
 use whole_file::entry::Cube;
 
+mod finding;
 mod serialise;
 mod take;
 mod update;
@@ -43,6 +46,7 @@ pub enum Opening {
 // The lowest transition one of whose predecessor cubes is not held, or their number.
 fn open_take(
     full: &[u8],
+    families: &[u8],
     code: &[u8],
     file: &[u8],
     list: &[u8],
@@ -52,7 +56,7 @@ fn open_take(
     cube: Cube,
     writes: [u8; 16],
 ) -> usize
-    ensures { λ r. ⌜ (r ≤ 256) × (Walkable (now (code .entry)) (now (file .entry)) (now (list .entry)) (now (sum .entry)) n program cube → LastWrites writes (configurationOf cube .memory) → Full (programOf (now (code .entry)) program) (entriesOf (now (file .entry)) (now (list .entry)) n) (now (full .entry)) → LowestFailing (λ j. stepHeld (programOf (now (code .entry)) program) (entriesOf (now (file .entry)) (now (list .entry)) n) (configurationOf cube) (Take j)) (min (program .transitions .count) 256) r) ⌝ }
+    ensures { λ r. ⌜ (r ≤ 256) × (Walkable (now (code .entry)) (now (file .entry)) (now (list .entry)) (now (sum .entry)) n program cube → LastWrites writes (configurationOf cube .memory) → Full (programOf (now (code .entry)) program) (entriesOf (now (file .entry)) (now (list .entry)) n) (now (full .entry)) → Families (shapeOf (program .shape)) (entriesOf (now (file .entry)) (now (list .entry)) n) (now (families .entry)) → LowestFailing (λ j. stepHeld (programOf (now (code .entry)) program) (entriesOf (now (file .entry)) (now (list .entry)) n) (configurationOf cube) (Take j)) (min (program .transitions .count) 256) r) ⌝ }
 {
     let row = program.transitions;
     let m = least(row.count, 256);
@@ -63,7 +67,7 @@ fn open_take(
         if of_four(states, transition.process) != transition.to {
             continue;
         }
-        if !before_held(full, file, list, sum, n, program, cube, writes, transition) {
+        if !before_held(full, families, file, list, sum, n, program, cube, writes, transition) {
             return j;
         }
     }
@@ -72,6 +76,7 @@ fn open_take(
 
 // The serialise of process p and variable v has the number 4 p + v: the lowest that is open, or 16.
 fn open_serialise(
+    families: &[u8],
     file: &[u8],
     list: &[u8],
     sum: &[u8],
@@ -79,9 +84,9 @@ fn open_serialise(
     program: Program,
     cube: Cube,
 ) -> usize
-    ensures { λ r. ⌜ (r ≤ 1275) × ((g : List ℕ) → Walkable g (now (file .entry)) (now (list .entry)) (now (sum .entry)) n program cube → LowestFailing (λ i. stepHeld (programOf g program) (entriesOf (now (file .entry)) (now (list .entry)) n) (configurationOf cube) (Serialise (i / 4) (i % 4))) 16 r) ⌝ }
+    ensures { λ r. ⌜ (r ≤ 1275) × (Families (shapeOf (program .shape)) (entriesOf (now (file .entry)) (now (list .entry)) n) (now (families .entry)) → (g : List ℕ) → Walkable g (now (file .entry)) (now (list .entry)) (now (sum .entry)) n program cube → LowestFailing (λ i. stepHeld (programOf g program) (entriesOf (now (file .entry)) (now (list .entry)) n) (configurationOf cube) (Serialise (i / 4) (i % 4))) 16 r) ⌝ }
 {
-    if serialised_held(file, list, sum, n, program, cube) {
+    if serialised_held(families, file, list, sum, n, program, cube) {
         return 16;
     }
     let message = newest(cube);
@@ -114,6 +119,7 @@ fn open_update(
 // none.
 fn cube_open(
     full: &[u8],
+    families: &[u8],
     code: &[u8],
     file: &[u8],
     list: &[u8],
@@ -122,12 +128,12 @@ fn cube_open(
     program: Program,
     cube: Cube,
 ) -> usize
-    ensures { λ r. ⌜ (Walkable (now (code .entry)) (now (file .entry)) (now (list .entry)) (now (sum .entry)) n program cube → Full (programOf (now (code .entry)) program) (entriesOf (now (file .entry)) (now (list .entry)) n) (now (full .entry)) → LowestFailing (λ j. stepHeld (programOf (now (code .entry)) program) (entriesOf (now (file .entry)) (now (list .entry)) n) (configurationOf cube) (walkStep (min (program .transitions .count) 256) j)) (min (program .transitions .count) 256 + 20) r) ⌝ }
+    ensures { λ r. ⌜ (Walkable (now (code .entry)) (now (file .entry)) (now (list .entry)) (now (sum .entry)) n program cube → Full (programOf (now (code .entry)) program) (entriesOf (now (file .entry)) (now (list .entry)) n) (now (full .entry)) → Families (shapeOf (program .shape)) (entriesOf (now (file .entry)) (now (list .entry)) n) (now (families .entry)) → LowestFailing (λ j. stepHeld (programOf (now (code .entry)) program) (entriesOf (now (file .entry)) (now (list .entry)) n) (configurationOf cube) (walkStep (min (program .transitions .count) 256) j)) (min (program .transitions .count) 256 + 20) r) ⌝ }
 {
     let row = program.transitions;
     let m = least(row.count, 256);
     let writes = last_writes(cube);
-    let t = open_take(full, code, file, list, sum, n, program, cube, writes);
+    let t = open_take(full, families, code, file, list, sum, n, program, cube, writes);
     if t < m {
         return t;
     }
@@ -136,9 +142,13 @@ fn cube_open(
     if is_full(full, program.shape, states) {
         return m + 20;
     }
-    let s = open_serialise(file, list, sum, n, program, cube);
+    let s = open_serialise(families, file, list, sum, n, program, cube);
     if s < 16 {
         return m + s;
+    }
+    // an update leaves an entry's family as it is
+    if in_full_family(families, file, list, n, program.shape, cube) {
+        return m + 20;
     }
     let u = open_update(file, list, sum, n, program, cube, writes);
     m + 16 + u
@@ -193,10 +203,11 @@ fn is_surrounded(full: &[u8], code: &[u8], program: Program, states: [u8; 4]) ->
     true
 }
 
-// Through which step does a configuration outside the list get above entry k? `sum` is the list's summary, and `full` a table of full local
-// states: what has such is not searched for.
+// Through which step does a configuration outside the list get above entry k? `sum` is the list's summary, `full` a table of full local states
+// and `families` one of full families: what is in such is not searched for.
 pub fn open_step(
     full: &[u8],
+    families: &[u8],
     code: &[u8],
     file: &[u8],
     list: &[u8],
@@ -205,7 +216,7 @@ pub fn open_step(
     program: Program,
     k: usize,
 ) -> Opening
-    ensures { λ r. ⌜ (Walkable (now (code .entry)) (now (file .entry)) (now (list .entry)) (now (sum .entry)) n program (cubeAt (now (file .entry)) (now (list .entry)) k) → Full (programOf (now (code .entry)) program) (entriesOf (now (file .entry)) (now (list .entry)) n) (now (full .entry)) → r ≡ openingOf (programOf (now (code .entry)) program) (entriesOf (now (file .entry)) (now (list .entry)) n) (configurationOf (cubeAt (now (file .entry)) (now (list .entry)) k))) ⌝ }
+    ensures { λ r. ⌜ (Walkable (now (code .entry)) (now (file .entry)) (now (list .entry)) (now (sum .entry)) n program (cubeAt (now (file .entry)) (now (list .entry)) k) → Full (programOf (now (code .entry)) program) (entriesOf (now (file .entry)) (now (list .entry)) n) (now (full .entry)) → Families (shapeOf (program .shape)) (entriesOf (now (file .entry)) (now (list .entry)) n) (now (families .entry)) → r ≡ openingOf (programOf (now (code .entry)) program) (entriesOf (now (file .entry)) (now (list .entry)) n) (configurationOf (cubeAt (now (file .entry)) (now (list .entry)) k))) ⌝ }
 {
     // the entry itself is not read where nothing is to be searched for
     if is_surrounded(full, code, program, states_at(file, list, program.shape, k)) {
@@ -214,5 +225,5 @@ pub fn open_step(
     let row = program.transitions;
     let m = least(row.count, 256);
     let cube = entry_at(file, list, k);
-    opening_at(m, cube_open(full, code, file, list, sum, n, program, cube))
+    opening_at(m, cube_open(full, families, code, file, list, sum, n, program, cube))
 }

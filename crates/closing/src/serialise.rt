@@ -13,6 +13,7 @@ ghost use Rattle.program_part.specs.ProgramPart.{shapeOf, programOf};
 ghost use Rattle.whole_file.specs.Cube.{configurationOf};
 ghost use Rattle.by_number.specs.Again.{entriesOf};
 ghost use Rattle.before.specs.Before.{serialiseBefore};
+ghost use Rattle.families.specs.Family.{Families};
 ghost use Rattle.closing.specs.Walk.{stepHeld, Walkable, Serialising};
 use before::messages::older_write;
 use before::newest::alike_before;
@@ -21,7 +22,7 @@ use before::serialise::before_serialise;
 use before::serialise::before_serialise_inside;
 use before::serialise::before_serialise_on_top;
 use before::serialise::may_serialise;
-use cover::search::search;
+use crate::finding::found;
 use matching::least;
 use program_part::program::Program;
 use whole_file::entry::Cube;
@@ -29,6 +30,7 @@ use whole_file::steps::pair_exists;
 
 // With message k inside, which is past LastWrite: if there is such a cube, it is held.
 fn inside_held(
+    families: &[u8],
     file: &[u8],
     list: &[u8],
     sum: &[u8],
@@ -40,13 +42,14 @@ fn inside_held(
     last: usize,
     k: u8,
 ) -> bool
-    ensures { λ r. ⌜ ((g : List ℕ) → Serialising g (now (file .entry)) (now (list .entry)) (now (sum .entry)) n program cube p v → serialiseKind (configurationOf cube .memory) p v undone ≡ true → last ≡ lastWrite (withoutNewest (configurationOf cube .memory)) p v → k < cube .count → r ≡ cond (ltb last k) (held (shapeOf (program .shape)) (entriesOf (now (file .entry)) (now (list .entry)) n) (serialiseBefore (shapeOf (program .shape)) (configurationOf cube) p v (inside k))) true) ⌝ }
+    ensures { λ r. ⌜ (Families (shapeOf (program .shape)) (entriesOf (now (file .entry)) (now (list .entry)) n) (now (families .entry)) → (g : List ℕ) → Serialising g (now (file .entry)) (now (list .entry)) (now (sum .entry)) n program cube p v → serialiseKind (configurationOf cube .memory) p v undone ≡ true → last ≡ lastWrite (withoutNewest (configurationOf cube .memory)) p v → k < cube .count → r ≡ cond (ltb last k) (held (shapeOf (program .shape)) (entriesOf (now (file .entry)) (now (list .entry)) n) (serialiseBefore (shapeOf (program .shape)) (configurationOf cube) p v (inside k))) true) ⌝ }
 {
     let shape = program.shape;
     if (k as usize) <= last {
         return true;
     }
-    search(
+    found(
+        families,
         file,
         list,
         sum,
@@ -57,6 +60,7 @@ fn inside_held(
 }
 
 fn insides_held(
+    families: &[u8],
     file: &[u8],
     list: &[u8],
     sum: &[u8],
@@ -66,12 +70,12 @@ fn insides_held(
     p: u8,
     v: u8,
 ) -> bool
-    ensures { λ r. ⌜ ((g : List ℕ) → Serialising g (now (file .entry)) (now (list .entry)) (now (sum .entry)) n program cube p v → serialiseKind (configurationOf cube .memory) p v undone ≡ true → r ≡ allBelow (cube .count) (λ k. cond (ltb (lastWrite (withoutNewest (configurationOf cube .memory)) p v) k) (held (shapeOf (program .shape)) (entriesOf (now (file .entry)) (now (list .entry)) n) (serialiseBefore (shapeOf (program .shape)) (configurationOf cube) p v (inside k))) true)) ⌝ }
+    ensures { λ r. ⌜ (Families (shapeOf (program .shape)) (entriesOf (now (file .entry)) (now (list .entry)) n) (now (families .entry)) → (g : List ℕ) → Serialising g (now (file .entry)) (now (list .entry)) (now (sum .entry)) n program cube p v → serialiseKind (configurationOf cube .memory) p v undone ≡ true → r ≡ allBelow (cube .count) (λ k. cond (ltb (lastWrite (withoutNewest (configurationOf cube .memory)) p v) k) (held (shapeOf (program .shape)) (entriesOf (now (file .entry)) (now (list .entry)) n) (serialiseBefore (shapeOf (program .shape)) (configurationOf cube) p v (inside k))) true)) ⌝ }
 {
     let last = older_write(cube, p as usize, v as usize);
     let count = least(cube.count, 20);
     for k in 0..count {
-        if !inside_held(file, list, sum, n, program, cube, p, v, last, k as u8) {
+        if !inside_held(families, file, list, sum, n, program, cube, p, v, last, k as u8) {
             return false;
         }
     }
@@ -80,6 +84,7 @@ fn insides_held(
 
 // Are all predecessor cubes for a serialise of the newest message's label held?
 fn label_held(
+    families: &[u8],
     file: &[u8],
     list: &[u8],
     sum: &[u8],
@@ -89,10 +94,11 @@ fn label_held(
     p: u8,
     v: u8,
 ) -> bool
-    ensures { λ r. ⌜ ((g : List ℕ) → Serialising g (now (file .entry)) (now (list .entry)) (now (sum .entry)) n program cube p v → r ≡ stepHeld (programOf g program) (entriesOf (now (file .entry)) (now (list .entry)) n) (configurationOf cube) (Serialise p v)) ⌝ }
+    ensures { λ r. ⌜ (Families (shapeOf (program .shape)) (entriesOf (now (file .entry)) (now (list .entry)) n) (now (families .entry)) → (g : List ℕ) → Serialising g (now (file .entry)) (now (list .entry)) (now (sum .entry)) n program cube p v → r ≡ stepHeld (programOf g program) (entriesOf (now (file .entry)) (now (list .entry)) n) (configurationOf cube) (Serialise p v)) ⌝ }
 {
     let shape = program.shape;
-    if !search(
+    if !found(
+        families,
         file,
         list,
         sum,
@@ -105,14 +111,15 @@ fn label_held(
     if !alike_before(cube, v as usize, 255) {
         return true;
     }
-    if !search(file, list, sum, n, shape, before_serialise(cube, p, v)) {
+    if !found(families, file, list, sum, n, shape, before_serialise(cube, p, v)) {
         return false;
     }
-    insides_held(file, list, sum, n, program, cube, p, v)
+    insides_held(families, file, list, sum, n, program, cube, p, v)
 }
 
 // Are they for any label? The answer is about the newest message's own; the others have no cubes.
 pub(crate) fn serialised_held(
+    families: &[u8],
     file: &[u8],
     list: &[u8],
     sum: &[u8],
@@ -120,7 +127,7 @@ pub(crate) fn serialised_held(
     program: Program,
     cube: Cube,
 ) -> bool
-    ensures { λ r. ⌜ ((g : List ℕ) → Walkable g (now (file .entry)) (now (list .entry)) (now (sum .entry)) n program cube → (p v : ℕ) → stepHeld (programOf g program) (entriesOf (now (file .entry)) (now (list .entry)) n) (configurationOf cube) (Serialise p v) ≡ cond (labelled (topmost (configurationOf cube .memory .channel)) p v) r true) ⌝ }
+    ensures { λ r. ⌜ (Families (shapeOf (program .shape)) (entriesOf (now (file .entry)) (now (list .entry)) n) (now (families .entry)) → (g : List ℕ) → Walkable g (now (file .entry)) (now (list .entry)) (now (sum .entry)) n program cube → (p v : ℕ) → stepHeld (programOf g program) (entriesOf (now (file .entry)) (now (list .entry)) n) (configurationOf cube) (Serialise p v) ≡ cond (labelled (topmost (configurationOf cube .memory .channel)) p v) r true) ⌝ }
 {
     let shape = program.shape;
     if !may_serialise(shape, cube) {
@@ -132,5 +139,5 @@ pub(crate) fn serialised_held(
     if !pair_exists(shape, p, v) {
         return true;
     }
-    label_held(file, list, sum, n, program, cube, p, v)
+    label_held(families, file, list, sum, n, program, cube, p, v)
 }

@@ -14,6 +14,7 @@ ghost use Rattle.whole_file.specs.Cube.{configurationOf};
 ghost use Rattle.by_number.specs.Again.{transitionOf, entriesOf};
 ghost use Rattle.before.specs.Before.{LastWrites, takeBefore};
 ghost use Rattle.full_states.specs.Table.{Full};
+ghost use Rattle.families.specs.Family.{Families};
 ghost use Rattle.closing.specs.Walk.{stepHeld, Walkable, Acting, TakenHeld};
 use before::newest::alike_before;
 use before::newest::at_newest;
@@ -27,7 +28,7 @@ use before::operations::may_read;
 use before::operations::may_swap;
 use before::operations::may_write;
 use before::queues::none_waiting;
-use cover::search::search;
+use crate::finding::found;
 use full_states::is_full;
 use full_states::states_from;
 use matching::least;
@@ -38,6 +39,7 @@ use pws::Transition;
 use whole_file::entry::Cube;
 
 fn nop_held(
+    families: &[u8],
     file: &[u8],
     list: &[u8],
     sum: &[u8],
@@ -47,13 +49,14 @@ fn nop_held(
     p: usize,
     from: u8,
 ) -> bool
-    ensures { λ r. ⌜ TakenHeld (now (file .entry)) (now (list .entry)) (now (sum .entry)) n program cube p from Nop r ⌝ }
+    ensures { λ r. ⌜ TakenHeld (now (families .entry)) (now (file .entry)) (now (list .entry)) (now (sum .entry)) n program cube p from Nop r ⌝ }
 {
     let shape = program.shape;
-    search(file, list, sum, n, shape, before_nop(cube, p, from))
+    found(families, file, list, sum, n, shape, before_nop(cube, p, from))
 }
 
 fn mfence_held(
+    families: &[u8],
     file: &[u8],
     list: &[u8],
     sum: &[u8],
@@ -63,16 +66,17 @@ fn mfence_held(
     p: usize,
     from: u8,
 ) -> bool
-    ensures { λ r. ⌜ TakenHeld (now (file .entry)) (now (list .entry)) (now (sum .entry)) n program cube p from Mfence r ⌝ }
+    ensures { λ r. ⌜ TakenHeld (now (families .entry)) (now (file .entry)) (now (list .entry)) (now (sum .entry)) n program cube p from Mfence r ⌝ }
 {
     let shape = program.shape;
     if !both(none_waiting(shape, cube, p), at_newest(cube, p)) {
         return true;
     }
-    search(file, list, sum, n, shape, before_nop(cube, p, from))
+    found(families, file, list, sum, n, shape, before_nop(cube, p, from))
 }
 
 fn sfence_held(
+    families: &[u8],
     file: &[u8],
     list: &[u8],
     sum: &[u8],
@@ -82,16 +86,17 @@ fn sfence_held(
     p: usize,
     from: u8,
 ) -> bool
-    ensures { λ r. ⌜ TakenHeld (now (file .entry)) (now (list .entry)) (now (sum .entry)) n program cube p from Sfence r ⌝ }
+    ensures { λ r. ⌜ TakenHeld (now (families .entry)) (now (file .entry)) (now (list .entry)) (now (sum .entry)) n program cube p from Sfence r ⌝ }
 {
     let shape = program.shape;
     if !none_waiting(shape, cube, p) {
         return true;
     }
-    search(file, list, sum, n, shape, before_nop(cube, p, from))
+    found(families, file, list, sum, n, shape, before_nop(cube, p, from))
 }
 
 fn read_held(
+    families: &[u8],
     file: &[u8],
     list: &[u8],
     sum: &[u8],
@@ -104,13 +109,14 @@ fn read_held(
     v: usize,
     x: u8,
 ) -> bool
-    ensures { λ r. ⌜ (LastWrites writes (configurationOf cube .memory) → TakenHeld (now (file .entry)) (now (list .entry)) (now (sum .entry)) n program cube p from (Read v x) r) ⌝ }
+    ensures { λ r. ⌜ (LastWrites writes (configurationOf cube .memory) → TakenHeld (now (families .entry)) (now (file .entry)) (now (list .entry)) (now (sum .entry)) n program cube p from (Read v x) r) ⌝ }
 {
     let shape = program.shape;
     if !may_read(cube, writes, p, v, x) {
         return true;
     }
-    search(
+    found(
+        families,
         file,
         list,
         sum,
@@ -121,6 +127,7 @@ fn read_held(
 }
 
 fn write_held(
+    families: &[u8],
     file: &[u8],
     list: &[u8],
     sum: &[u8],
@@ -132,14 +139,15 @@ fn write_held(
     v: usize,
     x: u8,
 ) -> bool
-    ensures { λ r. ⌜ TakenHeld (now (file .entry)) (now (list .entry)) (now (sum .entry)) n program cube p from (Write v x) r ⌝ }
+    ensures { λ r. ⌜ TakenHeld (now (families .entry)) (now (file .entry)) (now (list .entry)) (now (sum .entry)) n program cube p from (Write v x) r ⌝ }
 {
     let shape = program.shape;
     if !may_write(cube, p, v, x) {
         return true;
     }
-    let undone = search(file, list, sum, n, shape, before_write(cube, p, from, v));
-    let waited = search(
+    let undone = found(families, file, list, sum, n, shape, before_write(cube, p, from, v));
+    let waited = found(
+        families,
         file,
         list,
         sum,
@@ -152,6 +160,7 @@ fn write_held(
 
 // Before an arw, with nothing beside: if there is such a cube, it is held.
 fn unswapped_held(
+    families: &[u8],
     file: &[u8],
     list: &[u8],
     sum: &[u8],
@@ -164,17 +173,18 @@ fn unswapped_held(
     old: u8,
     x: u8,
 ) -> bool
-    ensures { λ r. ⌜ ((g : List ℕ) → Walkable g (now (file .entry)) (now (list .entry)) (now (sum .entry)) n program cube → (j : ℕ) → Acting (programOf g program) (configurationOf cube) j p from (Arw v old x) → (isEmpty (configurationOf cube .queue p v) && lists.swapped (shapeOf (program .shape)) (configurationOf cube .memory) p v x) ≡ true → r ≡ cond (lists.arwKind (shapeOf (program .shape)) (configurationOf cube .memory) v old lists.undone) (held (shapeOf (program .shape)) (entriesOf (now (file .entry)) (now (list .entry)) n) (takeBefore (configurationOf cube) p from (Arw v old x) lists.undone)) true) ⌝ }
+    ensures { λ r. ⌜ (Families (shapeOf (program .shape)) (entriesOf (now (file .entry)) (now (list .entry)) n) (now (families .entry)) → (g : List ℕ) → Walkable g (now (file .entry)) (now (list .entry)) (now (sum .entry)) n program cube → (j : ℕ) → Acting (programOf g program) (configurationOf cube) j p from (Arw v old x) → (isEmpty (configurationOf cube .queue p v) && lists.swapped (shapeOf (program .shape)) (configurationOf cube .memory) p v x) ≡ true → r ≡ cond (lists.arwKind (shapeOf (program .shape)) (configurationOf cube .memory) v old lists.undone) (held (shapeOf (program .shape)) (entriesOf (now (file .entry)) (now (list .entry)) n) (takeBefore (configurationOf cube) p from (Arw v old x) lists.undone)) true) ⌝ }
 {
     let shape = program.shape;
     if !alike_before(cube, v, old) {
         return true;
     }
-    search(file, list, sum, n, shape, before_arw(cube, p, from, v, old))
+    found(families, file, list, sum, n, shape, before_arw(cube, p, from, v, old))
 }
 
 // With the newest message for u.
 fn on_top_held(
+    families: &[u8],
     file: &[u8],
     list: &[u8],
     sum: &[u8],
@@ -188,10 +198,11 @@ fn on_top_held(
     x: u8,
     u: u8,
 ) -> bool
-    ensures { λ r. ⌜ ((g : List ℕ) → Walkable g (now (file .entry)) (now (list .entry)) (now (sum .entry)) n program cube → (j : ℕ) → Acting (programOf g program) (configurationOf cube) j p from (Arw v old x) → (isEmpty (configurationOf cube .queue p v) && lists.swapped (shapeOf (program .shape)) (configurationOf cube .memory) p v x) ≡ true → u < program .shape .variables → r ≡ held (shapeOf (program .shape)) (entriesOf (now (file .entry)) (now (list .entry)) n) (takeBefore (configurationOf cube) p from (Arw v old x) (lists.onTop u))) ⌝ }
+    ensures { λ r. ⌜ (Families (shapeOf (program .shape)) (entriesOf (now (file .entry)) (now (list .entry)) n) (now (families .entry)) → (g : List ℕ) → Walkable g (now (file .entry)) (now (list .entry)) (now (sum .entry)) n program cube → (j : ℕ) → Acting (programOf g program) (configurationOf cube) j p from (Arw v old x) → (isEmpty (configurationOf cube .queue p v) && lists.swapped (shapeOf (program .shape)) (configurationOf cube .memory) p v x) ≡ true → u < program .shape .variables → r ≡ held (shapeOf (program .shape)) (entriesOf (now (file .entry)) (now (list .entry)) n) (takeBefore (configurationOf cube) p from (Arw v old x) (lists.onTop u))) ⌝ }
 {
     let shape = program.shape;
-    search(
+    found(
+        families,
         file,
         list,
         sum,
@@ -202,6 +213,7 @@ fn on_top_held(
 }
 
 fn arw_held(
+    families: &[u8],
     file: &[u8],
     list: &[u8],
     sum: &[u8],
@@ -214,18 +226,19 @@ fn arw_held(
     old: u8,
     x: u8,
 ) -> bool
-    ensures { λ r. ⌜ TakenHeld (now (file .entry)) (now (list .entry)) (now (sum .entry)) n program cube p from (Arw v old x) r ⌝ }
+    ensures { λ r. ⌜ TakenHeld (now (families .entry)) (now (file .entry)) (now (list .entry)) (now (sum .entry)) n program cube p from (Arw v old x) r ⌝ }
 {
     let shape = program.shape;
     if !may_swap(shape, cube, p, v, x) {
         return true;
     }
-    if !unswapped_held(file, list, sum, n, program, cube, p, from, v, old, x) {
+    if !unswapped_held(families, file, list, sum, n, program, cube, p, from, v, old, x) {
         return false;
     }
     let m = least(shape.variables, 4);
     for u in 0..m {
         if !on_top_held(
+            families,
             file,
             list,
             sum,
@@ -247,6 +260,7 @@ fn arw_held(
 
 // Are all predecessor cubes for this transition held? It leads to the entry's local state.
 fn taken_held(
+    families: &[u8],
     file: &[u8],
     list: &[u8],
     sum: &[u8],
@@ -256,14 +270,15 @@ fn taken_held(
     writes: [u8; 16],
     transition: Transition,
 ) -> bool
-    ensures { λ r. ⌜ ((g : List ℕ) → Walkable g (now (file .entry)) (now (list .entry)) (now (sum .entry)) n program cube → LastWrites writes (configurationOf cube .memory) → (j : ℕ) → j < program .transitions .count → transition ≡ transitionOf g program j → getD (cube .states) (transition .process) 0 ≡ transition .to → r ≡ stepHeld (programOf g program) (entriesOf (now (file .entry)) (now (list .entry)) n) (configurationOf cube) (Take j)) ⌝ }
+    ensures { λ r. ⌜ (Families (shapeOf (program .shape)) (entriesOf (now (file .entry)) (now (list .entry)) n) (now (families .entry)) → (g : List ℕ) → Walkable g (now (file .entry)) (now (list .entry)) (now (sum .entry)) n program cube → LastWrites writes (configurationOf cube .memory) → (j : ℕ) → j < program .transitions .count → transition ≡ transitionOf g program j → getD (cube .states) (transition .process) 0 ≡ transition .to → r ≡ stepHeld (programOf g program) (entriesOf (now (file .entry)) (now (list .entry)) n) (configurationOf cube) (Take j)) ⌝ }
 {
     let p = transition.process;
     let from = transition.from;
     let operation = transition.operation;
     match operation {
-        Operation::Nop => nop_held(file, list, sum, n, program, cube, p, from),
+        Operation::Nop => nop_held(families, file, list, sum, n, program, cube, p, from),
         Operation::Read { variable, value } => read_held(
+            families,
             file,
             list,
             sum,
@@ -277,6 +292,7 @@ fn taken_held(
             value,
         ),
         Operation::Write { variable, value } => write_held(
+            families,
             file,
             list,
             sum,
@@ -288,9 +304,10 @@ fn taken_held(
             variable,
             value,
         ),
-        Operation::Mfence => mfence_held(file, list, sum, n, program, cube, p, from),
-        Operation::Sfence => sfence_held(file, list, sum, n, program, cube, p, from),
+        Operation::Mfence => mfence_held(families, file, list, sum, n, program, cube, p, from),
+        Operation::Sfence => sfence_held(families, file, list, sum, n, program, cube, p, from),
         Operation::Arw { variable, old, new } => arw_held(
+            families,
             file,
             list,
             sum,
@@ -309,6 +326,7 @@ fn taken_held(
 // The same, where local states that are known to be full need no search.
 pub(crate) fn before_held(
     full: &[u8],
+    families: &[u8],
     file: &[u8],
     list: &[u8],
     sum: &[u8],
@@ -318,7 +336,7 @@ pub(crate) fn before_held(
     writes: [u8; 16],
     transition: Transition,
 ) -> bool
-    ensures { λ r. ⌜ ((g : List ℕ) → Walkable g (now (file .entry)) (now (list .entry)) (now (sum .entry)) n program cube → LastWrites writes (configurationOf cube .memory) → Full (programOf g program) (entriesOf (now (file .entry)) (now (list .entry)) n) (now (full .entry)) → (j : ℕ) → j < program .transitions .count → transition ≡ transitionOf g program j → getD (cube .states) (transition .process) 0 ≡ transition .to → r ≡ stepHeld (programOf g program) (entriesOf (now (file .entry)) (now (list .entry)) n) (configurationOf cube) (Take j)) ⌝ }
+    ensures { λ r. ⌜ (Families (shapeOf (program .shape)) (entriesOf (now (file .entry)) (now (list .entry)) n) (now (families .entry)) → (g : List ℕ) → Walkable g (now (file .entry)) (now (list .entry)) (now (sum .entry)) n program cube → LastWrites writes (configurationOf cube .memory) → Full (programOf g program) (entriesOf (now (file .entry)) (now (list .entry)) n) (now (full .entry)) → (j : ℕ) → j < program .transitions .count → transition ≡ transitionOf g program j → getD (cube .states) (transition .process) 0 ≡ transition .to → r ≡ stepHeld (programOf g program) (entriesOf (now (file .entry)) (now (list .entry)) n) (configurationOf cube) (Take j)) ⌝ }
 {
     let states = cube.states;
     let shape = program.shape;
@@ -326,5 +344,5 @@ pub(crate) fn before_held(
     if is_full(full, shape, before) {
         return true;
     }
-    taken_held(file, list, sum, n, program, cube, writes, transition)
+    taken_held(families, file, list, sum, n, program, cube, writes, transition)
 }

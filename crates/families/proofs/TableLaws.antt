@@ -89,6 +89,13 @@ module _ (S : pws.Shape) (es : List Configuration) (table : List ℕ) where
 
 -- ---- a cube that is found
 
+-- entries that fit, by number, as entries of the list
+pub listed : (S : pws.Shape) (f list : List ℕ) (n : ℕ) → ((k : ℕ) → k < n → Fits (ValueOrFF S) S (configurationOf (cubeAt f list k)))
+    → (k : ℕ) → k < length (entriesOf f list n) → Fits (ValueOrFF S) S (entry (entriesOf f list n) k)
+listed S f list n o k l =
+    let m : k < n = omega (arith, table-length (λ i. configurationOf (cubeAt f list i)) 0 n) in
+    subst (Fits (ValueOrFF S) S) (sym (table-number (λ i. configurationOf (cubeAt f list i)) n k noEntry m)) (o k m)
+
 module _ (s : Shape) (R : pws.ShapeInRange (shapeOf s)) (f list : List ℕ) (n : ℕ) (table : List ℕ) (F : Families (shapeOf s) (entriesOf f list n) table) (c : Cube) (r : Recorded table f list n s c) where
   abbrev es : List Configuration
   es = entriesOf f list n
@@ -104,9 +111,9 @@ module _ (s : Shape) (R : pws.ShapeInRange (shapeOf s)) (f list : List ℕ) (n :
   found-in : InFamily (shapeOf s) (configurationOf (cubeAt f list number)) (configurationOf c)
   found-in = r .inside (R .processes) (R .variables)
 
-  pub recorded-held : ((k : ℕ) → k < length es → Fits (ValueOrFF (shapeOf s)) (shapeOf s) (entry es k)) → Fits (ValueOrFF (shapeOf s)) (shapeOf s) (configurationOf c)
+  pub recorded-held : ((k : ℕ) → k < n → Fits (ValueOrFF (shapeOf s)) (shapeOf s) (configurationOf (cubeAt f list k))) → Fits (ValueOrFF (shapeOf s)) (shapeOf s) (configurationOf c)
       → held (shapeOf s) es (configurationOf c) ≡ true
-  recorded-held oes o = family-held (shapeOf s) R es oes (configurationOf (cubeAt f list number)) (configurationOf c) found-full found-in o
+  recorded-held oes o = family-held (shapeOf s) R es (listed (shapeOf s) f list n oes) (configurationOf (cubeAt f list number)) (configurationOf c) found-full found-in o
 
   pub recorded-update : (P : pws.Program) → pws.ProgramInRange P → P .shape ≡ shapeOf s → ((k : ℕ) → k < length es → EntryOf P (entry es k)) → EntryOf P (configurationOf c)
       → (p : ℕ) → every (held (P .shape) es) (predecessors P (configurationOf c) (Update p)) ≡ true

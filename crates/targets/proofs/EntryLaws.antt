@@ -1,4 +1,4 @@
--- What is known of an entry that is loaded: its queues have room, and as an entry of the list it fits; and the cube that is looked for in its family.
+-- What is known of an entry that is loaded: its queues have room; and the cube that is looked for in its family.
 use Prim.Native.Nat.{ℕ, zero, suc, _+_, _-_, _*_, _<_, _≤_}
 use mathlib.Core.Path.{_≡_, refl, sym, ap, ap₂, subst, _∙_}
 use mathlib.Core.Bool.{Bool, true, false, cond, _&&_}
@@ -12,7 +12,7 @@ use borrow.Author.Tests.{leb-false, lt-ltb}
 use Rattle.pws.specs.declared.Message.{Message}
 use Rattle.pws.specs.Machine.{Memory, Configuration, message, noMessage}
 use Rattle.pws.specs.Configurations.{Fits}
-use Rattle.pws.specs.Entries.{ValueOrFF, noEntry, entry}
+use Rattle.pws.specs.Entries.{ValueOrFF}
 use Rattle.pws.proofs.Facts.{message-new}
 use Rattle.lists.specs.Lists.{every}
 use Rattle.lists.specs.Cubes.{memoryOf, withValues, topmost}
@@ -29,7 +29,6 @@ use Rattle.whole_file.specs.Cube.{noQueue, emptyQueue, channelOf, queueOf, conf
 use Rattle.whole_file.proofs.CubeLaws.{load-message, load-waiting, load-ends, loaded-nothing}
 use Rattle.whole_file.proofs.CubeParts.{channel-length, channel-equal, queue-of, queue-none}
 use Rattle.by_number.specs.Again.{offsetAt, cubeAt, entriesOf}
-use Rattle.by_number.proofs.Tables.{table-length, table-number}
 use Rattle.matching.proofs.RoleLaws.{labels}
 use Rattle.families.specs.Family.{topped, familyCube}
 use Rattle.cover.specs.Search.{Searchable}
@@ -107,14 +106,6 @@ queue-short qs r p v = at (ltb p 4 && ltb v 4) refl
         let q = getD qs (4 * p + v) noQueue in
         subst (λ (xs : List ℕ). length xs ≤ 9) (sym (queue-of qs p v (w .0) (w .1))) (omega (arith, length-take (q .count) (q .values), r (4 * p + v)))
     at false e = subst (λ (xs : List ℕ). length xs ≤ 9) (sym (queue-none qs p v e)) (omega arith)
-
--- ---- entries of the list
-
-module _ (f list sum : List ℕ) (n : ℕ) (s : Shape) (h : Searches f list sum n s) where
-  pub listed : (k : ℕ) → k < length (entriesOf f list n) → Fits (ValueOrFF (shapeOf s)) (shapeOf s) (entry (entriesOf f list n) k)
-  listed k l =
-      let m : k < n = omega (arith, table-length (λ i. configurationOf (cubeAt f list i)) 0 n) in
-      subst (Fits (ValueOrFF (shapeOf s)) (shapeOf s)) (sym (table-number (λ i. configurationOf (cubeAt f list i)) n k noEntry m)) (h .entries k m)
 
 -- ---- an entry with the memory of a shape
 

@@ -19,10 +19,10 @@ use Rattle.by_number.specs.Again.{cubeAt, entriesOf}
 use Rattle.by_number.proofs.Tables.{table-number}
 use Rattle.families.specs.Family.{FamilyHeld, familyCubes}
 use Rattle.families.proofs.FullLaws.{cubes-fit, family-full}
+use Rattle.families.proofs.TableLaws.{listed}
 use Rattle.targets.specs.Walk.{Searches, Judges, Leaf, targetLeaf, familyLeaf, outlineCubes, allCubes}
 use Rattle.targets.proofs.ChannelWalk.{walk-all, target-cubes, family-cubes, shapes-fit}
 use Rattle.targets.proofs.JudgeLaws.{judges-same}
-use Rattle.targets.proofs.EntryLaws.{listed}
 
 pub product : (p v : ℕ) → p ≤ 4 → v ≤ 4 → p * v ≤ 16
 product zero v a b = omega arith
@@ -52,7 +52,7 @@ pub family-is : (s : Shape) (k : ℕ) (f list sum : List ℕ) (n : ℕ) (r : Boo
     → Searches f list sum n s → r ≡ every (held (shapeOf s) (entriesOf f list n)) (familyCubes (shapeOf s) (configurationOf (cubeAt f list k)))
 family-is s k f list sum n r l j h =
     let w = family-cubes s (cubeAt f list k) in
-    j .judged h (λ c m. cubes-fit (shapeOf s) (h .shape) (entriesOf f list n) (listed f list sum n s h) (configurationOf (cubeAt f list k)) (h .entries k l) c (subst (List·Memᴰ c) (sym w) m))
+    j .judged h (λ c m. cubes-fit (shapeOf s) (h .shape) (entriesOf f list n) (listed (shapeOf s) f list n (h .entries)) (configurationOf (cubeAt f list k)) (h .entries k l) c (subst (List·Memᴰ c) (sym w) m))
     ∙ ap (every (held (shapeOf s) (entriesOf f list n))) (sym w)
 
 pub family-yes : (s : Shape) (k : ℕ) (f list sum : List ℕ) (n : ℕ) {r : Bool} → k < n → Searches f list sum n s
@@ -60,4 +60,4 @@ pub family-yes : (s : Shape) (k : ℕ) (f list sum : List ℕ) (n : ℕ) {r : Bo
     → FamilyHeld (shapeOf s) (entriesOf f list n) (entry (entriesOf f list n) k)
 family-yes s k f list sum n l h x y =
     subst (FamilyHeld (shapeOf s) (entriesOf f list n)) (sym (table-number (λ i. configurationOf (cubeAt f list i)) n k noEntry l))
-    (family-full (shapeOf s) (h .shape) (entriesOf f list n) (listed f list sum n s h) (configurationOf (cubeAt f list k)) (h .entries k l) (sym x ∙ y))
+    (family-full (shapeOf s) (h .shape) (entriesOf f list n) (listed (shapeOf s) f list n (h .entries)) (configurationOf (cubeAt f list k)) (h .entries k l) (sym x ∙ y))

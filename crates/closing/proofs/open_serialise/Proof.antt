@@ -21,7 +21,7 @@ open-serialise-spec = tie.close (tie.spec
     -- serialised-held-requires
     (λ c κs. search needs)
     -- returns
-    (λ c. (omega arith, λ g W. lowest-end refl (λ i l. c .before .serialised-held .ensures g W (i / 4) (i % 4) ∙ ap (λ (h : Bool). cond (labelled (topmost ((configurationOf (c .before .before .before .before .before .args .cube)) .memory .channel)) (i / 4) (i % 4)) h true) (c .if1 .taken) ∙ sym (cond-same (labelled (topmost ((configurationOf (c .before .before .before .before .before .args .cube)) .memory .channel)) (i / 4) (i % 4))))))
+    (λ c. (omega arith, λ Y g W. lowest-end refl (λ i l. c .before .serialised-held .ensures Y g W (i / 4) (i % 4) ∙ ap (λ (h : Bool). cond (labelled (topmost ((configurationOf (c .before .before .before .before .before .before .args .cube)) .memory .channel)) (i / 4) (i % 4)) h true) (c .if1 .taken) ∙ sym (cond-same (labelled (topmost ((configurationOf (c .before .before .before .before .before .before .args .cube)) .memory .channel)) (i / 4) (i % 4))))))
     -- newest-requires
     (λ c κs. search needs)
     -- wide-requires
@@ -33,4 +33,4 @@ open-serialise-spec = tie.close (tie.spec
     -- add-result
     (λ c. omega (arith, c .before .wide .ensures, c .wide2 .ensures))
     -- returns-2
-    (λ c. (omega (arith, c .before .wide .ensures, c .wide2 .ensures), λ g W. let e : 4 * c .before .before .newest .result .process + c .before .before .newest .result .variable ≡ 4 * c .before .wide .result + c .wide2 .result = omega (arith, c .before .wide .ensures, c .wide2 .ensures) in subst (λ (r : ℕ). LowestFailing (λ i. stepHeld (programOf g (c .before .before .before .before .before .before .before .before .args .program)) (entriesOf (c .before .before .before .before .before .before .before .before .args .file .now) (c .before .before .before .before .before .before .before .before .args .list .now) (c .before .before .before .before .before .before .before .before .args .n)) (configurationOf (c .before .before .before .before .before .before .before .before .args .cube)) (Serialise (i / 4) (i % 4))) 16 r) e (serialise-lowest g (c .before .before .before .before .before .before .before .before .args .file .now) (c .before .before .before .before .before .before .before .before .args .list .now) (c .before .before .before .before .before .before .before .before .args .sum .now) (c .before .before .before .before .before .before .before .before .args .n) (c .before .before .before .before .before .before .before .before .args .program) (c .before .before .before .before .before .before .before .before .args .cube) W (c .before .before .newest .result) (c .before .before .newest .ensures ((c .before .before .before .before .before .before .before .before .args .program) .shape) (W .stepping .sound)) (λ p v. c .before .before .before .before .serialised-held .ensures g W p v ∙ ap (λ (h : Bool). cond (labelled (topmost ((configurationOf (c .before .before .before .before .before .before .before .before .args .cube)) .memory .channel)) p v) h true) (c .before .before .before .if1 .left))))))
+    (λ c. (omega (arith, c .before .wide .ensures, c .wide2 .ensures), λ Y g W. let e : 4 * c .before .before .newest .result .process + c .before .before .newest .result .variable ≡ 4 * c .before .wide .result + c .wide2 .result = omega (arith, c .before .wide .ensures, c .wide2 .ensures) in subst (λ (r : ℕ). LowestFailing (λ i. stepHeld (programOf g (c .before .before .before .before .before .before .before .before .before .args .program)) (entriesOf (c .before .before .before .before .before .before .before .before .before .args .file .now) (c .before .before .before .before .before .before .before .before .before .args .list .now) (c .before .before .before .before .before .before .before .before .before .args .n)) (configurationOf (c .before .before .before .before .before .before .before .before .before .args .cube)) (Serialise (i / 4) (i % 4))) 16 r) e (serialise-lowest g (c .before .before .before .before .before .before .before .before .before .args .file .now) (c .before .before .before .before .before .before .before .before .before .args .list .now) (c .before .before .before .before .before .before .before .before .before .args .sum .now) (c .before .before .before .before .before .before .before .before .before .args .n) (c .before .before .before .before .before .before .before .before .before .args .program) (c .before .before .before .before .before .before .before .before .before .args .cube) W (c .before .before .newest .result) (c .before .before .newest .ensures ((c .before .before .before .before .before .before .before .before .before .args .program) .shape) (W .stepping .sound)) (λ p v. c .before .before .before .before .serialised-held .ensures Y g W p v ∙ ap (λ (h : Bool). cond (labelled (topmost ((configurationOf (c .before .before .before .before .before .before .before .before .before .args .cube)) .memory .channel)) p v) h true) (c .before .before .before .if1 .left))))))

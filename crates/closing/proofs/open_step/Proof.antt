@@ -1,10 +1,11 @@
 use Prim.Native.Nat.{ℕ, _+_, min}
 use mathlib.Core.Path.{_≡_, ap, subst, _∙_}
 use Rattle.whole_file.specs.declared.entry.Cube.{Cube}
-use Rattle.program_part.specs.ProgramPart.{programOf}
+use Rattle.program_part.specs.ProgramPart.{shapeOf, programOf}
 use Rattle.whole_file.specs.Cube.{configurationOf}
 use Rattle.by_number.specs.Again.{cubeAt, entriesOf}
 use Rattle.full_states.specs.Table.{Full}
+use Rattle.families.specs.Family.{Families}
 use Rattle.closing.specs.Walk.{stepHeld, walkStep, openingAt, LowestFailing, Walkable, Surrounded}
 use Rattle.closing.proofs.FullLaws.{surrounded-shut}
 use Rattle.closing.proofs.WalkLaws.{opening-is}
@@ -19,7 +20,7 @@ open-step-spec = tie.close (tie.spec
     -- is-surrounded-requires
     (λ c κs. search needs)
     -- returns
-    (λ c. λ W F. surrounded-shut (c .before .before .before .before .before .before .before .before .args .code .now) (c .before .before .before .before .before .before .before .before .args .file .now) (c .before .before .before .before .before .before .before .before .args .list .now) (c .before .before .before .before .before .before .before .before .args .sum .now) (c .before .before .before .before .before .before .before .before .args .n) (c .before .before .before .before .before .before .before .before .args .program) (cubeAt (c .before .before .before .before .before .before .before .before .args .file .now) (c .before .before .before .before .before .before .before .before .args .list .now) (c .before .before .before .before .before .before .before .before .args .k)) (c .before .before .before .before .before .before .before .before .args .full .now) W F (subst (Surrounded (c .before .before .before .before .before .before .before .before .args .full .now) (c .before .before .before .before .before .before .before .before .args .code .now) (c .before .before .before .before .before .before .before .before .args .program)) (c .before .before .states-at .ensures) (c .before .is-surrounded .ensures (c .if1 .taken))))
+    (λ c. λ W F Y. surrounded-shut (c .before .before .before .before .before .before .before .before .before .args .code .now) (c .before .before .before .before .before .before .before .before .before .args .file .now) (c .before .before .before .before .before .before .before .before .before .args .list .now) (c .before .before .before .before .before .before .before .before .before .args .sum .now) (c .before .before .before .before .before .before .before .before .before .args .n) (c .before .before .before .before .before .before .before .before .before .args .program) (cubeAt (c .before .before .before .before .before .before .before .before .before .args .file .now) (c .before .before .before .before .before .before .before .before .before .args .list .now) (c .before .before .before .before .before .before .before .before .before .args .k)) (c .before .before .before .before .before .before .before .before .before .args .full .now) W F (subst (Surrounded (c .before .before .before .before .before .before .before .before .before .args .full .now) (c .before .before .before .before .before .before .before .before .before .args .code .now) (c .before .before .before .before .before .before .before .before .before .args .program)) (c .before .before .states-at .ensures) (c .before .is-surrounded .ensures (c .if1 .taken))))
     -- least-requires
     (λ c κs. search needs)
     -- entry-at-requires
@@ -29,4 +30,4 @@ open-step-spec = tie.close (tie.spec
     -- opening-at-requires
     (λ c κs. search needs)
     -- returns-2
-    (λ c. λ W F. c .opening-at .ensures ∙ ap (λ (m : ℕ). openingAt m (c .before .cube-open .result)) (c .before .before .before .least .ensures) ∙ opening-is (c .before .before .before .before .before .before .before .before .before .before .before .before .before .args .code .now) (c .before .before .before .before .before .before .before .before .before .before .before .before .before .args .file .now) (c .before .before .before .before .before .before .before .before .before .before .before .before .before .args .list .now) (c .before .before .before .before .before .before .before .before .before .before .before .before .before .args .sum .now) (c .before .before .before .before .before .before .before .before .before .before .before .before .before .args .n) (c .before .before .before .before .before .before .before .before .before .before .before .before .before .args .program) (cubeAt (c .before .before .before .before .before .before .before .before .before .before .before .before .before .args .file .now) (c .before .before .before .before .before .before .before .before .before .before .before .before .before .args .list .now) (c .before .before .before .before .before .before .before .before .before .before .before .before .before .args .k)) W (subst (λ (k : Cube). Walkable (c .before .before .before .before .before .before .before .before .before .before .before .before .before .args .code .now) (c .before .before .before .before .before .before .before .before .before .before .before .before .before .args .file .now) (c .before .before .before .before .before .before .before .before .before .before .before .before .before .args .list .now) (c .before .before .before .before .before .before .before .before .before .before .before .before .before .args .sum .now) (c .before .before .before .before .before .before .before .before .before .before .before .before .before .args .n) (c .before .before .before .before .before .before .before .before .before .before .before .before .before .args .program) k → Full (programOf (c .before .before .before .before .before .before .before .before .before .before .before .before .before .args .code .now) (c .before .before .before .before .before .before .before .before .before .before .before .before .before .args .program)) (entriesOf (c .before .before .before .before .before .before .before .before .before .before .before .before .before .args .file .now) (c .before .before .before .before .before .before .before .before .before .before .before .before .before .args .list .now) (c .before .before .before .before .before .before .before .before .before .before .before .before .before .args .n)) (c .before .before .before .before .before .before .before .before .before .before .before .before .before .args .full .now) → LowestFailing (λ j. stepHeld (programOf (c .before .before .before .before .before .before .before .before .before .before .before .before .before .args .code .now) (c .before .before .before .before .before .before .before .before .before .before .before .before .before .args .program)) (entriesOf (c .before .before .before .before .before .before .before .before .before .before .before .before .before .args .file .now) (c .before .before .before .before .before .before .before .before .before .before .before .before .before .args .list .now) (c .before .before .before .before .before .before .before .before .before .before .before .before .before .args .n)) (configurationOf k) (walkStep (min ((c .before .before .before .before .before .before .before .before .before .before .before .before .before .args .program) .transitions .count) 256) j)) (min ((c .before .before .before .before .before .before .before .before .before .before .before .before .before .args .program) .transitions .count) 256 + 20) (c .before .cube-open .result)) (c .before .before .entry-at .ensures) (c .before .cube-open .ensures) W F)))
+    (λ c. λ W F Y. c .opening-at .ensures ∙ ap (λ (m : ℕ). openingAt m (c .before .cube-open .result)) (c .before .before .before .least .ensures) ∙ opening-is (c .before .before .before .before .before .before .before .before .before .before .before .before .before .before .args .code .now) (c .before .before .before .before .before .before .before .before .before .before .before .before .before .before .args .file .now) (c .before .before .before .before .before .before .before .before .before .before .before .before .before .before .args .list .now) (c .before .before .before .before .before .before .before .before .before .before .before .before .before .before .args .sum .now) (c .before .before .before .before .before .before .before .before .before .before .before .before .before .before .args .n) (c .before .before .before .before .before .before .before .before .before .before .before .before .before .before .args .program) (cubeAt (c .before .before .before .before .before .before .before .before .before .before .before .before .before .before .args .file .now) (c .before .before .before .before .before .before .before .before .before .before .before .before .before .before .args .list .now) (c .before .before .before .before .before .before .before .before .before .before .before .before .before .before .args .k)) W (subst (λ (k : Cube). Walkable (c .before .before .before .before .before .before .before .before .before .before .before .before .before .before .args .code .now) (c .before .before .before .before .before .before .before .before .before .before .before .before .before .before .args .file .now) (c .before .before .before .before .before .before .before .before .before .before .before .before .before .before .args .list .now) (c .before .before .before .before .before .before .before .before .before .before .before .before .before .before .args .sum .now) (c .before .before .before .before .before .before .before .before .before .before .before .before .before .before .args .n) (c .before .before .before .before .before .before .before .before .before .before .before .before .before .before .args .program) k → Full (programOf (c .before .before .before .before .before .before .before .before .before .before .before .before .before .before .args .code .now) (c .before .before .before .before .before .before .before .before .before .before .before .before .before .before .args .program)) (entriesOf (c .before .before .before .before .before .before .before .before .before .before .before .before .before .before .args .file .now) (c .before .before .before .before .before .before .before .before .before .before .before .before .before .before .args .list .now) (c .before .before .before .before .before .before .before .before .before .before .before .before .before .before .args .n)) (c .before .before .before .before .before .before .before .before .before .before .before .before .before .before .args .full .now) → Families (shapeOf (c .before .before .before .before .before .before .before .before .before .before .before .before .before .before .args .program .shape)) (entriesOf (c .before .before .before .before .before .before .before .before .before .before .before .before .before .before .args .file .now) (c .before .before .before .before .before .before .before .before .before .before .before .before .before .before .args .list .now) (c .before .before .before .before .before .before .before .before .before .before .before .before .before .before .args .n)) (c .before .before .before .before .before .before .before .before .before .before .before .before .before .before .args .families .now) → LowestFailing (λ j. stepHeld (programOf (c .before .before .before .before .before .before .before .before .before .before .before .before .before .before .args .code .now) (c .before .before .before .before .before .before .before .before .before .before .before .before .before .before .args .program)) (entriesOf (c .before .before .before .before .before .before .before .before .before .before .before .before .before .before .args .file .now) (c .before .before .before .before .before .before .before .before .before .before .before .before .before .before .args .list .now) (c .before .before .before .before .before .before .before .before .before .before .before .before .before .before .args .n)) (configurationOf k) (walkStep (min ((c .before .before .before .before .before .before .before .before .before .before .before .before .before .before .args .program) .transitions .count) 256) j)) (min ((c .before .before .before .before .before .before .before .before .before .before .before .before .before .before .args .program) .transitions .count) 256 + 20) (c .before .cube-open .result)) (c .before .before .entry-at .ensures) (c .before .cube-open .ensures) W F Y)))

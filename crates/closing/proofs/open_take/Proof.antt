@@ -2,11 +2,12 @@ use Prim.Native.Nat.{ℕ, _-_, _<_, min}
 use mathlib.Core.Path.{_≡_, sym, _∙_}
 use borrow.Author.Tests.{not-true, not-false}
 use Rattle.pws.specs.declared.Step.the-variants.{Take}
-use Rattle.program_part.specs.ProgramPart.{programOf}
+use Rattle.program_part.specs.ProgramPart.{shapeOf, programOf}
 use Rattle.whole_file.specs.Cube.{configurationOf}
 use Rattle.by_number.specs.Again.{entriesOf}
 use Rattle.before.specs.Before.{LastWrites}
 use Rattle.full_states.specs.Table.{Full}
+use Rattle.families.specs.Family.{Families}
 use Rattle.closing.specs.Walk.{stepHeld, Walkable}
 use Rattle.closing.proofs.StepLaws.{Passed, passed-begin, passed-next}
 use Rattle.closing.proofs.WalkLaws.{lowest-at, lowest-end}
@@ -17,10 +18,10 @@ use Rattle.closing.proofs.open_take.Statement.{statement}
 use Rattle.closing.proofs.open_take.Tie as tie
 
 abbrev Inv-loop : tie.InvT-loop
-Inv-loop full code file list sum n program cube writes m states j₀ j = Passed (Walkable code file list sum n program cube × LastWrites writes (configurationOf cube .memory) × Full (programOf code program) (entriesOf file list n) full) (λ q. stepHeld (programOf code program) (entriesOf file list n) (configurationOf cube) (Take q)) m j
+Inv-loop full families code file list sum n program cube writes m states j₀ j = Passed (Walkable code file list sum n program cube × LastWrites writes (configurationOf cube .memory) × Full (programOf code program) (entriesOf file list n) full × Families (shapeOf (program .shape)) (entriesOf file list n) families) (λ q. stepHeld (programOf code program) (entriesOf file list n) (configurationOf cube) (Take q)) m j
 
 abbrev μ-loop : tie.MeasureT-loop
-μ-loop full code file list sum n program cube writes m states j₀ j = m - j
+μ-loop full families code file list sum n program cube writes m states j₀ j = m - j
 
 pub open-take-spec : {M : Type 1} → statement M
 open-take-spec = tie.close (tie.spec
@@ -29,7 +30,7 @@ open-take-spec = tie.close (tie.spec
     -- least-requires
     (λ c κs. search needs)
     -- loop-holds
-    (λ c. passed-begin (Walkable (c .before .before .before .before .before .before .before .before .args .code .now) (c .before .before .before .before .before .before .before .before .args .file .now) (c .before .before .before .before .before .before .before .before .args .list .now) (c .before .before .before .before .before .before .before .before .args .sum .now) (c .before .before .before .before .before .before .before .before .args .n) (c .before .before .before .before .before .before .before .before .args .program) (c .before .before .before .before .before .before .before .before .args .cube) × LastWrites (c .before .before .before .before .before .before .before .before .args .writes) ((configurationOf (c .before .before .before .before .before .before .before .before .args .cube)) .memory) × Full (programOf (c .before .before .before .before .before .before .before .before .args .code .now) (c .before .before .before .before .before .before .before .before .args .program)) (entriesOf (c .before .before .before .before .before .before .before .before .args .file .now) (c .before .before .before .before .before .before .before .before .args .list .now) (c .before .before .before .before .before .before .before .before .args .n)) (c .before .before .before .before .before .before .before .before .args .full .now)) (λ q. stepHeld (programOf (c .before .before .before .before .before .before .before .before .args .code .now) (c .before .before .before .before .before .before .before .before .args .program)) (entriesOf (c .before .before .before .before .before .before .before .before .args .file .now) (c .before .before .before .before .before .before .before .before .args .list .now) (c .before .before .before .before .before .before .before .before .args .n)) (configurationOf (c .before .before .before .before .before .before .before .before .args .cube)) (Take q)) (c .before .least .result))
+    (λ c. passed-begin (Walkable (c .before .before .before .before .before .before .before .before .before .args .code .now) (c .before .before .before .before .before .before .before .before .before .args .file .now) (c .before .before .before .before .before .before .before .before .before .args .list .now) (c .before .before .before .before .before .before .before .before .before .args .sum .now) (c .before .before .before .before .before .before .before .before .before .args .n) (c .before .before .before .before .before .before .before .before .before .args .program) (c .before .before .before .before .before .before .before .before .before .args .cube) × LastWrites (c .before .before .before .before .before .before .before .before .before .args .writes) ((configurationOf (c .before .before .before .before .before .before .before .before .before .args .cube)) .memory) × Full (programOf (c .before .before .before .before .before .before .before .before .before .args .code .now) (c .before .before .before .before .before .before .before .before .before .args .program)) (entriesOf (c .before .before .before .before .before .before .before .before .before .args .file .now) (c .before .before .before .before .before .before .before .before .before .args .list .now) (c .before .before .before .before .before .before .before .before .before .args .n)) (c .before .before .before .before .before .before .before .before .before .args .full .now) × Families (shapeOf (c .before .before .before .before .before .before .before .before .before .args .program .shape)) (entriesOf (c .before .before .before .before .before .before .before .before .before .args .file .now) (c .before .before .before .before .before .before .before .before .before .args .list .now) (c .before .before .before .before .before .before .before .before .before .args .n)) (c .before .before .before .before .before .before .before .before .before .args .families .now)) (λ q. stepHeld (programOf (c .before .before .before .before .before .before .before .before .before .args .code .now) (c .before .before .before .before .before .before .before .before .before .args .program)) (entriesOf (c .before .before .before .before .before .before .before .before .before .args .file .now) (c .before .before .before .before .before .before .before .before .before .args .list .now) (c .before .before .before .before .before .before .before .before .before .args .n)) (configurationOf (c .before .before .before .before .before .before .before .before .before .args .cube)) (Take q)) (c .before .least .result))
     -- transition-of-requires
     (λ c κs. search needs)
     -- of-four-requires
@@ -39,16 +40,16 @@ open-take-spec = tie.close (tie.spec
     -- loop-less
     (λ c. omega (arith, c .before .before .before .before .loop-test .taken))
     -- loop-again
-    (λ c. passed-next (c .before .before .before .before .before .loop .inv) (c .before .before .before .before .loop-test .taken) (λ X. sym (state-differs (c .before .before .before .before .before .before .before .before .before .before .before .before .before .before .args .code .now) (c .before .before .before .before .before .before .before .before .before .before .before .before .before .before .args .file .now) (c .before .before .before .before .before .before .before .before .before .before .before .before .before .before .args .list .now) (c .before .before .before .before .before .before .before .before .before .before .before .before .before .before .args .n) (c .before .before .before .before .before .before .before .before .before .before .before .before .before .before .args .program) (c .before .before .before .before .before .before .before .before .before .before .before .before .before .before .args .cube) (c .before .before .before .before .before .loop .j) (c .before .before .before .transition-of .result) (c .before .before .before .transition-of .ensures) (omega (arith, c .before .before .before .before .loop-test .taken, c .before .before .before .before .before .before .before .least .ensures)) (λ e. c .if1 .taken (c .before .before .of-four .ensures ∙ e)))))
+    (λ c. passed-next (c .before .before .before .before .before .loop .inv) (c .before .before .before .before .loop-test .taken) (λ X. sym (state-differs (c .before .before .before .before .before .before .before .before .before .before .before .before .before .before .before .args .code .now) (c .before .before .before .before .before .before .before .before .before .before .before .before .before .before .before .args .file .now) (c .before .before .before .before .before .before .before .before .before .before .before .before .before .before .before .args .list .now) (c .before .before .before .before .before .before .before .before .before .before .before .before .before .before .before .args .n) (c .before .before .before .before .before .before .before .before .before .before .before .before .before .before .before .args .program) (c .before .before .before .before .before .before .before .before .before .before .before .before .before .before .before .args .cube) (c .before .before .before .before .before .loop .j) (c .before .before .before .transition-of .result) (c .before .before .before .transition-of .ensures) (omega (arith, c .before .before .before .before .loop-test .taken, c .before .before .before .before .before .before .before .least .ensures)) (λ e. c .if1 .taken (c .before .before .of-four .ensures ∙ e)))))
     -- before-held-requires
     (λ c κs. search needs)
     -- returns
-    (λ c. (omega (arith, c .before .before .before .before .before .before .loop-test .taken, c .before .before .before .before .before .before .before .before .before .least .ensures), λ W w F. lowest-at (omega (arith, c .before .before .before .before .before .before .loop-test .taken, c .before .before .before .before .before .before .before .before .before .least .ensures)) (c .before .before .before .before .before .before .before .loop .inv .each (W, w, F)) (sym (c .before .before-held .ensures (c .before .before .before .before .before .before .before .before .before .before .before .before .before .before .before .before .args .code .now) W w F (c .before .before .before .before .before .before .before .loop .j) (omega (arith, c .before .before .before .before .before .before .loop-test .taken, c .before .before .before .before .before .before .before .before .before .least .ensures)) (c .before .before .before .before .before .transition-of .ensures) (sym (c .before .before .before .before .of-four .ensures) ∙ c .before .before .if1 .left)) ∙ not-true (c .before .before-held .result) (c .if2 .taken))))
+    (λ c. (omega (arith, c .before .before .before .before .before .before .loop-test .taken, c .before .before .before .before .before .before .before .before .before .least .ensures), λ W w F Y. lowest-at (omega (arith, c .before .before .before .before .before .before .loop-test .taken, c .before .before .before .before .before .before .before .before .before .least .ensures)) (c .before .before .before .before .before .before .before .loop .inv .each (W, w, F, Y)) (sym (c .before .before-held .ensures Y (c .before .before .before .before .before .before .before .before .before .before .before .before .before .before .before .before .before .args .code .now) W w F (c .before .before .before .before .before .before .before .loop .j) (omega (arith, c .before .before .before .before .before .before .loop-test .taken, c .before .before .before .before .before .before .before .before .before .least .ensures)) (c .before .before .before .before .before .transition-of .ensures) (sym (c .before .before .before .before .of-four .ensures) ∙ c .before .before .if1 .left)) ∙ not-true (c .before .before-held .result) (c .if2 .taken))))
     -- add-j-2
     (λ c. omega (arith, c .before .before .before .before .before .before .loop-test .taken, c .before .before .before .before .before .before .before .before .before .least .ensures))
     -- loop-less-2
     (λ c. omega (arith, c .before .before .before .before .before .before .loop-test .taken))
     -- loop-again-2
-    (λ c. passed-next (c .before .before .before .before .before .before .before .loop .inv) (c .before .before .before .before .before .before .loop-test .taken) (λ X. sym (c .before .before-held .ensures (c .before .before .before .before .before .before .before .before .before .before .before .before .before .before .before .before .args .code .now) (X .0) (X .1) (X .2) (c .before .before .before .before .before .before .before .loop .j) (omega (arith, c .before .before .before .before .before .before .loop-test .taken, c .before .before .before .before .before .before .before .before .before .least .ensures)) (c .before .before .before .before .before .transition-of .ensures) (sym (c .before .before .before .before .of-four .ensures) ∙ c .before .before .if1 .left)) ∙ not-false (c .before .before-held .result) (c .if2 .left)))
+    (λ c. passed-next (c .before .before .before .before .before .before .before .loop .inv) (c .before .before .before .before .before .before .loop-test .taken) (λ X. sym (c .before .before-held .ensures (X .3) (c .before .before .before .before .before .before .before .before .before .before .before .before .before .before .before .before .before .args .code .now) (X .0) (X .1) (X .2) (c .before .before .before .before .before .before .before .loop .j) (omega (arith, c .before .before .before .before .before .before .loop-test .taken, c .before .before .before .before .before .before .before .before .before .least .ensures)) (c .before .before .before .before .before .transition-of .ensures) (sym (c .before .before .before .before .of-four .ensures) ∙ c .before .before .if1 .left)) ∙ not-false (c .before .before-held .result) (c .if2 .left)))
     -- returns-2
-    (λ c. (omega (arith, c .before .before .before .least .ensures), λ W w F. lowest-end (c .before .before .before .least .ensures) (λ q l. c .before .loop .inv .each (W, w, F) q (omega (arith, c .loop-test .left, c .before .before .before .least .ensures))))))
+    (λ c. (omega (arith, c .before .before .before .least .ensures), λ W w F Y. lowest-end (c .before .before .before .least .ensures) (λ q l. c .before .loop .inv .each (W, w, F, Y) q (omega (arith, c .loop-test .left, c .before .before .before .least .ensures))))))

@@ -14,4 +14,4 @@ nop-held-spec = tie.close (tie.spec
     -- search-requires
     (λ c κs. search needs)
     -- returns
-    (λ c. λ g W j A. plain-held g (c .before .before .before .before .before .before .args .file .now) (c .before .before .before .before .before .before .args .list .now) (c .before .before .before .before .before .before .args .sum .now) (c .before .before .before .before .before .before .args .n) (c .before .before .before .before .before .before .args .program) (c .before .before .before .before .before .before .args .cube) W j (c .before .before .before .before .before .before .args .p) (c .before .before .before .before .before .before .args .from) Nop A true (λ k. sym (and-right (isUndone k))) refl (c .before .before-nop .ensures ((c .before .before .before .before .before .before .args .program) .shape) (W .stepping .sound) (process-exists g (c .before .before .before .before .before .before .args .file .now) (c .before .before .before .before .before .before .args .list .now) (c .before .before .before .before .before .before .args .sum .now) (c .before .before .before .before .before .before .args .n) (c .before .before .before .before .before .before .args .program) (c .before .before .before .before .before .before .args .cube) W j (c .before .before .before .before .before .before .args .p) (c .before .before .before .before .before .before .args .from) Nop A)) (c .search .ensures .1)))
+    (λ c. λ Y g W j A. plain-held g (c .before .before .before .before .before .before .before .args .file .now) (c .before .before .before .before .before .before .before .args .list .now) (c .before .before .before .before .before .before .before .args .sum .now) (c .before .before .before .before .before .before .before .args .n) (c .before .before .before .before .before .before .before .args .program) (c .before .before .before .before .before .before .before .args .cube) W j (c .before .before .before .before .before .before .before .args .p) (c .before .before .before .before .before .before .before .args .from) Nop A true (λ k. sym (and-right (isUndone k))) refl (c .before .before-nop .ensures ((c .before .before .before .before .before .before .before .args .program) .shape) (W .stepping .sound) (process-exists g (c .before .before .before .before .before .before .before .args .file .now) (c .before .before .before .before .before .before .before .args .list .now) (c .before .before .before .before .before .before .before .args .sum .now) (c .before .before .before .before .before .before .before .args .n) (c .before .before .before .before .before .before .before .args .program) (c .before .before .before .before .before .before .before .args .cube) W j (c .before .before .before .before .before .before .before .args .p) (c .before .before .before .before .before .before .before .args .from) Nop A)) (c .found .ensures Y)))

@@ -12,4 +12,4 @@ on-top-held-spec = tie.close (tie.spec
     -- search-requires
     (λ c κs. search needs)
     -- returns
-    (λ c. λ g W j A z l. take-searched g (c .before .before .before .before .before .before .args .file .now) (c .before .before .before .before .before .before .args .list .now) (c .before .before .before .before .before .before .args .sum .now) (c .before .before .before .before .before .before .args .n) (c .before .before .before .before .before .before .args .program) (c .before .before .before .before .before .before .args .cube) W j (c .before .before .before .before .before .before .args .p) (c .before .before .before .before .before .before .args .from) (Arw (c .before .before .before .before .before .before .args .v) (c .before .before .before .before .before .before .args .old) (c .before .before .before .before .before .before .args .x)) A (onTop (c .before .before .before .before .before .before .args .u)) (top-has g (c .before .before .before .before .before .before .args .file .now) (c .before .before .before .before .before .before .args .list .now) (c .before .before .before .before .before .before .args .sum .now) (c .before .before .before .before .before .before .args .n) (c .before .before .before .before .before .before .args .program) (c .before .before .before .before .before .before .args .cube) W j (c .before .before .before .before .before .before .args .p) (c .before .before .before .before .before .before .args .from) (c .before .before .before .before .before .before .args .v) (c .before .before .before .before .before .before .args .old) (c .before .before .before .before .before .before .args .x) A z (c .before .before .before .before .before .before .args .u) l) (c .before .before-arw-on-top .ensures ((c .before .before .before .before .before .before .args .program) .shape) (c .before .before .before .before .before .before .args .x) (W .stepping .sound) (process-exists g (c .before .before .before .before .before .before .args .file .now) (c .before .before .before .before .before .before .args .list .now) (c .before .before .before .before .before .before .args .sum .now) (c .before .before .before .before .before .before .args .n) (c .before .before .before .before .before .before .args .program) (c .before .before .before .before .before .before .args .cube) W j (c .before .before .before .before .before .before .args .p) (c .before .before .before .before .before .before .args .from) (Arw (c .before .before .before .before .before .before .args .v) (c .before .before .before .before .before .before .args .old) (c .before .before .before .before .before .before .args .x)) A)) (c .search .ensures .1)))
+    (λ c. λ Y g W j A z l. take-searched g (c .before .before .before .before .before .before .before .args .file .now) (c .before .before .before .before .before .before .before .args .list .now) (c .before .before .before .before .before .before .before .args .sum .now) (c .before .before .before .before .before .before .before .args .n) (c .before .before .before .before .before .before .before .args .program) (c .before .before .before .before .before .before .before .args .cube) W j (c .before .before .before .before .before .before .before .args .p) (c .before .before .before .before .before .before .before .args .from) (Arw (c .before .before .before .before .before .before .before .args .v) (c .before .before .before .before .before .before .before .args .old) (c .before .before .before .before .before .before .before .args .x)) A (onTop (c .before .before .before .before .before .before .before .args .u)) (top-has g (c .before .before .before .before .before .before .before .args .file .now) (c .before .before .before .before .before .before .before .args .list .now) (c .before .before .before .before .before .before .before .args .sum .now) (c .before .before .before .before .before .before .before .args .n) (c .before .before .before .before .before .before .before .args .program) (c .before .before .before .before .before .before .before .args .cube) W j (c .before .before .before .before .before .before .before .args .p) (c .before .before .before .before .before .before .before .args .from) (c .before .before .before .before .before .before .before .args .v) (c .before .before .before .before .before .before .before .args .old) (c .before .before .before .before .before .before .before .args .x) A z (c .before .before .before .before .before .before .before .args .u) l) (c .before .before-arw-on-top .ensures ((c .before .before .before .before .before .before .before .args .program) .shape) (c .before .before .before .before .before .before .before .args .x) (W .stepping .sound) (process-exists g (c .before .before .before .before .before .before .before .args .file .now) (c .before .before .before .before .before .before .before .args .list .now) (c .before .before .before .before .before .before .before .args .sum .now) (c .before .before .before .before .before .before .before .args .n) (c .before .before .before .before .before .before .before .args .program) (c .before .before .before .before .before .before .before .args .cube) W j (c .before .before .before .before .before .before .before .args .p) (c .before .before .before .before .before .before .before .args .from) (Arw (c .before .before .before .before .before .before .before .args .v) (c .before .before .before .before .before .before .before .args .old) (c .before .before .before .before .before .before .before .args .x)) A)) (c .found .ensures Y)))

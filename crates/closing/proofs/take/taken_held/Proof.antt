@@ -30,14 +30,14 @@ taken-held-spec = tie.close (tie.spec
     -- arw-held-requires
     (λ c κs. search needs)
     -- returns
-    (λ c. λ g W w j l e a. c .nop-held .ensures g W j (acting g (c .before .before .before .before .before .before .args .file .now) (c .before .before .before .before .before .before .args .list .now) (c .before .before .before .before .before .before .args .n) (c .before .before .before .before .before .before .args .program) (c .before .before .before .before .before .before .args .cube) j (c .before .before .before .before .before .before .args .transition) e l a (c .before .enum-told .given .1)))
+    (λ c. λ Y g W w j l e a. c .nop-held .ensures Y g W j (acting g (c .before .before .before .before .before .before .before .args .file .now) (c .before .before .before .before .before .before .before .args .list .now) (c .before .before .before .before .before .before .before .args .n) (c .before .before .before .before .before .before .before .args .program) (c .before .before .before .before .before .before .before .args .cube) j (c .before .before .before .before .before .before .before .args .transition) e l a (c .before .enum-told .given .1)))
     -- returns-2
-    (λ c. λ g W w j l e a. c .read-held .ensures w g W j (acting g (c .before .before .before .before .before .before .before .args .file .now) (c .before .before .before .before .before .before .before .args .list .now) (c .before .before .before .before .before .before .before .args .n) (c .before .before .before .before .before .before .before .args .program) (c .before .before .before .before .before .before .before .args .cube) j (c .before .before .before .before .before .before .before .args .transition) e l a (c .before .before .operation .given .1)))
+    (λ c. λ Y g W w j l e a. c .read-held .ensures w Y g W j (acting g (c .before .before .before .before .before .before .before .before .args .file .now) (c .before .before .before .before .before .before .before .before .args .list .now) (c .before .before .before .before .before .before .before .before .args .n) (c .before .before .before .before .before .before .before .before .args .program) (c .before .before .before .before .before .before .before .before .args .cube) j (c .before .before .before .before .before .before .before .before .args .transition) e l a (c .before .before .operation .given .1)))
     -- returns-3
-    (λ c. λ g W w j l e a. c .write-held .ensures g W j (acting g (c .before .before .before .before .before .before .before .args .file .now) (c .before .before .before .before .before .before .before .args .list .now) (c .before .before .before .before .before .before .before .args .n) (c .before .before .before .before .before .before .before .args .program) (c .before .before .before .before .before .before .before .args .cube) j (c .before .before .before .before .before .before .before .args .transition) e l a (c .before .before .operation2 .given .1)))
+    (λ c. λ Y g W w j l e a. c .write-held .ensures Y g W j (acting g (c .before .before .before .before .before .before .before .before .args .file .now) (c .before .before .before .before .before .before .before .before .args .list .now) (c .before .before .before .before .before .before .before .before .args .n) (c .before .before .before .before .before .before .before .before .args .program) (c .before .before .before .before .before .before .before .before .args .cube) j (c .before .before .before .before .before .before .before .before .args .transition) e l a (c .before .before .operation2 .given .1)))
     -- returns-4
-    (λ c. λ g W w j l e a. c .mfence-held .ensures g W j (acting g (c .before .before .before .before .before .before .args .file .now) (c .before .before .before .before .before .before .args .list .now) (c .before .before .before .before .before .before .args .n) (c .before .before .before .before .before .before .args .program) (c .before .before .before .before .before .before .args .cube) j (c .before .before .before .before .before .before .args .transition) e l a (c .before .enum-told2 .given .1)))
+    (λ c. λ Y g W w j l e a. c .mfence-held .ensures Y g W j (acting g (c .before .before .before .before .before .before .before .args .file .now) (c .before .before .before .before .before .before .before .args .list .now) (c .before .before .before .before .before .before .before .args .n) (c .before .before .before .before .before .before .before .args .program) (c .before .before .before .before .before .before .before .args .cube) j (c .before .before .before .before .before .before .before .args .transition) e l a (c .before .enum-told2 .given .1)))
     -- returns-5
-    (λ c. λ g W w j l e a. c .sfence-held .ensures g W j (acting g (c .before .before .before .before .before .before .args .file .now) (c .before .before .before .before .before .before .args .list .now) (c .before .before .before .before .before .before .args .n) (c .before .before .before .before .before .before .args .program) (c .before .before .before .before .before .before .args .cube) j (c .before .before .before .before .before .before .args .transition) e l a (c .before .enum-told3 .given .1)))
+    (λ c. λ Y g W w j l e a. c .sfence-held .ensures Y g W j (acting g (c .before .before .before .before .before .before .before .args .file .now) (c .before .before .before .before .before .before .before .args .list .now) (c .before .before .before .before .before .before .before .args .n) (c .before .before .before .before .before .before .before .args .program) (c .before .before .before .before .before .before .before .args .cube) j (c .before .before .before .before .before .before .before .args .transition) e l a (c .before .enum-told3 .given .1)))
     -- returns-6
-    (λ c. λ g W w j l e a. c .arw-held .ensures g W j (acting g (c .before .before .before .before .before .before .before .args .file .now) (c .before .before .before .before .before .before .before .args .list .now) (c .before .before .before .before .before .before .before .args .n) (c .before .before .before .before .before .before .before .args .program) (c .before .before .before .before .before .before .before .args .cube) j (c .before .before .before .before .before .before .before .args .transition) e l a (c .before .before .operation3 .given .1))))
+    (λ c. λ Y g W w j l e a. c .arw-held .ensures Y g W j (acting g (c .before .before .before .before .before .before .before .before .args .file .now) (c .before .before .before .before .before .before .before .before .args .list .now) (c .before .before .before .before .before .before .before .before .args .n) (c .before .before .before .before .before .before .before .before .args .program) (c .before .before .before .before .before .before .before .before .args .cube) j (c .before .before .before .before .before .before .before .before .args .transition) e l a (c .before .before .operation3 .given .1))))

@@ -12,7 +12,7 @@ write-held-spec = tie.close (tie.spec
     -- may-write-requires
     (λ c κs. search needs)
     -- returns
-    (λ c. λ g W j A. write-none g (c .before .before .before .before .before .before .args .file .now) (c .before .before .before .before .before .before .args .list .now) (c .before .before .before .before .before .before .args .sum .now) (c .before .before .before .before .before .before .args .n) (c .before .before .before .before .before .before .args .program) (c .before .before .before .before .before .before .args .cube) W j (c .before .before .before .before .before .before .args .p) (c .before .before .before .before .before .before .args .from) (c .before .before .before .before .before .before .args .v) (c .before .before .before .before .before .before .args .x) A (sym (c .before .may-write .ensures) ∙ not-true (c .before .may-write .result) (c .if1 .taken)))
+    (λ c. λ Y g W j A. write-none g (c .before .before .before .before .before .before .before .args .file .now) (c .before .before .before .before .before .before .before .args .list .now) (c .before .before .before .before .before .before .before .args .sum .now) (c .before .before .before .before .before .before .before .args .n) (c .before .before .before .before .before .before .before .args .program) (c .before .before .before .before .before .before .before .args .cube) W j (c .before .before .before .before .before .before .before .args .p) (c .before .before .before .before .before .before .before .args .from) (c .before .before .before .before .before .before .before .args .v) (c .before .before .before .before .before .before .before .args .x) A (sym (c .before .may-write .ensures) ∙ not-true (c .before .may-write .result) (c .if1 .taken)))
     -- before-write-requires
     (λ c κs. search needs)
     -- search-requires
@@ -24,4 +24,4 @@ write-held-spec = tie.close (tie.spec
     -- both-requires
     (λ c κs. search needs)
     -- returns-2
-    (λ c. λ g W j A. let a = process-exists g (c .before .before .before .before .before .before .before .before .before .before .before .args .file .now) (c .before .before .before .before .before .before .before .before .before .before .before .args .list .now) (c .before .before .before .before .before .before .before .before .before .before .before .args .sum .now) (c .before .before .before .before .before .before .before .before .before .before .before .args .n) (c .before .before .before .before .before .before .before .before .before .before .before .args .program) (c .before .before .before .before .before .before .before .before .before .before .before .args .cube) W j (c .before .before .before .before .before .before .before .before .before .before .before .args .p) (c .before .before .before .before .before .before .before .before .before .before .before .args .from) (Write (c .before .before .before .before .before .before .before .before .before .before .before .args .v) (c .before .before .before .before .before .before .before .before .before .before .before .args .x)) A in let b = operation-exists g (c .before .before .before .before .before .before .before .before .before .before .before .args .file .now) (c .before .before .before .before .before .before .before .before .before .before .before .args .list .now) (c .before .before .before .before .before .before .before .before .before .before .before .args .sum .now) (c .before .before .before .before .before .before .before .before .before .before .before .args .n) (c .before .before .before .before .before .before .before .before .before .before .before .args .program) (c .before .before .before .before .before .before .before .before .before .before .before .args .cube) W j (c .before .before .before .before .before .before .before .before .before .before .before .args .p) (c .before .before .before .before .before .before .before .before .before .before .before .args .from) (Write (c .before .before .before .before .before .before .before .before .before .before .before .args .v) (c .before .before .before .before .before .before .before .before .before .before .before .args .x)) A .0 in let z = sym (c .before .before .before .before .before .before .may-write .ensures) ∙ not-false (c .before .before .before .before .before .before .may-write .result) (c .before .before .before .before .before .if1 .left) in c .both .ensures ∙ write-both g (c .before .before .before .before .before .before .before .before .before .before .before .args .file .now) (c .before .before .before .before .before .before .before .before .before .before .before .args .list .now) (c .before .before .before .before .before .before .before .before .before .before .before .args .sum .now) (c .before .before .before .before .before .before .before .before .before .before .before .args .n) (c .before .before .before .before .before .before .before .before .before .before .before .args .program) (c .before .before .before .before .before .before .before .before .before .before .before .args .cube) W j (c .before .before .before .before .before .before .before .before .before .before .before .args .p) (c .before .before .before .before .before .before .before .before .before .before .before .args .from) (c .before .before .before .before .before .before .before .before .before .before .before .args .v) (c .before .before .before .before .before .before .before .before .before .before .before .args .x) A z (c .before .before .before .search .result) (c .before .search2 .result) (take-searched g (c .before .before .before .before .before .before .before .before .before .before .before .args .file .now) (c .before .before .before .before .before .before .before .before .before .before .before .args .list .now) (c .before .before .before .before .before .before .before .before .before .before .before .args .sum .now) (c .before .before .before .before .before .before .before .before .before .before .before .args .n) (c .before .before .before .before .before .before .before .before .before .before .before .args .program) (c .before .before .before .before .before .before .before .before .before .before .before .args .cube) W j (c .before .before .before .before .before .before .before .before .before .before .before .args .p) (c .before .before .before .before .before .before .before .before .before .before .before .args .from) (Write (c .before .before .before .before .before .before .before .before .before .before .before .args .v) (c .before .before .before .before .before .before .before .before .before .before .before .args .x)) A undone z (c .before .before .before .before .before-write .ensures ((c .before .before .before .before .before .before .before .before .before .before .before .args .program) .shape) (c .before .before .before .before .before .before .before .before .before .before .before .args .x) (W .stepping .sound) a b) (c .before .before .before .search .ensures .1)) (take-searched g (c .before .before .before .before .before .before .before .before .before .before .before .args .file .now) (c .before .before .before .before .before .before .before .before .before .before .before .args .list .now) (c .before .before .before .before .before .before .before .before .before .before .before .args .sum .now) (c .before .before .before .before .before .before .before .before .before .before .before .args .n) (c .before .before .before .before .before .before .before .before .before .before .before .args .program) (c .before .before .before .before .before .before .before .before .before .before .before .args .cube) W j (c .before .before .before .before .before .before .before .before .before .before .before .args .p) (c .before .before .before .before .before .before .before .before .before .before .before .args .from) (Write (c .before .before .before .before .before .before .before .before .before .before .before .args .v) (c .before .before .before .before .before .before .before .before .before .before .before .args .x)) A waited z (c .before .before .before-write-waited .ensures ((c .before .before .before .before .before .before .before .before .before .before .before .args .program) .shape) (c .before .before .before .before .before .before .before .before .before .before .before .args .x) (W .stepping .sound) a b) (c .before .search2 .ensures .1))))
+    (λ c. λ Y g W j A. let a = process-exists g (c .before .before .before .before .before .before .before .before .before .before .before .before .args .file .now) (c .before .before .before .before .before .before .before .before .before .before .before .before .args .list .now) (c .before .before .before .before .before .before .before .before .before .before .before .before .args .sum .now) (c .before .before .before .before .before .before .before .before .before .before .before .before .args .n) (c .before .before .before .before .before .before .before .before .before .before .before .before .args .program) (c .before .before .before .before .before .before .before .before .before .before .before .before .args .cube) W j (c .before .before .before .before .before .before .before .before .before .before .before .before .args .p) (c .before .before .before .before .before .before .before .before .before .before .before .before .args .from) (Write (c .before .before .before .before .before .before .before .before .before .before .before .before .args .v) (c .before .before .before .before .before .before .before .before .before .before .before .before .args .x)) A in let b = operation-exists g (c .before .before .before .before .before .before .before .before .before .before .before .before .args .file .now) (c .before .before .before .before .before .before .before .before .before .before .before .before .args .list .now) (c .before .before .before .before .before .before .before .before .before .before .before .before .args .sum .now) (c .before .before .before .before .before .before .before .before .before .before .before .before .args .n) (c .before .before .before .before .before .before .before .before .before .before .before .before .args .program) (c .before .before .before .before .before .before .before .before .before .before .before .before .args .cube) W j (c .before .before .before .before .before .before .before .before .before .before .before .before .args .p) (c .before .before .before .before .before .before .before .before .before .before .before .before .args .from) (Write (c .before .before .before .before .before .before .before .before .before .before .before .before .args .v) (c .before .before .before .before .before .before .before .before .before .before .before .before .args .x)) A .0 in let z = sym (c .before .before .before .before .before .before .may-write .ensures) ∙ not-false (c .before .before .before .before .before .before .may-write .result) (c .before .before .before .before .before .if1 .left) in c .both .ensures ∙ write-both g (c .before .before .before .before .before .before .before .before .before .before .before .before .args .file .now) (c .before .before .before .before .before .before .before .before .before .before .before .before .args .list .now) (c .before .before .before .before .before .before .before .before .before .before .before .before .args .sum .now) (c .before .before .before .before .before .before .before .before .before .before .before .before .args .n) (c .before .before .before .before .before .before .before .before .before .before .before .before .args .program) (c .before .before .before .before .before .before .before .before .before .before .before .before .args .cube) W j (c .before .before .before .before .before .before .before .before .before .before .before .before .args .p) (c .before .before .before .before .before .before .before .before .before .before .before .before .args .from) (c .before .before .before .before .before .before .before .before .before .before .before .before .args .v) (c .before .before .before .before .before .before .before .before .before .before .before .before .args .x) A z (c .before .before .before .found .result) (c .before .found2 .result) (take-searched g (c .before .before .before .before .before .before .before .before .before .before .before .before .args .file .now) (c .before .before .before .before .before .before .before .before .before .before .before .before .args .list .now) (c .before .before .before .before .before .before .before .before .before .before .before .before .args .sum .now) (c .before .before .before .before .before .before .before .before .before .before .before .before .args .n) (c .before .before .before .before .before .before .before .before .before .before .before .before .args .program) (c .before .before .before .before .before .before .before .before .before .before .before .before .args .cube) W j (c .before .before .before .before .before .before .before .before .before .before .before .before .args .p) (c .before .before .before .before .before .before .before .before .before .before .before .before .args .from) (Write (c .before .before .before .before .before .before .before .before .before .before .before .before .args .v) (c .before .before .before .before .before .before .before .before .before .before .before .before .args .x)) A undone z (c .before .before .before .before .before-write .ensures ((c .before .before .before .before .before .before .before .before .before .before .before .before .args .program) .shape) (c .before .before .before .before .before .before .before .before .before .before .before .before .args .x) (W .stepping .sound) a b) (c .before .before .before .found .ensures Y)) (take-searched g (c .before .before .before .before .before .before .before .before .before .before .before .before .args .file .now) (c .before .before .before .before .before .before .before .before .before .before .before .before .args .list .now) (c .before .before .before .before .before .before .before .before .before .before .before .before .args .sum .now) (c .before .before .before .before .before .before .before .before .before .before .before .before .args .n) (c .before .before .before .before .before .before .before .before .before .before .before .before .args .program) (c .before .before .before .before .before .before .before .before .before .before .before .before .args .cube) W j (c .before .before .before .before .before .before .before .before .before .before .before .before .args .p) (c .before .before .before .before .before .before .before .before .before .before .before .before .args .from) (Write (c .before .before .before .before .before .before .before .before .before .before .before .before .args .v) (c .before .before .before .before .before .before .before .before .before .before .before .before .args .x)) A waited z (c .before .before .before-write-waited .ensures ((c .before .before .before .before .before .before .before .before .before .before .before .before .args .program) .shape) (c .before .before .before .before .before .before .before .before .before .before .before .before .args .x) (W .stepping .sound) a b) (c .before .found2 .ensures Y))))

@@ -1,0 +1,37 @@
+-- Cubes in a full family are held, and the updates of an entry in one.
+use Prim.Native.Nat.{ℕ, _+_, _/_, _%_, _<_, _≤_}
+use mathlib.Core.Path.{_≡_, refl, sym, subst}
+use mathlib.Core.List.{List}
+use native.Mathlib.Omega.{arith}
+use Rattle.pws.specs.declared.Step.the-variants.{Take, Serialise, Update}
+use Rattle.lists.specs.Decision.{held}
+use Rattle.program_part.specs.declared.program.Shape.{Shape}
+use Rattle.program_part.specs.declared.program.Program.{Program}
+use Rattle.program_part.specs.ProgramPart.{shapeOf, programOf}
+use Rattle.whole_file.specs.declared.entry.Cube.{Cube}
+use Rattle.whole_file.specs.Cube.{configurationOf}
+use Rattle.by_number.specs.Again.{entriesOf}
+use Rattle.full_states.specs.Table.{Full}
+use Rattle.families.specs.Family.{Families, Recorded}
+use Rattle.families.proofs.TableLaws.{recorded-held, recorded-update}
+use Rattle.cover.specs.Search.{Searchable}
+use Rattle.closing.specs.Walk.{stepHeld, walkStep, LowestFailing, Walkable}
+use Rattle.closing.proofs.WalkLaws.{lowest-end, walk-update}
+use mathlib.Core.Bool.{Bool, true}
+
+pub found-held : (s : Shape) (f list sum : List ℕ) (n : ℕ) (table : List ℕ) (c : Cube) → Recorded table f list n s c → Families (shapeOf s) (entriesOf f list n) table → Searchable f list sum n s c
+    → true ≡ held (shapeOf s) (entriesOf f list n) (configurationOf c)
+found-held s f list sum n table c r F Z = sym (recorded-held s (Z .plain .shape) f list n table F c r (Z .plain .entries) (Z .plain .fits))
+
+module _ (g f list sum : List ℕ) (n : ℕ) (p : Program) (c : Cube) (full table : List ℕ) (W : Walkable g f list sum n p c) (F : Full (programOf g p) (entriesOf f list n) full)
+    (Y : Families (shapeOf (p .shape)) (entriesOf f list n) table) (r : Recorded table f list n (p .shape) c) where
+  -- no update leads in
+  pub walk-family : (m t s : ℕ) → LowestFailing (λ j. stepHeld (programOf g p) (entriesOf f list n) (configurationOf c) (Take j)) m t → m ≤ t
+      → LowestFailing (λ i. stepHeld (programOf g p) (entriesOf f list n) (configurationOf c) (Serialise (i / 4) (i % 4))) 16 s → 16 ≤ s
+      → LowestFailing (λ j. stepHeld (programOf g p) (entriesOf f list n) (configurationOf c) (walkStep m j)) (m + 20) (m + 20)
+  unfolding stepHeld
+  walk-family m t s w l u k =
+      let e : m + 16 + 4 ≡ m + 20 = omega arith in
+      subst (λ (r : ℕ). LowestFailing (λ j. stepHeld (programOf g p) (entriesOf f list n) (configurationOf c) (walkStep m j)) (m + 20) r) e
+      (walk-update (stepHeld (programOf g p) (entriesOf f list n) (configurationOf c)) m w l u k
+      (lowest-end {r = 4} refl (λ q b. recorded-update (p .shape) (W .stepping .program .shape) f list n table Y c r (programOf g p) (W .stepping .program) refl (F .entries) (W .own) q)))
