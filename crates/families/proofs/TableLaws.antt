@@ -5,9 +5,9 @@ use mathlib.Core.Bool.{Bool, true}
 use mathlib.Core.List.{List}
 use native.Mathlib.Omega.{arith}
 use native.Mathlib.Decide.{ℕ-discrete, decLt}
-use lib.ListN.{length, getD}
+use lib.ListN.{length, getD, replicate, length-replicate, getD-replicate}
 use lib.Dec.{T, eqb, eqb→eq}
-use borrow.Author.Tests.{le-ltb}
+use borrow.Author.Tests.{lt-ltb, le-ltb}
 use Rattle.pws.specs.declared.Message.{Message}
 use Rattle.pws.specs.declared.Step.the-variants.{Update}
 use Rattle.pws.specs.Program as pws
@@ -23,7 +23,9 @@ use Rattle.lists.specs.Predecessors.{predecessors}
 use Rattle.lists.specs.Decision.{held}
 use Rattle.lists.proofs.Matching.{queue-leftmost}
 use Rattle.program_part.specs.declared.program.Shape.{Shape}
+use Rattle.program_part.specs.Bytes.{byte, le32}
 use Rattle.program_part.specs.ProgramPart.{shapeOf}
+use Rattle.program_part.proofs.ByteLaws.{byte-past}
 use Rattle.whole_file.specs.declared.entry.Cube.{Cube}
 use Rattle.whole_file.specs.Cube.{noQueue, waitingOf, channelOf, configurationOf}
 use Rattle.whole_file.proofs.CubeParts.{queue-of}
@@ -68,6 +70,20 @@ module _ (s : Shape) (e c : Cube) (few : s .processes ≤ 4) (narrow : s .variab
 word-short : (table : List ℕ) (i x : ℕ) → length table / 4 ≤ i → putWord table i x ≡ table
 unfolding putWord
 word-short table i x l = rw (le-ltb i (length table / 4) l) refl
+
+-- an empty table
+pub families-none : (S : pws.Shape) (es : List Configuration) (m : ℕ) → Families S es (replicate m 0)
+unfolding word le32
+families-none S es m i a b c = absurd (omega (arith, b, blank-word i))
+  where
+    blank : (i : ℕ) → byte (replicate m 0) i ≡ 0
+    blank i = elim (decLt i m) [ yes l ↦ getD-replicate m i 0 0 l | no l ↦ byte-past (replicate m 0) i (omega (arith, length-replicate {A = ℕ} m 0)) ]
+
+    blank-word : (i : ℕ) → word (replicate m 0) i ≡ 0
+    blank-word i = elim (decLt i (length (replicate {A = ℕ} m 0) / 4)) [
+      | yes l ↦ rw (lt-ltb i (length (replicate {A = ℕ} m 0) / 4) l) (omega (arith, blank (4 * i), blank (4 * i + 1), blank (4 * i + 2), blank (4 * i + 3)))
+      | no l ↦ rw (le-ltb i (length (replicate {A = ℕ} m 0) / 4) (omega arith)) refl
+    ]
 
 module _ (S : pws.Shape) (es : List Configuration) (table : List ℕ) where
   -- what counts is not asked

@@ -16,13 +16,15 @@ use Rattle.lists.specs.Decision.{targetHeld}
 use Rattle.lists.proofs.Verdict.{target-yes}
 use Rattle.program_part.specs.declared.program.Program.{Program}
 use Rattle.program_part.specs.Records.{stateAt}
-use Rattle.program_part.specs.ProgramPart.{programOf, targetsOf}
+use Rattle.program_part.specs.ProgramPart.{shapeOf, programOf, targetsOf}
 use Rattle.whole_file.specs.Cube.{configurationOf}
 use Rattle.by_number.specs.Again.{cubeAt, entriesOf, targetOf}
 use Rattle.by_number.proofs.Tables.{table-length}
 use Rattle.by_number.proofs.Again.{target-again}
 use Rattle.full_states.specs.Table.{fourAt, Full, withStates}
 use Rattle.full_states.proofs.TableLaws.{four-is, full-put}
+use Rattle.families.specs.Family.{Families}
+use Rattle.families.proofs.TableLaws.{families-none}
 use Rattle.judge.specs.Ready.{Ready, TargetsHeld, heldTest, closedTest, withTargets}
 use Rattle.judge.proofs.LowestLaws.{SoFar, so-far-begin}
 
@@ -86,17 +88,21 @@ module _ (g f list sum : List ℕ) (n : ℕ) (p : Program) (R : Ready g f list s
 
 -- ---- the entries in turn, with the table beside
 
-pub record Going (g f list : List ℕ) (n : ℕ) (p : Program) (table : List ℕ) (k : ℕ) : Type 0 where
+pub record Going (g f list : List ℕ) (n : ℕ) (p : Program) (table rows : List ℕ) (k : ℕ) : Type 0 where
   pub room : length table ≡ 4096
+  pub size : length rows ≡ 8192
   pub passed : SoFar (closedTest g f list n p) n k
   pub full : Full (programOf g p) (entriesOf f list n) table
+  pub families : Families (shapeOf (p .shape)) (entriesOf f list n) rows
 
 module _ (g f list sum : List ℕ) (n : ℕ) (p : Program) (R : Ready g f list sum n p) where
-  pub going-begin : TargetsHeld g f list n p → (m : ℕ) (table new : List ℕ) → table ≡ replicate m 255 → new ≡ withTargets g p table (p .targets .count) → length new ≡ 4096 → Going g f list n p new 0
-  going-begin H m table new e d l =
+  pub going-begin : TargetsHeld g f list n p → (m : ℕ) (table new : List ℕ) → table ≡ replicate m 255 → new ≡ withTargets g p table (p .targets .count) → length new ≡ 4096 → (q : ℕ) (families : List ℕ) → families ≡ replicate q 0 → length families ≡ 8192 → Going g f list n p new families 0
+  going-begin H m table new e d l q families z y =
       record {
         room = l;
+        size = y;
         passed = so-far-begin (closedTest g f list n p) n;
         full = subst (Full (programOf g p) (entriesOf f list n)) (sym d)
             (full-targets g f list sum n p R H table (subst (Full (programOf g p) (entriesOf f list n)) (sym e) (full-none g f list sum n p R m)) (p .targets .count) (omega arith));
+        families = subst (Families (shapeOf (p .shape)) (entriesOf f list n)) (sym z) (families-none (shapeOf (p .shape)) (entriesOf f list n) q);
       }

@@ -1,11 +1,13 @@
 // A list judged to its end: each target against the list, each entry against the starts, each entry's predecessors (document 01, numbers 9, 10
 // and 11).
 ghost use mathlib.Core.Path.{_≡_};
+ghost use Prim.Native.Nat.{_<_};
 ghost use lib.ListN.{length};
 ghost use Rattle.pws.specs.Program as pws;
 ghost use Rattle.program_part.specs.ProgramPart.{shapeOf};
 ghost use Rattle.by_number.specs.Again.{entriesOf};
 ghost use Rattle.full_states.specs.Table.{Full};
+ghost use Rattle.families.specs.Family.{Families};
 ghost use Rattle.targets.specs.Walk.{Searches};
 ghost use Rattle.closing.specs.Walk.{LowestFailing};
 ghost use Rattle.verdict.specs.Answers.{verdictIn};
@@ -13,12 +15,15 @@ ghost use Rattle.judge.specs.Ready.{Ready, TargetsHeld, withTargets, hel
 use by_number::target_of;
 use closing::Opening;
 use closing::open_step;
+use full_states::is_full;
 use full_states::put_full;
 use program_part::bytes::both;
 use program_part::program::Program;
 use program_part::program::Shape;
+use summary::states_at;
 use targets::entry_started;
 use targets::put_groups;
+use targets::put_member;
 use targets::target_held;
 use verdict::answer::Answer;
 
@@ -128,6 +133,66 @@ fn put_others(
     put_groups(file, list, sum, n, shape, least_entries(shape), table);
 }
 
+// So many entries like one another are met before their family is tested: a sixteenth of the cubes that the test looks for. 0 for the shapes of
+// which no list holds a whole family. Only the speed depends on it.
+fn members_for(shape: Shape) -> usize {
+    let processes = shape.processes;
+    let variables = shape.variables;
+    if processes == 1 {
+        return members_alone(variables);
+    }
+    if processes == 2 {
+        return members_of_two(variables);
+    }
+    if both(processes == 3, variables == 1) {
+        return 346;
+    }
+    0
+}
+
+fn members_alone(variables: usize) -> usize {
+    match variables {
+        1 => 1,
+        2 => 1,
+        3 => 3,
+        4 => 16,
+        _ => 0,
+    }
+}
+
+fn members_of_two(variables: usize) -> usize {
+    match variables {
+        1 => 4,
+        2 => 204,
+        3 => 14594,
+        _ => 0,
+    }
+}
+
+// The family of entry k joins the table if it is found full. Where local states are full there is no need of it.
+fn put_like(
+    full: &[u8],
+    file: &[u8],
+    list: &[u8],
+    sum: &[u8],
+    n: usize,
+    shape: Shape,
+    k: usize,
+    families: &mut [u8],
+)
+    requires { ⌜ k < 524288 ⌝ }
+    ensures { λ _. ⌜ (length (now (families .exit)) ≡ length (now (families .entry))) × (k < n → Searches (now (file .entry)) (now (list .entry)) (now (sum .entry)) n shape → Families (shapeOf shape) (entriesOf (now (file .entry)) (now (list .entry)) n) (now (families .entry)) → Families (shapeOf shape) (entriesOf (now (file .entry)) (now (list .entry)) n) (now (families .exit))) ⌝ }
+{
+    let most = members_for(shape);
+    if most == 0 {
+        return;
+    }
+    if is_full(full, shape, states_at(file, list, shape, k)) {
+        return;
+    }
+    put_member(file, list, sum, n, shape, most, k, families);
+}
+
 // The lowest entry with a way in from outside the list, and the lowest step of it; safe if there is none.
 fn lowest_entered(
     code: &[u8],
@@ -144,9 +209,11 @@ fn lowest_entered(
     // local states that no process has
     let mut table = [255u8; 4096];
     put_targets(code, program, &mut table);
+    let mut families = [0u8; 8192];
     for k in 0..n {
         put_others(file, list, sum, n, shape, k, &mut table);
-        let opening = open_step(&table, code, file, list, sum, n, program, k);
+        put_like(&table, file, list, sum, n, shape, k, &mut families);
+        let opening = open_step(&table, &families, code, file, list, sum, n, program, k);
         if let Opening::Through { step } = opening {
             return Answer::Entered {
                 entry: k,
