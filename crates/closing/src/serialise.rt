@@ -23,6 +23,8 @@ use before::serialise::before_serialise_inside;
 use before::serialise::before_serialise_on_top;
 use before::serialise::may_serialise;
 use crate::finding::found;
+use cover::search::search;
+use families::in_full_family;
 use matching::least;
 use program_part::program::Program;
 use whole_file::entry::Cube;
@@ -97,15 +99,12 @@ fn label_held(
     ensures { λ r. ⌜ (Families (shapeOf (program .shape)) (entriesOf (now (file .entry)) (now (list .entry)) n) (now (families .entry)) → (g : List ℕ) → Serialising g (now (file .entry)) (now (list .entry)) (now (sum .entry)) n program cube p v → r ≡ stepHeld (programOf g program) (entriesOf (now (file .entry)) (now (list .entry)) n) (configurationOf cube) (Serialise p v)) ⌝ }
 {
     let shape = program.shape;
-    if !found(
-        families,
-        file,
-        list,
-        sum,
-        n,
-        shape,
-        before_serialise_on_top(cube, p, v),
-    ) {
+    let top = before_serialise_on_top(cube, p, v);
+    // whatever the serialise leads from is in the family of this cube
+    if in_full_family(families, file, list, n, shape, top) {
+        return true;
+    }
+    if !search(file, list, sum, n, shape, top) {
         return false;
     }
     if !alike_before(cube, v as usize, 255) {

@@ -31,8 +31,8 @@ use Rattle.lists.proofs.Lists.{T-true, every-yes}
 use Rattle.lists.proofs.Covering.{above-match, above-over}
 use Rattle.lists.proofs.Shapes.{shape-of, irreducible-short, memory-shape}
 use Rattle.lists.proofs.Splitting.{held-decided, decided-yes, decided-no}
-use Rattle.lists.proofs.Verdict.{step-no}
 use Rattle.families.specs.Family.{InFamily, FamilyHeld, topped, familyCube, familyCubes}
+use Rattle.families.proofs.Steps.{shut-step}
 use Rattle.families.proofs.InLaws.{family-trans, pairwise-values, family-filled, top-newest, family-above}
 
 module _ (S : Shape) (R : ShapeInRange S) (es : List Configuration) (oes : (k : ℕ) → k < length es → Fits (ValueOrFF S) S (entry es k)) where
@@ -148,16 +148,11 @@ module _ (S : Shape) (R : ShapeInRange S) (es : List Configuration) (oes : (k : 
         decided-yes (held-decided S R es oes (familyCube e m) (cubes-fit (familyCube e m) k)) (every-yes (held S es) (familyCubes S e) (subst T (sym y) tt) (familyCube e m) k))
 
 -- an update leaves local states, queues and the newest message as they are: none leads in from outside
-module _ (P : Program) (R : ProgramInRange P) (es : List Configuration) (oes : (k : ℕ) → k < length es → EntryOf P (entry es k)) where
+module _ (P : Program) (R : ProgramInRange P) (es : List Configuration) (oes : (k : ℕ) → k < length es → Fits (ValueOrFF (P .shape)) (P .shape) (entry es k)) where
   abbrev S : Shape
   S = P .shape
 
   pub family-update : (e c : Configuration) → FamilyHeld S es e → InFamily S e c → EntryOf P c → (p : ℕ) → every (held S es) (predecessors P c (Update p)) ≡ true
-  family-update e c H i o p =
-      ⊎-elim (T-true _)
-      (λ t.
-      let w = step-no P R es oes c o (Update p) t in
-      let d = w .configuration in
-      let j = family-above S (R .shape) c (after P d (Update p)) (o .fits) (step-configuration P R d (w .of) (Update p) (w .permitted) .fits) (w .above) in
-      absurd (w .outside (H d (w .of .fits) (family-trans i (record { states = j .states; queues = j .queues; newest = j .newest })))))
-      (T-or-not (every (held S es) (predecessors P c (Update p))))
+  family-update e c H i o p = shut-step P R es oes c o (Update p) (λ d w m A.
+      let j = family-above S (R .shape) c (after P d (Update p)) (o .fits) (step-configuration P R d w (Update p) m .fits) A in
+      H d (w .fits) (family-trans i (record { states = j .states; queues = j .queues; newest = j .newest })))

@@ -1,3 +1,5 @@
 pub mod InLaws
+pub mod Steps
 pub mod FullLaws
+pub mod SerialiseLaws
 pub mod TableLaws

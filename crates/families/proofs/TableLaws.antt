@@ -9,7 +9,7 @@ use lib.ListN.{length, getD, replicate, length-replicate, getD-replicate}
 use lib.Dec.{T, eqb, eqb→eq}
 use borrow.Author.Tests.{lt-ltb, le-ltb}
 use Rattle.pws.specs.declared.Message.{Message}
-use Rattle.pws.specs.declared.Step.the-variants.{Update}
+use Rattle.pws.specs.declared.Step.the-variants.{Serialise, Update}
 use Rattle.pws.specs.Program as pws
 use Rattle.pws.specs.Machine.{Configuration, noMessage, allBelow}
 use Rattle.pws.specs.Configurations.{Fits}
@@ -19,7 +19,7 @@ use Rattle.lists.specs.Lists.{every}
 use Rattle.lists.specs.Values.{fills, pairwise}
 use Rattle.lists.specs.Cubes.{topmost}
 use Rattle.lists.specs.Matching.{queueMatches, QueueMatch}
-use Rattle.lists.specs.Predecessors.{predecessors}
+use Rattle.lists.specs.Predecessors.{onTop, cube, predecessors}
 use Rattle.lists.specs.Decision.{held}
 use Rattle.lists.proofs.Matching.{queue-leftmost}
 use Rattle.program_part.specs.declared.program.Shape.{Shape}
@@ -36,6 +36,7 @@ use Rattle.summary.specs.Slots.{word, putWord}
 use Rattle.summary.proofs.WordLaws.{word-same, word-other}
 use Rattle.families.specs.Family.{InFamily, FamilyHeld, Families, Recorded}
 use Rattle.families.proofs.FullLaws.{family-held, family-update}
+use Rattle.families.proofs.SerialiseLaws.{family-serialise}
 
 -- ---- membership
 
@@ -131,9 +132,20 @@ module _ (s : Shape) (R : pws.ShapeInRange (shapeOf s)) (f list : List ℕ) (n :
       → held (shapeOf s) es (configurationOf c) ≡ true
   recorded-held oes o = family-held (shapeOf s) R es (listed (shapeOf s) f list n oes) (configurationOf (cubeAt f list number)) (configurationOf c) found-full found-in o
 
-  pub recorded-update : (P : pws.Program) → pws.ProgramInRange P → P .shape ≡ shapeOf s → ((k : ℕ) → k < length es → EntryOf P (entry es k)) → EntryOf P (configurationOf c)
-      → (p : ℕ) → every (held (P .shape) es) (predecessors P (configurationOf c) (Update p)) ≡ true
-  recorded-update P RP same oes o p =
-      family-update P RP es oes (configurationOf (cubeAt f list number)) (configurationOf c)
-      (subst (λ (S : pws.Shape). FamilyHeld S es (configurationOf (cubeAt f list number))) (sym same) found-full)
-      (subst (λ (S : pws.Shape). InFamily S (configurationOf (cubeAt f list number)) (configurationOf c)) (sym same) found-in) o p
+  module _ (P : pws.Program) (RP : pws.ProgramInRange P) (same : P .shape ≡ shapeOf s) (oes : (k : ℕ) → k < n → Fits (ValueOrFF (shapeOf s)) (shapeOf s) (configurationOf (cubeAt f list k))) where
+    fitting : (k : ℕ) → k < length es → Fits (ValueOrFF (P .shape)) (P .shape) (entry es k)
+    fitting = subst (λ (S : pws.Shape). (k : ℕ) → k < length es → Fits (ValueOrFF S) S (entry es k)) (sym same) (listed (shapeOf s) f list n oes)
+
+    full-here : FamilyHeld (P .shape) es (configurationOf (cubeAt f list number))
+    full-here = subst (λ (S : pws.Shape). FamilyHeld S es (configurationOf (cubeAt f list number))) (sym same) found-full
+
+    in-here : InFamily (P .shape) (configurationOf (cubeAt f list number)) (configurationOf c)
+    in-here = subst (λ (S : pws.Shape). InFamily S (configurationOf (cubeAt f list number)) (configurationOf c)) (sym same) found-in
+
+    pub recorded-update : EntryOf P (configurationOf c) → (p : ℕ) → every (held (P .shape) es) (predecessors P (configurationOf c) (Update p)) ≡ true
+    recorded-update o p = family-update P RP es fitting (configurationOf (cubeAt f list number)) (configurationOf c) full-here in-here o p
+
+    -- the cube is what a serialise to d may lead from, with another newest message
+    pub recorded-serialise : (d : Configuration) → EntryOf P d → (p v : ℕ) → configurationOf c ≡ cube P d (Serialise p v) (onTop v) → every (held (P .shape) es) (predecessors P d (Serialise p v)) ≡ true
+    recorded-serialise d o p v e =
+        family-serialise P RP es fitting (configurationOf (cubeAt f list number)) d p v full-here (subst (InFamily (P .shape) (configurationOf (cubeAt f list number))) e in-here) o

@@ -133,8 +133,8 @@ fn put_others(
     put_groups(file, list, sum, n, shape, least_entries(shape), table);
 }
 
-// So many entries like one another are met before their family is tested: a sixteenth of the cubes that the test looks for. 0 for the shapes of
-// which no list holds a whole family. Only the speed depends on it.
+// So many entries like one another are met before their family is tested: a thirty-second part of the cubes that the test looks for. 0 for the
+// shapes of which no list holds a whole family. Only the speed depends on it.
 fn members_for(shape: Shape) -> usize {
     let processes = shape.processes;
     let variables = shape.variables;
@@ -145,7 +145,7 @@ fn members_for(shape: Shape) -> usize {
         return members_of_two(variables);
     }
     if both(processes == 3, variables == 1) {
-        return 346;
+        return 173;
     }
     0
 }
@@ -154,17 +154,17 @@ fn members_alone(variables: usize) -> usize {
     match variables {
         1 => 1,
         2 => 1,
-        3 => 3,
-        4 => 16,
+        3 => 2,
+        4 => 8,
         _ => 0,
     }
 }
 
 fn members_of_two(variables: usize) -> usize {
     match variables {
-        1 => 4,
-        2 => 204,
-        3 => 14594,
+        1 => 2,
+        2 => 102,
+        3 => 7297,
         _ => 0,
     }
 }

@@ -39,7 +39,7 @@ cube-open-spec = tie.close (tie.spec
     -- add-result-3
     (λ c. omega (arith, c .before .before .before .before .before .before .before .before .before .before .least .ensures))
     -- returns-4
-    (λ c. λ W F Y. rw (c .before .before .before .before .before .before .before .before .before .before .least .ensures) (walk-family (c .before .before .before .before .before .before .before .before .before .before .before .before .before .before .before .before .before .before .args .code .now) (c .before .before .before .before .before .before .before .before .before .before .before .before .before .before .before .before .before .before .args .file .now) (c .before .before .before .before .before .before .before .before .before .before .before .before .before .before .before .before .before .before .args .list .now) (c .before .before .before .before .before .before .before .before .before .before .before .before .before .before .before .before .before .before .args .sum .now) (c .before .before .before .before .before .before .before .before .before .before .before .before .before .before .before .before .before .before .args .n) (c .before .before .before .before .before .before .before .before .before .before .before .before .before .before .before .before .before .before .args .program) (c .before .before .before .before .before .before .before .before .before .before .before .before .before .before .before .before .before .before .args .cube) (c .before .before .before .before .before .before .before .before .before .before .before .before .before .before .before .before .before .before .args .full .now) (c .before .before .before .before .before .before .before .before .before .before .before .before .before .before .before .before .before .before .args .families .now) W F Y (c .before .in-full-family .ensures (c .if4 .taken)) (min (c .before .before .before .before .before .before .before .before .before .before .before .before .before .before .before .before .before .before .args .program .transitions .count) 256) (c .before .before .before .before .before .before .before .before .open-take .result) (c .before .before .before .open-serialise .result) (c .before .before .before .before .before .before .before .before .open-take .ensures .1 W (all-messages (W .stepping .sound) (c .before .before .before .before .before .before .before .before .before .last-writes .result) (c .before .before .before .before .before .before .before .before .before .last-writes .ensures)) F Y) (omega (arith, c .before .before .before .before .before .before .before .if1 .left, c .before .before .before .before .before .before .before .before .before .before .least .ensures)) (c .before .before .before .open-serialise .ensures .1 Y (c .before .before .before .before .before .before .before .before .before .before .before .before .before .before .before .before .before .before .args .code .now) W) (omega (arith, c .before .before .if3 .left))))
+    (λ c. λ W F Y. rw (c .before .before .before .before .before .before .before .before .before .before .least .ensures) (walk-family (c .before .before .before .before .before .before .before .before .before .before .before .before .before .before .before .before .before .before .args .code .now) (c .before .before .before .before .before .before .before .before .before .before .before .before .before .before .before .before .before .before .args .file .now) (c .before .before .before .before .before .before .before .before .before .before .before .before .before .before .before .before .before .before .args .list .now) (c .before .before .before .before .before .before .before .before .before .before .before .before .before .before .before .before .before .before .args .sum .now) (c .before .before .before .before .before .before .before .before .before .before .before .before .before .before .before .before .before .before .args .n) (c .before .before .before .before .before .before .before .before .before .before .before .before .before .before .before .before .before .before .args .program) (c .before .before .before .before .before .before .before .before .before .before .before .before .before .before .before .before .before .before .args .cube) (c .before .before .before .before .before .before .before .before .before .before .before .before .before .before .before .before .before .before .args .families .now) W Y (c .before .in-full-family .ensures (c .if4 .taken)) (min (c .before .before .before .before .before .before .before .before .before .before .before .before .before .before .before .before .before .before .args .program .transitions .count) 256) (c .before .before .before .before .before .before .before .before .open-take .result) (c .before .before .before .open-serialise .result) (c .before .before .before .before .before .before .before .before .open-take .ensures .1 W (all-messages (W .stepping .sound) (c .before .before .before .before .before .before .before .before .before .last-writes .result) (c .before .before .before .before .before .before .before .before .before .last-writes .ensures)) F Y) (omega (arith, c .before .before .before .before .before .before .before .if1 .left, c .before .before .before .before .before .before .before .before .before .before .least .ensures)) (c .before .before .before .open-serialise .ensures .1 Y (c .before .before .before .before .before .before .before .before .before .before .before .before .before .before .before .before .before .before .args .code .now) W) (omega (arith, c .before .before .if3 .left))))
     -- open-update-requires
     (λ c κs. tt)
     -- add-result-4
