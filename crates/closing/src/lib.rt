@@ -67,7 +67,18 @@ fn open_take(
         if of_four(states, transition.process) != transition.to {
             continue;
         }
-        if !before_held(full, families, file, list, sum, n, program, cube, writes, transition) {
+        if !before_held(
+            full,
+            families,
+            file,
+            list,
+            sum,
+            n,
+            program,
+            cube,
+            writes,
+            transition,
+        ) {
             return j;
         }
     }
@@ -133,7 +144,18 @@ fn cube_open(
     let row = program.transitions;
     let m = least(row.count, 256);
     let writes = last_writes(cube);
-    let t = open_take(full, families, code, file, list, sum, n, program, cube, writes);
+    let t = open_take(
+        full,
+        families,
+        code,
+        file,
+        list,
+        sum,
+        n,
+        program,
+        cube,
+        writes,
+    );
     if t < m {
         return t;
     }
@@ -225,5 +247,8 @@ pub fn open_step(
     let row = program.transitions;
     let m = least(row.count, 256);
     let cube = entry_at(file, list, k);
-    opening_at(m, cube_open(full, families, code, file, list, sum, n, program, cube))
+    opening_at(
+        m,
+        cube_open(full, families, code, file, list, sum, n, program, cube),
+    )
 }

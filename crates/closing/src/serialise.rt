@@ -15,6 +15,7 @@ ghost use Rattle.by_number.specs.Again.{entriesOf};
 ghost use Rattle.before.specs.Before.{serialiseBefore};
 ghost use Rattle.families.specs.Family.{Families};
 ghost use Rattle.closing.specs.Walk.{stepHeld, Walkable, Serialising};
+use crate::finding::found;
 use before::messages::older_write;
 use before::newest::alike_before;
 use before::newest::newest;
@@ -22,7 +23,6 @@ use before::serialise::before_serialise;
 use before::serialise::before_serialise_inside;
 use before::serialise::before_serialise_on_top;
 use before::serialise::may_serialise;
-use crate::finding::found;
 use cover::search::search;
 use families::in_full_family;
 use matching::least;
@@ -77,7 +77,19 @@ fn insides_held(
     let last = older_write(cube, p as usize, v as usize);
     let count = least(cube.count, 20);
     for k in 0..count {
-        if !inside_held(families, file, list, sum, n, program, cube, p, v, last, k as u8) {
+        if !inside_held(
+            families,
+            file,
+            list,
+            sum,
+            n,
+            program,
+            cube,
+            p,
+            v,
+            last,
+            k as u8,
+        ) {
             return false;
         }
     }
@@ -110,7 +122,15 @@ fn label_held(
     if !alike_before(cube, v as usize, 255) {
         return true;
     }
-    if !found(families, file, list, sum, n, shape, before_serialise(cube, p, v)) {
+    if !found(
+        families,
+        file,
+        list,
+        sum,
+        n,
+        shape,
+        before_serialise(cube, p, v),
+    ) {
         return false;
     }
     insides_held(families, file, list, sum, n, program, cube, p, v)

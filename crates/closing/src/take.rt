@@ -16,6 +16,7 @@ ghost use Rattle.before.specs.Before.{LastWrites, takeBefore};
 ghost use Rattle.full_states.specs.Table.{Full};
 ghost use Rattle.families.specs.Family.{Families};
 ghost use Rattle.closing.specs.Walk.{stepHeld, Walkable, Acting, TakenHeld};
+use crate::finding::found;
 use before::newest::alike_before;
 use before::newest::at_newest;
 use before::operations::before_arw;
@@ -28,7 +29,6 @@ use before::operations::may_read;
 use before::operations::may_swap;
 use before::operations::may_write;
 use before::queues::none_waiting;
-use crate::finding::found;
 use full_states::is_full;
 use full_states::states_from;
 use matching::least;
@@ -52,7 +52,15 @@ fn nop_held(
     ensures { λ r. ⌜ TakenHeld (now (families .entry)) (now (file .entry)) (now (list .entry)) (now (sum .entry)) n program cube p from Nop r ⌝ }
 {
     let shape = program.shape;
-    found(families, file, list, sum, n, shape, before_nop(cube, p, from))
+    found(
+        families,
+        file,
+        list,
+        sum,
+        n,
+        shape,
+        before_nop(cube, p, from),
+    )
 }
 
 fn mfence_held(
@@ -72,7 +80,15 @@ fn mfence_held(
     if !both(none_waiting(shape, cube, p), at_newest(cube, p)) {
         return true;
     }
-    found(families, file, list, sum, n, shape, before_nop(cube, p, from))
+    found(
+        families,
+        file,
+        list,
+        sum,
+        n,
+        shape,
+        before_nop(cube, p, from),
+    )
 }
 
 fn sfence_held(
@@ -92,7 +108,15 @@ fn sfence_held(
     if !none_waiting(shape, cube, p) {
         return true;
     }
-    found(families, file, list, sum, n, shape, before_nop(cube, p, from))
+    found(
+        families,
+        file,
+        list,
+        sum,
+        n,
+        shape,
+        before_nop(cube, p, from),
+    )
 }
 
 fn read_held(
@@ -145,7 +169,15 @@ fn write_held(
     if !may_write(cube, p, v, x) {
         return true;
     }
-    let undone = found(families, file, list, sum, n, shape, before_write(cube, p, from, v));
+    let undone = found(
+        families,
+        file,
+        list,
+        sum,
+        n,
+        shape,
+        before_write(cube, p, from, v),
+    );
     let waited = found(
         families,
         file,
@@ -179,7 +211,15 @@ fn unswapped_held(
     if !alike_before(cube, v, old) {
         return true;
     }
-    found(families, file, list, sum, n, shape, before_arw(cube, p, from, v, old))
+    found(
+        families,
+        file,
+        list,
+        sum,
+        n,
+        shape,
+        before_arw(cube, p, from, v, old),
+    )
 }
 
 // With the newest message for u.
@@ -232,7 +272,20 @@ fn arw_held(
     if !may_swap(shape, cube, p, v, x) {
         return true;
     }
-    if !unswapped_held(families, file, list, sum, n, program, cube, p, from, v, old, x) {
+    if !unswapped_held(
+        families,
+        file,
+        list,
+        sum,
+        n,
+        program,
+        cube,
+        p,
+        from,
+        v,
+        old,
+        x,
+    ) {
         return false;
     }
     let m = least(shape.variables, 4);
@@ -344,5 +397,15 @@ pub(crate) fn before_held(
     if is_full(full, shape, before) {
         return true;
     }
-    taken_held(families, file, list, sum, n, program, cube, writes, transition)
+    taken_held(
+        families,
+        file,
+        list,
+        sum,
+        n,
+        program,
+        cube,
+        writes,
+        transition,
+    )
 }

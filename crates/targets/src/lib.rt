@@ -275,9 +275,7 @@ fn outlines_held(
     let processes = shape.processes;
     let variables = shape.variables;
     if all_placed(processes, places) {
-        return channel_held(
-            file, list, sum, n, shape, states, messages, d, places, rep,
-        );
+        return channel_held(file, list, sum, n, shape, states, messages, d, places, rep);
     }
     if most <= d {
         return true;
@@ -428,7 +426,17 @@ fn shapes_held(
     }; 20];
     let places = [0u8; 4];
     outlines_held(
-        file, list, sum, n, shape, states, most, messages, 0, places, rep,
+        file,
+        list,
+        sum,
+        n,
+        shape,
+        states,
+        most,
+        messages,
+        0,
+        places,
+        rep,
     )
 }
 
