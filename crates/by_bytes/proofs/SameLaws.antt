@@ -1,7 +1,7 @@
 -- An entry against a cube by the bytes of its records.
-use Prim.Native.Nat.{ℕ, zero, suc, _+_, _*_, _-_, _%_, _<_, _≤_, min}
+use Prim.Native.Nat.{ℕ, zero, suc, _+_, _*_, _-_, _/_, _%_, _<_, _≤_, min}
 use mathlib.Core.Path.{_≡_, refl, sym, ap, ap₂, subst, _∙_}
-use mathlib.Core.Bool.{Bool, true, false, _&&_, not, true≢false, false≢true}
+use mathlib.Core.Bool.{Bool, true, false, _&&_, _||_, not, true≢false, false≢true}
 use mathlib.Core.List.{List, [], _∷_}
 use mathlib.Core.Option.{some}
 use native.Mathlib.Omega.{arith}
@@ -9,7 +9,7 @@ use native.Mathlib.Decide.{decLt, decLe, ℕ-discrete}
 use lib.ListN.{length, getD, set, replicate, length-set}
 use lib.Seq.{getD-set-same, getD-set-other}
 use lib.Dec.{eqb, ltb, leb}
-use borrow.Author.Tests.{eqb-true, ltb-true, leb-true, leb-false, eq-eqb, ne-eqb, lt-ltb}
+use borrow.Author.Tests.{eqb-true, ltb-true, leb-true, leb-false, eq-eqb, ne-eqb, lt-ltb, lt-leb}
 use Rattle.pws.specs.declared.Message.{Message}
 use Rattle.pws.specs.Machine.{noMessage, newestWaiting, allBelow}
 use Rattle.program_part.specs.declared.program.Shape.{Shape}
@@ -25,13 +25,14 @@ use Rattle.whole_file.proofs.CubeLaws.{Loading, loading-begin, loading-message,
 use Rattle.lists.specs.Values.{pairwise}
 use Rattle.lists.specs.Matching.{subsequence, queueMatches}
 use Rattle.matching.specs.Relation.{relation}
+use Rattle.matching.specs.Word.{Word}
 use Rattle.matching.specs.Tags.{labelNumber, tagOf, tagsOf, lowestBelow, lowestPointer}
 use Rattle.matching.specs.Match.{queueRow, channelMatches}
 use Rattle.matching.proofs.Below.{and-false, all-true, all-equal}
-use Rattle.matching.proofs.ValueLaws.{newest-at}
+use Rattle.matching.proofs.ValueLaws.{newest-at, same-bytes}
 use Rattle.matching.proofs.TagLaws.{tag-is}
 use Rattle.matching.proofs.MarkLaws.{tags-at}
-use Rattle.by_bytes.specs.Same.{SameLabel, PointsSame}
+use Rattle.by_bytes.specs.Same.{SameLabel, PointsSame, OneFirst, WaitsAt, HeldFrom, none, more}
 use Rattle.by_bytes.specs.Against.{Against}
 use Rattle.by_bytes.proofs.TracedLaws.{maskIn, Traced, valuesMatch, traced-matches}
 
@@ -49,9 +50,9 @@ pub nothing-last : (xs : List ℕ) → length xs ≡ 0 → 0 ≡ getD xs (length
 nothing-last [] e = refl
 nothing-last (x ∷ xs) e = absurd (omega arith)
 
-pub not-cut : (f : List ℕ) (k : ℕ) {x : Bool} → x ≡ cut f k 6 → x ≡ false → k + 7 ≤ length f
+pub not-cut : (f : List ℕ) (k n : ℕ) {x : Bool} → x ≡ cut f k n → x ≡ false → k + n < length f
 unfolding cut
-not-cut f k e g = omega (arith, leb-false (length f - k) 6 (sym e ∙ g))
+not-cut f k n e g = omega (arith, leb-false (length f - k) n (sym e ∙ g))
 
 -- ---- the messages with a role
 
@@ -245,6 +246,17 @@ points-next {zs} {own} {kept} {m} {n} {p} {z} {t} {a} {b} {x} w l e o g h u v k 
       ];
     }
 
+-- among the first p pointers one is at the first message, if it was seen
+pub record Seen (zs : List ℕ) (first : Bool) (p : ℕ) : Type 0 where
+  pub one : first ≡ true → (i : ℕ) × (i < p) × (getD zs i 0 ≡ 1)
+
+pub seen-next : {zs : List ℕ} {first next : Bool} {p z : ℕ} → Seen zs first p → z ≡ getD zs p 0 → next ≡ first || eqb z 1 → Seen zs next (p + 1)
+seen-next {zs} {first} {next} {p} {z} w e g = record { one = at first w g }
+  where
+    at : (b : Bool) → Seen zs b p → next ≡ b || eqb z 1 → next ≡ true → (i : ℕ) × (i < p + 1) × (getD zs i 0 ≡ 1)
+    at true v h t = let y = v .one refl in (y .0, omega (arith, y .1), y .2)
+    at false v h t = (p, omega arith, sym e ∙ eqb-true z 1 (sym h ∙ t))
+
 low-at : (n : ℕ) (zs : List ℕ) (p : ℕ) → p < n → lowestBelow n zs ≤ getD zs p 0
 low-at zero zs p l = absurd (omega arith)
 low-at (suc n) zs p l = elim (ℕ-discrete p n) [
@@ -252,22 +264,32 @@ low-at (suc n) zs p l = elim (ℕ-discrete p n) [
   | no d ↦ omega (arith, low-at n zs p (omega arith))
 ]
 
-low-hit : (n : ℕ) (zs : List ℕ) → lowestBelow n zs ≤ 1 → (p : ℕ) × (p < n) × (getD zs p 0 ≤ 1)
-low-hit zero zs l = absurd (omega arith)
-low-hit (suc n) zs l = elim (decLe (getD zs n 0) 1) [
-  | yes d ↦ (n, omega arith, d)
-  | no d ↦ let w = low-hit n zs (omega arith) in (w .0, omega (arith, w .1), w .2)
-]
+some-low : (n : ℕ) (zs : List ℕ) → ((p : ℕ) → p < n → 1 ≤ getD zs p 0) → 1 ≤ lowestBelow n zs
+some-low zero zs h = omega arith
+some-low (suc n) zs h = omega (arith, h n (omega arith), some-low n zs (λ p l. h p (omega arith)))
+
+low-one : (n : ℕ) (zs : List ℕ) (p : ℕ) → p < n → getD zs p 0 ≡ 1 → lowestBelow n zs ≤ 1
+low-one n zs p l e = omega (arith, low-at n zs p l)
 
 -- ---- the 12s
 
 -- the 12 at a place is of the queue q
-pub waits-is : (f : List ℕ) (k : ℕ) {q p v a b : ℕ} {x y r : Bool} → p ≡ byte f (k + 1) → v ≡ byte f (k + 2) → x ≡ ltb p 4 && ltb v 4 → x ≡ true → y ≡ isKind f k 18 → a ≡ p → b ≡ v
-    → r ≡ y && eqb (4 * a + b) q → r ≡ true → (loadsWaiting f k ≡ true) × (queueAt f k ≡ q)
-unfolding loadsWaiting
-waits-is f k {q} {p} {v} {a} {b} {x} {y} {r} c d g h i j l m t =
-    let z = and-true y (eqb (4 * a + b) q) (sym m ∙ t) in
-    (ap₂ _&&_ (sym i ∙ z .0) (ap₂ (λ (g h : ℕ). ltb g 4 && ltb h 4) (sym c) (sym d) ∙ sym g ∙ h), omega (arith, eqb-true (4 * a + b) q (z .1)))
+pub waits-is : (f : List ℕ) (k : ℕ) {q w : ℕ} {x r : Bool} → q < 16 → x ≡ cut f k 3 → x ≡ false → Word (byte f k) (byte f (k + 1)) (byte f (k + 2)) 0 w
+    → r ≡ eqb w (18 + 256 * (q / 4) + 65536 * (q % 4)) → r ≡ true → WaitsAt f k q
+unfolding loadsWaiting isKind
+waits-is f k {q} {w} {x} {r} l e g v h t =
+    let z = eqb-true w (18 + 256 * (q / 4) + 65536 * (q % 4)) (sym h ∙ t) in
+    let u : Word 18 (q / 4) (q % 4) 0 (18 + 256 * (q / 4) + 65536 * (q % 4)) = record { is = omega arith; first = omega arith; second = omega arith; third = omega arith } in
+    let y = same-bytes v u z in
+    record {
+      loads = ap₂ _&&_ (eq-eqb (byte f k) 18 (y .first)) (ap₂ _&&_ (lt-ltb (byte f (k + 1)) 4 (omega (arith, y .second))) (lt-ltb (byte f (k + 2)) 4 (omega (arith, y .third))));
+      queue = omega (arith, y .second, y .third);
+      inside = omega (arith, not-cut f k 3 e g);
+    }
+
+pub push-one : (values : List ℕ) (count x : ℕ) → count < 9 → pushed (record { values = values; count = count }) x ≡ record { values = set values count x; count = count + 1 }
+unfolding pushed
+push-one values count x l = rw (lt-leb 9 count l) refl
 
 abbrev okay : Bool → Loaded → List Queue → ℕ → Bool
 okay exact l queues i = queueMatches (relation exact) (waitingOf (getD (l .queues) i noQueue)) (waitingOf (getD queues i noQueue))
@@ -337,6 +359,37 @@ not-sent f k n l =
     let w = and-true (eqb (byte f k) 18) (ltb (byte f (k + 1)) 4 && ltb (byte f (k + 2)) 4) l in
     ap (λ (b : Bool). b && ltb n 20) (ne-eqb (byte f k) 17 (λ e. omega (arith, eqb-true (byte f k) 18 (w .0))))
 
+-- the 12s of the queue q were read up to k, after those that left `base`
+record Reading (f : List ℕ) (at : ℕ) (base : Loaded) (q : ℕ) (u : Queue) (k : ℕ) : Type 0 where
+  by : Loaded
+  loads : Loading f at by k
+  messages : by .messages ≡ base .messages
+  count : by .count ≡ base .count
+  room : length (by .queues) ≡ 16
+  there : getD (by .queues) q noQueue ≡ u
+  other : (i : ℕ) → (i ≡ q → ⊥) → getD (by .queues) i noQueue ≡ getD (base .queues) i noQueue
+
+read-more : {f : List ℕ} {at : ℕ} {base : Loaded} {q : ℕ} {u : Queue} {k : ℕ} → q < 16 → Reading f at base q u k → WaitsAt f k q → Reading f at base q (pushed u (byte f (k + 3))) (k + 4)
+read-more {f} {at} {base} {q} {u} {k} low w h =
+    record {
+      by = moreWaiting f k (w .by);
+      loads = loading-waiting (w .loads) (not-sent f k (w .by .count) (h .loads)) (h .loads);
+      messages = w .messages;
+      count = w .count;
+      room = length-set (w .by .queues) (queueAt f k) (pushed (getD (w .by .queues) (queueAt f k) noQueue) (byte f (k + 3))) ∙ w .room;
+      there =
+          ap (λ (z : ℕ). getD (moreWaiting f k (w .by) .queues) z noQueue) (sym (h .queue))
+          ∙ getD-set-same (w .by .queues) (queueAt f k) (pushed (getD (w .by .queues) (queueAt f k) noQueue) (byte f (k + 3))) noQueue (omega (arith, w .room, h .queue))
+          ∙ ap (λ (y : Queue). pushed y (byte f (k + 3))) (ap (λ (z : ℕ). getD (w .by .queues) z noQueue) (h .queue) ∙ w .there);
+      other = λ i d.
+          getD-set-other (w .by .queues) (queueAt f k) i (pushed (getD (w .by .queues) (queueAt f k) noQueue) (byte f (k + 3))) noQueue (λ z. d (z ∙ h .queue))
+          ∙ w .other i d;
+    }
+
+read-held : {f : List ℕ} {at : ℕ} {base : Loaded} {q k : ℕ} {u : Queue} {n : ℕ} → q < 16 → Reading f at base q emptyQueue k → HeldFrom f q k u n → Reading f at base q u n
+read-held low w none = w
+read-held low w (more h x) = read-more low (read-held low w h) x
+
 module _ {exact : Bool} {f : List ℕ} {at : ℕ} {first : Loaded} {variables : ℕ} {queues : List Queue} {k : ℕ} {waits : Bool} {q : ℕ} (w : Waits exact f at first variables queues k waits q) (low : q < 16) where
   pub waits-none : length (waitingOf (getD queues q noQueue)) ≡ 0 → Waits exact f at first variables queues k waits (q + 1)
   waits-none e =
@@ -357,45 +410,46 @@ module _ {exact : Bool} {f : List ℕ} {at : ℕ} {first : Loaded} {variables : 
       here : okay exact (w .by) queues q ≡ true
       here = ap (λ (u : Queue). queueMatches (relation exact) (waitingOf u) (waitingOf (getD queues q noQueue))) (w .left q (omega arith) low) ∙ none-waits (relation exact) (waitingOf (getD queues q noQueue)) e
 
-  pub waits-one : {x n : ℕ} {v good : Bool} → length (waitingOf (getD queues q noQueue)) ≡ suc n → q % 4 < variables → loadsWaiting f k ≡ true → queueAt f k ≡ q → x ≡ byte f (k + 3)
-      → v ≡ relation exact x (getD (waitingOf (getD queues q noQueue)) n 0) → good ≡ waits && v → Waits exact f at first variables queues (k + 4) good (q + 1)
-  waits-one {x} {n} {v} {good} e narrow l p b r g =
+  waits-read : {u : Queue} {n : ℕ} {v good : Bool} → q % 4 < variables → Reading f at (w .by) q u n → v ≡ queueMatches (relation exact) (waitingOf u) (waitingOf (getD queues q noQueue))
+      → good ≡ waits && v → Waits exact f at first variables queues n good (q + 1)
+  waits-read {u} {n} {v} {good} narrow h r g =
       record {
-        by = moreWaiting f k (w .by);
-        loads = loading-waiting (w .loads) (no-message l) l;
-        messages = w .messages;
-        count = w .count;
-        room = length-set (w .by .queues) (queueAt f k) (pushed (getD (w .by .queues) (queueAt f k) noQueue) (byte f (k + 3))) ∙ w .room;
-        left = λ i x y. other i (λ d. omega arith) ∙ w .left i (omega arith) y;
+        by = h .by;
+        loads = h .loads;
+        messages = h .messages ∙ w .messages;
+        count = h .count ∙ w .count;
+        room = h .room;
+        left = λ i x y. h .other i (λ d. omega arith) ∙ w .left i (omega arith) y;
         absent = λ i x y. elim (ℕ-discrete i q) [
           | yes d ↦ absurd (omega (arith, ap (λ (z : ℕ). z % 4) d))
           | no d ↦ kept i d ∙ w .absent i (omega arith) y
         ];
-        tested = g ∙ ap₂ _&&_ (w .tested ∙ all-equal q (okay exact (w .by) queues) (okay exact (moreWaiting f k (w .by)) queues) (λ i y. sym (kept i (λ d. omega arith)))) (r ∙ sym here)
-            ∙ ap (λ (m : ℕ). allBelow m (okay exact (moreWaiting f k (w .by)) queues)) next;
+        tested = g ∙ ap₂ _&&_ (w .tested ∙ all-equal q (okay exact (w .by) queues) (okay exact (h .by) queues) (λ i y. sym (kept i (λ d. omega arith)))) (r ∙ sym here)
+            ∙ ap (λ (m : ℕ). allBelow m (okay exact (h .by) queues)) next;
       }
     where
       next : suc q ≡ q + 1
       next = omega arith
 
-      no-message : loadsWaiting f k ≡ true → loadsMessage f k (w .by .count) ≡ false
-      no-message l = not-sent f k (w .by .count) l
+      kept : (i : ℕ) → (i ≡ q → ⊥) → okay exact (h .by) queues i ≡ okay exact (w .by) queues i
+      kept i d = ap (λ (u : Queue). queueMatches (relation exact) (waitingOf u) (waitingOf (getD queues i noQueue))) (h .other i d)
 
-      other : (i : ℕ) → (i ≡ q → ⊥) → getD (moreWaiting f k (w .by) .queues) i noQueue ≡ getD (w .by .queues) i noQueue
-      other i d = getD-set-other (w .by .queues) (queueAt f k) i (pushed (getD (w .by .queues) (queueAt f k) noQueue) (byte f (k + 3))) noQueue (λ z. d (z ∙ p))
+      here : okay exact (h .by) queues q ≡ queueMatches (relation exact) (waitingOf u) (waitingOf (getD queues q noQueue))
+      here = ap (λ (u : Queue). queueMatches (relation exact) (waitingOf u) (waitingOf (getD queues q noQueue))) (h .there)
 
-      kept : (i : ℕ) → (i ≡ q → ⊥) → okay exact (moreWaiting f k (w .by)) queues i ≡ okay exact (w .by) queues i
-      kept i d = ap (λ (u : Queue). queueMatches (relation exact) (waitingOf u) (waitingOf (getD queues i noQueue))) (other i d)
+  reading : Reading f at (w .by) q emptyQueue k
+  reading = record { by = w .by; loads = w .loads; messages = refl; count = refl; room = w .room; there = w .left q (omega arith) low; other = λ i d. refl }
 
-      there : getD (moreWaiting f k (w .by) .queues) q noQueue ≡ pushed emptyQueue x
-      there =
-          ap (λ (z : ℕ). getD (moreWaiting f k (w .by) .queues) z noQueue) (sym p)
-          ∙ getD-set-same (w .by .queues) (queueAt f k) (pushed (getD (w .by .queues) (queueAt f k) noQueue) (byte f (k + 3))) noQueue (omega (arith, w .room))
-          ∙ ap₂ pushed (ap (λ (z : ℕ). getD (w .by .queues) z noQueue) p ∙ w .left q (omega arith) low) (sym b)
+  pub waits-several : {u : Queue} {n : ℕ} {v good : Bool} → q % 4 < variables → HeldFrom f q k u n → v ≡ queueMatches (relation exact) (waitingOf u) (waitingOf (getD queues q noQueue))
+      → good ≡ waits && v → Waits exact f at first variables queues n good (q + 1)
+  waits-several narrow h r g = waits-read narrow (read-held low reading h) r g
 
-      here : okay exact (moreWaiting f k (w .by)) queues q ≡ relation exact x (getD (waitingOf (getD queues q noQueue)) n 0)
-      here = ap (λ (u : List ℕ). queueMatches (relation exact) u (waitingOf (getD queues q noQueue))) (ap waitingOf there ∙ one-pushed x)
-          ∙ one-waits (relation exact) x (waitingOf (getD queues q noQueue)) n e
+  pub waits-one : {x n : ℕ} {v good : Bool} → length (waitingOf (getD queues q noQueue)) ≡ suc n → q % 4 < variables → WaitsAt f k q → x ≡ byte f (k + 3)
+      → v ≡ relation exact x (getD (waitingOf (getD queues q noQueue)) n 0) → good ≡ waits && v → Waits exact f at first variables queues (k + 4) good (q + 1)
+  waits-one {x} {n} {v} {good} e narrow h b r g =
+      waits-read narrow (read-more low reading h)
+      (r ∙ sym (one-waits (relation exact) x (waitingOf (getD queues q noQueue)) n e)
+      ∙ ap (λ (u : List ℕ). queueMatches (relation exact) u (waitingOf (getD queues q noQueue))) (sym (ap (λ (y : ℕ). waitingOf (pushed emptyQueue y)) (sym b) ∙ one-pushed x))) g
 
 -- ---- queues one after another, and by process
 
@@ -427,10 +481,10 @@ by-rows (suc n) x g l t =
 
 -- ---- the whole
 
-module _ {exact : Bool} {f : List ℕ} {at : ℕ} {s : Shape} {c : Cube} {tags kept : List ℕ} {n m k : ℕ} {sent : Bool} {j : ℕ} {a b g h low last variables end q : ℕ} {waits x r : Bool}
+module _ {exact : Bool} {f : List ℕ} {at : ℕ} {s : Shape} {c : Cube} {tags kept : List ℕ} {n m k : ℕ} {sent : Bool} {j : ℕ} {a b g h last variables end q : ℕ} {waits x r : Bool}
     (inside : at < length f) (counted : n ≡ min (c .count) 20) (w : Sent exact f at c tags n kept m k sent j) (done : n ≤ j)
     (pa : a ≡ byte f (at + 5)) (pb : b ≡ byte f (at + 6)) (pg : g ≡ byte f (at + 7)) (ph : h ≡ byte f (at + 8))
-    (points : PointsSame (s .processes) (a ∷ b ∷ g ∷ h ∷ []) (c .pointers) kept m) (lowest-is : low ≡ lowestPointer s (a ∷ b ∷ g ∷ h ∷ [])) (one : low ≡ 1)
+    (points : PointsSame (s .processes) (a ∷ b ∷ g ∷ h ∷ []) (c .pointers) kept m) (first : OneFirst (s .processes) (a ∷ b ∷ g ∷ h ∷ []))
     (few-is : end ≡ 4 * min (s .processes) 4) (narrow-is : variables ≡ min (s .variables) 4)
     (v : Waits exact f at (sentLoaded f (at + 9) m) variables (c .queues) last waits q) (full : q ≡ end)
     (over : x ≡ not (isKind f last 17) && not (isKind f last 18)) (ends : x ≡ true) (both-are : r ≡ waits && sent) (A : Against s c tags)
@@ -475,15 +529,24 @@ module _ {exact : Bool} {f : List ℕ} {at : ℕ} {s : Shape} {c : Cube} {tags k
         → (1 ≤ getD (loadEntry f at .pointers) p 0) × (getD (loadEntry f at .pointers) p 0 ≤ m) × (getD (c .pointers) p 0 ≡ suc (getD kept (getD (loadEntry f at .pointers) p 0 - 1) 0))
     point p l = subst (λ (zs : List ℕ). (1 ≤ getD zs p 0) × (getD zs p 0 ≤ m) × (getD (c .pointers) p 0 ≡ suc (getD kept (getD zs p 0 - 1) 0))) pointers-are (points p (omega (arith, A .sized .processes)))
 
+    one-first : OneFirst (s .processes) (loadEntry f at .pointers)
+    one-first = subst (OneFirst (s .processes)) pointers-are first
+
     lowest-one : lowestPointer s (loadEntry f at .pointers) ≡ 1
-    lowest-one = ap (lowestPointer s) (sym pointers-are) ∙ sym lowest-is ∙ one
+    unfolding lowestPointer
+    lowest-one =
+        omega (
+          arith,
+          low-one (min (s .processes) 4) (loadEntry f at .pointers) (one-first .0) (one-first .1) (one-first .2),
+          some-low (min (s .processes) 4) (loadEntry f at .pointers) (λ p l. point p (omega arith) .0),
+        )
 
     first-kept : (i : ℕ) → i < m → lowestPointer s (c .pointers) ≤ suc (getD kept i 0)
     unfolding lowestPointer
     first-kept i l =
-        let y = low-hit (min (s .processes) 4) (loadEntry f at .pointers) (omega (arith, lowest-one)) in
+        let y = one-first in
         let u = point (y .0) (omega (arith, y .1)) in
-        let z : getD (loadEntry f at .pointers) (y .0) 0 - 1 ≡ 0 = omega (arith, y .2, u .0) in
+        let z : getD (loadEntry f at .pointers) (y .0) 0 - 1 ≡ 0 = omega (arith, y .2) in
         omega (arith, low-at (min (s .processes) 4) (c .pointers) (y .0) (y .1), u .2, ap (λ (d : ℕ). getD kept d 0) z, zero-first i l)
       where
         zero-first : (i : ℕ) → i < m → getD kept 0 0 ≤ getD kept i 0

@@ -1,24 +1,24 @@
-// An entry that has a cube's messages with a role and no others, and one waiting value where the cube has some: whether it matches the cube is
+// An entry that has a cube's messages with a role and no others, and waiting values where the cube has some: whether it matches the cube is
 // told by its bytes, and nothing is built for it. Most entries that a walk leads to are such; the others are left to the crate `cover`.
 ghost use mathlib.Core.Path.{_≡_};
 ghost use mathlib.Core.Bool.{true, _&&_, not};
 ghost use Prim.Native.Nat.{_+_, _-_, _≤_, _<_, min};
 ghost use lib.ListN.{length, getD};
 ghost use Rattle.program_part.specs.Records.{isKind, messageAt};
-ghost use Rattle.whole_file.specs.Tally.{queueAt};
-ghost use Rattle.whole_file.specs.Cube.{waitingOf, loadsWaiting, loadEntry};
+ghost use Rattle.whole_file.specs.Cube.{waitingOf, loadEntry};
 ghost use Rattle.matching.specs.Match.{channelMatches, queueRow};
 ghost use Rattle.pws.specs.Machine.{allBelow};
-ghost use Rattle.by_bytes.specs.Same.{SameLabel, PointsSame};
+ghost use Rattle.by_bytes.specs.Same.{SameLabel, PointsSame, OneFirst, WaitsAt, HeldFrom};
 ghost use Rattle.by_bytes.specs.Against.{Against};
 use matching::least;
-use matching::lowest;
+use matching::queue_matches;
 use matching::related;
 use matching::values_related;
 use matching::waiting;
+use matching::word;
 use program_part::bytes::both;
 use program_part::bytes::cut;
-use program_part::bytes::field;
+use program_part::bytes::either;
 use program_part::bytes::wide;
 use program_part::program::Shape;
 use program_part::record::is_kind;
@@ -65,11 +65,13 @@ fn small(x: u8) -> usize
     x as usize
 }
 
-// Each pointer of the entry is at the message that stands for the one that the cube's is at.
+// Each pointer of the entry is at the message that stands for the one that the cube's is at, and one of them is at the first.
 fn points_same(processes: usize, pointers: [u8; 4], own: [u8; 4], kept: [u8; 20], m: usize) -> bool
     ensures { λ r. ⌜ (r ≡ true → PointsSame processes pointers own kept m) ⌝ }
+    ensures { λ r. ⌜ (r ≡ true → OneFirst processes pointers) ⌝ }
 {
     let n = least(processes, 4);
+    let mut first = false;
     for p in 0..n {
         let z = wide(pointers[p]);
         if !both(0 < z, z <= least(m, 20)) {
@@ -78,20 +80,48 @@ fn points_same(processes: usize, pointers: [u8; 4], own: [u8; 4], kept: [u8; 20]
         if small(kept[z - 1]) + 1 != wide(own[p]) {
             return false;
         }
+        first = either(first, z == 1);
     }
-    true
+    first
 }
 
 // The 12 at a place is of the queue q.
 fn waits_at(file: &[u8], k: usize, q: usize) -> bool
-    ensures { λ r. ⌜ (r ≡ true → (loadsWaiting (now (file .entry)) k ≡ true) × (queueAt (now (file .entry)) k ≡ q)) ⌝ }
+    requires { ⌜ q < 16 ⌝ }
+    ensures { λ r. ⌜ (r ≡ true → WaitsAt (now (file .entry)) k q) ⌝ }
 {
-    let p = field(file, k, 1);
-    let v = field(file, k, 2);
-    if !both(p < 4, v < 4) {
+    if cut(file, k, 3) {
         return false;
     }
-    both(is_kind(file, k, 18), 4 * wide(p) + wide(v) == q)
+    word(file[k], file[k + 1], file[k + 2], 0) == 18 + 256 * (q / 4) + 65536 * (q % 4)
+}
+
+// The values of the 12s of one queue that stand one after another, and where these end.
+struct Held {
+    queue: Queue,
+    next: usize,
+}
+
+fn held_from(file: &[u8], k: usize, q: usize) -> Held
+    requires { ⌜ q < 16 ⌝ }
+    ensures { λ r. ⌜ HeldFrom (now (file .entry)) q k (r .queue) (r .next) ⌝ }
+{
+    let mut values = [0u8; 9];
+    let mut count = 0;
+    let mut next = k;
+    while both(count < 9, waits_at(file, next, q)) {
+        values[count] = file[next + 3];
+        count += 1;
+        next += 4;
+    }
+    let queue = Queue {
+        values: values,
+        count: count as u8,
+    };
+    Held {
+        queue: queue,
+        next: next,
+    }
 }
 
 // The newest waiting value; 0 where none waits.
@@ -113,18 +143,18 @@ fn ends_at(file: &[u8], k: usize) -> bool
 }
 
 // The entry whose 10 stands at a place, but for its local states: its 11s have the labels of the cube's messages with a role, whose tags say so, its
-// pointers are at those that the cube's are at, and its 12s are one for each queue of the cube in which a value waits.
+// pointers are at those that the cube's are at, and its 12s are of the queues of the cube in which a value waits, in their order.
 pub fn compare_at(
     exact: bool,
     file: &[u8],
     at: usize,
     shape: Shape,
     cube: Cube,
-    right: [u64; 20],
+    right: &[u64; 20],
 ) -> Compared
-    ensures { λ r. ⌜ (r .same ≡ true → Against shape cube right → r .related ≡ (allBelow (min (shape .processes) 4) (queueRow (shape .variables) exact (loadEntry (now (file .entry)) at .queues) (cube .queues)) && channelMatches shape exact (loadEntry (now (file .entry)) at) cube)) ⌝ }
+    ensures { λ r. ⌜ (r .same ≡ true → Against shape cube (now (right .entry)) → r .related ≡ (allBelow (min (shape .processes) 4) (queueRow (shape .variables) exact (loadEntry (now (file .entry)) at .queues) (cube .queues)) && channelMatches shape exact (loadEntry (now (file .entry)) at) cube)) ⌝ }
 {
-    if file.len() <= at {
+    if cut(file, at, 8) {
         return not_same();
     }
     let n = least(cube.count, 20);
@@ -151,17 +181,9 @@ pub fn compare_at(
         m += 1;
         k += 7;
     }
-    let pointers = [
-        field(file, at, 5),
-        field(file, at, 6),
-        field(file, at, 7),
-        field(file, at, 8),
-    ];
+    let pointers = [file[at + 5], file[at + 6], file[at + 7], file[at + 8]];
     let own = cube.pointers;
     if !points_same(shape.processes, pointers, own, kept, m) {
-        return not_same();
-    }
-    if lowest(shape, pointers) != 1 {
         return not_same();
     }
     let end = 4 * least(shape.processes, 4);
@@ -179,10 +201,15 @@ pub fn compare_at(
         if !waits_at(file, k, q) {
             return not_same();
         }
-        waits = both(
-            waits,
-            related(exact, field(file, k, 3), last_waiting(queue)),
-        );
+        if waits_at(file, k + 4, q) {
+            let held = held_from(file, k, q);
+            let found = held.queue;
+            waits = both(waits, queue_matches(exact, found, queue));
+            k = held.next;
+            continue;
+        }
+        // one value: it is the newest that counts
+        waits = both(waits, related(exact, file[k + 3], last_waiting(queue)));
         k += 4;
     }
     if !ends_at(file, k) {

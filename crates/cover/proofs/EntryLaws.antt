@@ -51,23 +51,25 @@ load-few f at = elim (decLt at (length f)) [
 
 -- ---- the match of an entry, from its states on
 
-head-states : (f : List ℕ) (at : ℕ) {a b c d : ℕ} → a ≡ byte f (at + 1) → b ≡ byte f (at + 2) → c ≡ byte f (at + 3) → d ≡ byte f (at + 4)
-    → a ∷ b ∷ c ∷ d ∷ [] ≡ loadEntry f at .states
+abbrev statesIn : List ℕ → ℕ → List ℕ
+statesIn f at = byte f (at + 1) ∷ byte f (at + 2) ∷ byte f (at + 3) ∷ byte f (at + 4) ∷ []
+
+head-states : (f : List ℕ) (at : ℕ) {zs : List ℕ} → zs ≡ statesIn f at → zs ≡ loadEntry f at .states
 unfolding loadEntry
-head-states f at x y z w = rw (x, y, z, w) refl
+head-states f at e = e
 
 module _ (exact : Bool) (s : Shape) (f list : List ℕ) (i at : ℕ) (c : Cube) (right : List ℕ) (A : Against s c right) (e : at ≡ offsetAt list i) where
   sizes : (a : Cube) → a .count ≤ 20 → Sizes s a c
   sizes a l = record { processes = A .sized .processes; variables = A .sized .variables; left = l; right = A .sized .messages }
 
-  pub states-differ : {a b k d : ℕ} {x : Bool} → a ≡ byte f (at + 1) → b ≡ byte f (at + 2) → k ≡ byte f (at + 3) → d ≡ byte f (at + 4)
-      → x ≡ allBelow (min (s .processes) 4) (λ p. eqb (getD (a ∷ b ∷ k ∷ d ∷ []) p 0) (getD (c .states) p 0)) → x ≡ false
+  pub states-differ : {zs : List ℕ} {x : Bool} → zs ≡ statesIn f at
+      → x ≡ allBelow (min (s .processes) 4) (λ p. eqb (getD zs p 0) (getD (c .states) p 0)) → x ≡ false
       → false ≡ matches (shapeOf s) (relation exact) (configurationOf (cubeAt f list i)) (configurationOf c)
-  states-differ x y z w g h =
+  states-differ z g h =
       states-fail exact s (cubeAt f list i) c (sizes (cubeAt f list i) (load-few f (offsetAt list i)))
       (g
       ∙ ap (λ (xs : List ℕ). allBelow (min (s .processes) 4) (λ p. eqb (getD xs p 0) (getD (c .states) p 0)))
-      (head-states f at x y z w ∙ ap (λ (k : ℕ). loadEntry f k .states) e)) h
+      (head-states f at z ∙ ap (λ (k : ℕ). loadEntry f k .states) e)) h
 
   pub queues-differ : {entry : Cube} {x : Bool} → entry ≡ loadEntry f at
       → x ≡ allBelow (min (s .processes) 4) (queueRow (s .variables) exact (entry .queues) (c .queues)) → x ≡ false
@@ -76,30 +78,30 @@ module _ (exact : Bool) (s : Shape) (f list : List ℕ) (i at : ℕ) (c : Cube) 
       queues-unlike exact s (cubeAt f list i) c (sizes (cubeAt f list i) (load-few f (offsetAt list i)))
       (g ∙ ap (λ (k : Cube). allBelow (min (s .processes) 4) (queueRow (s .variables) exact (k .queues) (c .queues))) (x ∙ ap (loadEntry f) e)) h
 
-  pub channel-decides : {entry : Cube} {left : List ℕ} {x y r : Bool} {a b k d : ℕ} → a ≡ byte f (at + 1) → b ≡ byte f (at + 2) → k ≡ byte f (at + 3) → d ≡ byte f (at + 4)
-      → x ≡ allBelow (min (s .processes) 4) (λ p. eqb (getD (a ∷ b ∷ k ∷ d ∷ []) p 0) (getD (c .states) p 0)) → x ≡ true → entry ≡ loadEntry f at
+  pub channel-decides : {entry : Cube} {left : List ℕ} {x y r : Bool} {zs : List ℕ} → zs ≡ statesIn f at
+      → x ≡ allBelow (min (s .processes) 4) (λ p. eqb (getD zs p 0) (getD (c .states) p 0)) → x ≡ true → entry ≡ loadEntry f at
       → y ≡ allBelow (min (s .processes) 4) (queueRow (s .variables) exact (entry .queues) (c .queues)) → y ≡ true → left ≡ tagsOf s entry
       → (Suits s entry left c right → r ≡ channelMatches s exact entry c)
       → r ≡ matches (shapeOf s) (relation exact) (configurationOf (cubeAt f list i)) (configurationOf c)
-  channel-decides {entry} {left} p q u w g h z m n t v =
+  channel-decides {entry} {left} w g h z m n t v =
       let l : entry .count ≤ 20 = subst (λ (k : Cube). k .count ≤ 20) (sym z) (load-few f at) in
       channel-left exact s entry c (sizes entry l)
-      (g ∙ ap (λ (xs : List ℕ). allBelow (min (s .processes) 4) (λ p. eqb (getD xs p 0) (getD (c .states) p 0))) (head-states f at p q u w ∙ ap (λ (k : Cube). k .states) (sym z)))
+      (g ∙ ap (λ (xs : List ℕ). allBelow (min (s .processes) 4) (λ p. eqb (getD xs p 0) (getD (c .states) p 0))) (head-states f at w ∙ ap (λ (k : Cube). k .states) (sym z)))
       m h n (v (record { sizes = sizes entry l; leftTags = t; rightTags = A .is }))
       ∙ ap (λ (k : Cube). matches (shapeOf s) (relation exact) (configurationOf k) (configurationOf c)) (z ∙ ap (loadEntry f) e)
 
   -- an entry that is told by its bytes
-  pub bytes-decide : {x r : Bool} {a b k d : ℕ} → a ≡ byte f (at + 1) → b ≡ byte f (at + 2) → k ≡ byte f (at + 3) → d ≡ byte f (at + 4)
-      → x ≡ allBelow (min (s .processes) 4) (λ p. eqb (getD (a ∷ b ∷ k ∷ d ∷ []) p 0) (getD (c .states) p 0)) → x ≡ true
+  pub bytes-decide : {x r : Bool} {zs : List ℕ} → zs ≡ statesIn f at
+      → x ≡ allBelow (min (s .processes) 4) (λ p. eqb (getD zs p 0) (getD (c .states) p 0)) → x ≡ true
       → r ≡ allBelow (min (s .processes) 4) (queueRow (s .variables) exact (loadEntry f at .queues) (c .queues)) && channelMatches s exact (loadEntry f at) c
       → r ≡ matches (shapeOf s) (relation exact) (configurationOf (cubeAt f list i)) (configurationOf c)
-  bytes-decide {x} {r} p q u w g h z =
+  bytes-decide {x} {r} w g h z =
       z
       ∙ decided (allBelow (min (s .processes) 4) (queueRow (s .variables) exact (loadEntry f at .queues) (c .queues))) refl
       ∙ ap (λ (k : ℕ). matches (shapeOf s) (relation exact) (configurationOf (loadEntry f k)) (configurationOf c)) e
     where
       same : x ≡ allBelow (min (s .processes) 4) (λ p. eqb (getD (loadEntry f at .states) p 0) (getD (c .states) p 0))
-      same = g ∙ ap (λ (xs : List ℕ). allBelow (min (s .processes) 4) (λ p. eqb (getD xs p 0) (getD (c .states) p 0))) (head-states f at p q u w)
+      same = g ∙ ap (λ (xs : List ℕ). allBelow (min (s .processes) 4) (λ p. eqb (getD xs p 0) (getD (c .states) p 0))) (head-states f at w)
 
       decided : (y : Bool) → y ≡ allBelow (min (s .processes) 4) (queueRow (s .variables) exact (loadEntry f at .queues) (c .queues))
           → y && channelMatches s exact (loadEntry f at) c ≡ matches (shapeOf s) (relation exact) (configurationOf (loadEntry f at)) (configurationOf c)

@@ -1,5 +1,8 @@
 // An entry in the file against a cube.
 ghost use mathlib.Core.Path.{_≡_};
+ghost use mathlib.Core.List.{[], _∷_};
+ghost use Prim.Native.Nat.{_+_};
+ghost use Rattle.program_part.specs.Bytes.{byte};
 ghost use Rattle.lists.specs.Matching.{matches};
 ghost use Rattle.program_part.specs.ProgramPart.{shapeOf};
 ghost use Rattle.whole_file.specs.Cube.{configurationOf};
@@ -12,10 +15,27 @@ use matching::channel_matches;
 use matching::queues_match;
 use matching::states_match;
 use matching::tags_of;
+use program_part::bytes::cut;
 use program_part::bytes::field;
 use program_part::program::Shape;
 use whole_file::entry::Cube;
 use whole_file::entry::load_entry;
+
+// The local states of the entry whose 10 stands at a place.
+fn states_at(file: &[u8], at: usize) -> [u8; 4]
+    ensures { λ r. ⌜ r ≡ byte (now (file .entry)) (at + 1) ∷ byte (now (file .entry)) (at + 2) ∷ byte (now (file .entry)) (at + 3) ∷ byte (now (file .entry)) (at + 4) ∷ [] ⌝ }
+{
+    // one test for the four, and not one for each byte
+    if !cut(file, at, 4) {
+        return [file[at + 1], file[at + 2], file[at + 3], file[at + 4]];
+    }
+    [
+        field(file, at, 1),
+        field(file, at, 2),
+        field(file, at, 3),
+        field(file, at, 4),
+    ]
+}
 
 // Entry i against a cube with its tags: exactly, it covers the cube; else it may meet it.
 pub(crate) fn matches_at(
@@ -25,18 +45,13 @@ pub(crate) fn matches_at(
     i: usize,
     shape: Shape,
     cube: Cube,
-    right: [u64; 20],
+    right: &[u64; 20],
 ) -> bool
-    ensures { λ r. ⌜ (Against shape cube right → r ≡ matches (shapeOf shape) (relation exact) (configurationOf (cubeAt (now (file .entry)) (now (list .entry)) i)) (configurationOf cube)) ⌝ }
+    ensures { λ r. ⌜ (Against shape cube (now (right .entry)) → r ≡ matches (shapeOf shape) (relation exact) (configurationOf (cubeAt (now (file .entry)) (now (list .entry)) i)) (configurationOf cube)) ⌝ }
 {
     let at = offset_at(list, i);
     // entries of other states are told apart by four bytes
-    let states = [
-        field(file, at, 1),
-        field(file, at, 2),
-        field(file, at, 3),
-        field(file, at, 4),
-    ];
+    let states = states_at(file, at);
     let own = cube.states;
     if !states_match(shape.processes, states, own) {
         return false;
@@ -53,5 +68,6 @@ pub(crate) fn matches_at(
         return false;
     }
     let left = tags_of(shape, entry);
-    channel_matches(exact, shape, entry, left, cube, right)
+    let tags = *right;
+    channel_matches(exact, shape, entry, left, cube, tags)
 }

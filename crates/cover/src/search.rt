@@ -40,11 +40,11 @@ fn one_covers(
     n: usize,
     shape: Shape,
     cube: Cube,
-    right: [u64; 20],
+    right: &[u64; 20],
     number: u64,
 ) -> bool
-    ensures { λ r. ⌜ (r ≡ true → Against shape cube right → Covered (now (file .entry)) (now (list .entry)) n shape cube) ⌝ }
-    ensures { λ r. ⌜ (r ≡ false → Uncovered (now (file .entry)) (now (list .entry)) (now (sum .entry)) n shape cube right number) ⌝ }
+    ensures { λ r. ⌜ (r ≡ true → Against shape cube (now (right .entry)) → Covered (now (file .entry)) (now (list .entry)) n shape cube) ⌝ }
+    ensures { λ r. ⌜ (r ≡ false → Uncovered (now (file .entry)) (now (list .entry)) (now (sum .entry)) n shape cube (now (right .entry)) number) ⌝ }
 {
     let states = cube.states;
     let mut walk = walk_from(file, list, sum, n, shape, states, number);
@@ -81,7 +81,7 @@ fn look_for(file: &[u8], list: &[u8], sum: &[u8], n: usize, shape: Shape, cube: 
 {
     let right = tags_of(shape, cube);
     let number = number_of(shape, cube, right);
-    if one_covers(file, list, sum, n, shape, cube, right, number) {
+    if one_covers(file, list, sum, n, shape, cube, &right, number) {
         return Look {
             covered: true,
             place: Place::Whole,
@@ -118,7 +118,7 @@ fn parts_held(
         let mut walk = walk_from(file, list, sum, n, shape, states, number);
         while walk.entry != 0 {
             let i = walk.entry - 1;
-            if matches_at(true, file, list, i, shape, part, right) {
+            if matches_at(true, file, list, i, shape, part, &right) {
                 continue 'fillings;
             }
             let next = onward(

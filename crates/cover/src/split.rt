@@ -78,7 +78,7 @@ fn with_entry(
 ) -> Split
     ensures { λ r. ⌜ Tried (now (file .entry)) (now (list .entry)) shape cube right (split .place) (split .met) i (r .place) (r .met) ⌝ }
 {
-    if !matches_at(false, file, list, i, shape, cube, right) {
+    if !matches_at(false, file, list, i, shape, cube, &right) {
         return split;
     }
     let gaps = gaps_at(file, list, i, shape, cube, right);

@@ -19,6 +19,7 @@ use Rattle.lists.specs.Values.{pairwise}
 use Rattle.lists.specs.Matching.{subsequence, queueMatches}
 use Rattle.program_part.proofs.ProgramLaws.{and-true}
 use Rattle.matching.specs.Relation.{relation}
+use Rattle.matching.specs.Word.{Word}
 
 -- ---- arrays
 
@@ -58,18 +59,25 @@ pub self-related : (e : Bool) (a : ℕ) → relation e a a ≡ true
 self-related true a = ap (_||_ (eqb a FF)) (eq-eqb a a refl) ∙ or-true (eqb a FF)
 self-related false a = ap (λ (b : Bool). eqb a FF || (eqb a FF || b)) (eq-eqb a a refl) ∙ ap (_||_ (eqb a FF)) (or-true (eqb a FF)) ∙ or-true (eqb a FF)
 
--- so four values are to four that are the same
-pub same-four : (e : Bool) (xs ys : List ℕ) {x y z : Bool} → length xs ≡ 4 → length ys ≡ 4
-    → x ≡ eqb (getD xs 0 0) (getD ys 0 0) && eqb (getD xs 1 0) (getD ys 1 0) → y ≡ eqb (getD xs 2 0) (getD ys 2 0) && eqb (getD xs 3 0) (getD ys 3 0)
-    → z ≡ x && y → z ≡ true → true ≡ pairwise (relation e) xs ys
-same-four e xs ys {x} {y} m n f g h k =
-    let u = and-true x y (sym h ∙ k) in
-    let v = and-true (eqb (getD xs 0 0) (getD ys 0 0)) (eqb (getD xs 1 0) (getD ys 1 0)) (sym f ∙ u .0) in
-    let w = and-true (eqb (getD xs 2 0) (getD ys 2 0)) (eqb (getD xs 3 0) (getD ys 3 0)) (sym g ∙ u .1) in
-    sym (ap₂ _&&_ (ap₂ _&&_ (at 0 (v .0)) (at 1 (v .1))) (ap₂ _&&_ (at 2 (w .0)) (at 3 (w .1)))) ∙ pairwise-four (relation e) xs ys m n
+-- two words that are equal are of equal bytes
+pub record SameBytes (a b c d e f g h : ℕ) : Type 0 where
+  pub first : a ≡ e
+  pub second : b ≡ f
+  pub third : c ≡ g
+  pub fourth : d ≡ h
+
+pub same-bytes : {a b c d e f g h x y : ℕ} → Word a b c d x → Word e f g h y → x ≡ y → SameBytes a b c d e f g h
+same-bytes v w e = record { first = omega arith; second = omega arith; third = omega arith; fourth = omega arith }
+
+-- so four values are related to four that are the same
+pub same-four : (e : Bool) (xs ys : List ℕ) → length xs ≡ 4 → length ys ≡ 4
+    → SameBytes (getD xs 0 0) (getD xs 1 0) (getD xs 2 0) (getD xs 3 0) (getD ys 0 0) (getD ys 1 0) (getD ys 2 0) (getD ys 3 0)
+    → true ≡ pairwise (relation e) xs ys
+same-four e xs ys m n w =
+    sym (ap₂ _&&_ (ap₂ _&&_ (at 0 (w .first)) (at 1 (w .second))) (ap₂ _&&_ (at 2 (w .third)) (at 3 (w .fourth)))) ∙ pairwise-four (relation e) xs ys m n
   where
-    at : (i : ℕ) → eqb (getD xs i 0) (getD ys i 0) ≡ true → relation e (getD xs i 0) (getD ys i 0) ≡ true
-    at i t = ap (relation e (getD xs i 0)) (sym (eqb-true (getD xs i 0) (getD ys i 0) t)) ∙ self-related e (getD xs i 0)
+    at : (i : ℕ) → getD xs i 0 ≡ getD ys i 0 → relation e (getD xs i 0) (getD ys i 0) ≡ true
+    at i t = ap (relation e (getD xs i 0)) (sym t) ∙ self-related e (getD xs i 0)
 
 -- ---- leftmost matching from places on
 

@@ -4,3 +4,4 @@ pub mod Roles
 pub mod Match
 pub mod Key
 pub mod Number
+pub mod Word

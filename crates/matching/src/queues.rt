@@ -28,7 +28,7 @@ pub fn states_match(processes: usize, a: [u8; 4], b: [u8; 4]) -> bool
 }
 
 // The waiting values of an entry against those of a cube.
-fn queue_matches(exact: bool, a: Queue, b: Queue) -> bool
+pub fn queue_matches(exact: bool, a: Queue, b: Queue) -> bool
     ensures { λ r. ⌜ r ≡ queueMatches (relation exact) (waitingOf a) (waitingOf b) ⌝ }
 {
     let n = waiting(a);

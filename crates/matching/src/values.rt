@@ -7,6 +7,7 @@ ghost use Rattle.program_part.specs.ProgramPart.{shapeOf};
 ghost use Rattle.lists.specs.Values.{pairwise};
 ghost use Rattle.lists.specs.Cubes.{anyValue, anyMessage};
 ghost use Rattle.matching.specs.Relation.{relation};
+ghost use Rattle.matching.specs.Word.{Word};
 use program_part::bytes::both;
 use program_part::bytes::either;
 use program_part::bytes::wide;
@@ -30,13 +31,18 @@ pub fn related(exact: bool, a: u8, b: u8) -> bool
     either(a == 255, either(b == 255, a == b))
 }
 
+// Four bytes as a number: they are compared at once.
+pub fn word(a: u8, b: u8, c: u8, d: u8) -> usize
+    ensures { λ r. ⌜ Word a b c d r ⌝ }
+{
+    wide(a) + 256 * wide(b) + 65536 * wide(c) + 16777216 * wide(d)
+}
+
 pub fn values_related(exact: bool, a: [u8; 4], b: [u8; 4]) -> bool
     ensures { λ r. ⌜ r ≡ pairwise (relation exact) a b ⌝ }
 {
     // most often they are the same, and one comparison says so
-    let front = both(a[0] == b[0], a[1] == b[1]);
-    let back = both(a[2] == b[2], a[3] == b[3]);
-    if both(front, back) {
+    if word(a[0], a[1], a[2], a[3]) == word(b[0], b[1], b[2], b[3]) {
         return true;
     }
     let first = both(related(exact, a[0], b[0]), related(exact, a[1], b[1]));

@@ -1,72 +1,81 @@
 use mathlib.Core.Bool.{false≢true}
-use borrow.Author.Tests.{not-false}
-use Rattle.by_bytes.proofs.SameLaws.{waits-is}
+use Rattle.by_bytes.proofs.SameLaws.{not-cut, waits-is}
+use mathlib.Core.Path.{refl}
+use native.Mathlib.Omega.{arith}
 use borrow.Author.Needs.{needs}
 use Rattle.by_bytes.proofs.waits_at.Statement.{statement}
 use Rattle.by_bytes.proofs.waits_at.Tie as tie
 use Rattle.by_bytes.proofs.waits_at.Reads as reads
 use Rattle.by_bytes.proofs.waits_at.Lts as lts
-use Rattle.program_part.proofs.bytes.both.Reads as both-reads
-use Rattle.program_part.proofs.bytes.field.Reads as field-reads
-use Rattle.program_part.proofs.bytes.wide.Reads as wide-reads
-use Rattle.program_part.proofs.record.is_kind.Reads as is-kind-reads
+use Rattle.matching.proofs.word.Reads as word-reads
+use Rattle.program_part.proofs.bytes.cut.Reads as cut-reads
 
--- src/same.rt:88:9
-field-requires : tie.Need-field-requires
-field-requires c κs = search needs
+-- src/lib.rt:91:8
+cut-requires : tie.Need-cut-requires
+cut-requires c κs = search needs
 
--- src/same.rt:89:9
-field-requires-2 : tie.Need-field-requires-2
-field-requires-2 c κs = search needs
-
--- src/same.rt:90:9
-both-requires : tie.Need-both-requires
-both-requires c κs = search needs
-
--- src/same.rt:91:9
+-- src/lib.rt:92:9
 returns : tie.Need-returns
 returns c = λ t. absurd (false≢true t)
 
--- src/same.rt:93:10
-is-kind-requires : tie.Need-is-kind-requires
-is-kind-requires c κs = search needs
+-- src/lib.rt:94:10
+shared-slice-read-word : tie.Need-shared-slice-read-word
+shared-slice-read-word c = omega (arith, not-cut (c .before .before .before .before .args .file .now) (c .before .before .before .before .args .k) 3 (c .before .before .cut .ensures) (c .before .if1 .left))
 
--- src/same.rt:93:36
-wide-requires : tie.Need-wide-requires
-wide-requires c κs = search needs
+-- src/lib.rt:94:24
+add-word : tie.Need-add-word
+add-word c = omega (arith, not-cut (c .before .before .before .before .args .file .now) (c .before .before .before .before .args .k) 3 (c .before .before .cut .ensures) (c .before .if1 .left))
 
--- src/same.rt:93:32
-mul-both : tie.Need-mul-both
-mul-both c = search needs
+-- src/lib.rt:94:19
+shared-slice-read-word-2 : tie.Need-shared-slice-read-word-2
+shared-slice-read-word-2 c = omega (arith, not-cut (c .before .before .before .before .before .args .file .now) (c .before .before .before .before .before .args .k) 3 (c .before .before .before .cut .ensures) (c .before .before .if1 .left))
 
--- src/same.rt:93:46
-wide-requires-2 : tie.Need-wide-requires-2
-wide-requires-2 c κs = search needs
+-- src/lib.rt:94:37
+add-word-2 : tie.Need-add-word-2
+add-word-2 c = omega (arith, not-cut (c .before .before .before .before .before .args .file .now) (c .before .before .before .before .before .args .k) 3 (c .before .before .before .cut .ensures) (c .before .before .if1 .left))
 
--- src/same.rt:93:32
-add-both : tie.Need-add-both
-add-both c = search needs
+-- src/lib.rt:94:32
+shared-slice-read-word-3 : tie.Need-shared-slice-read-word-3
+shared-slice-read-word-3 c = omega (arith, not-cut (c .before .before .before .before .before .before .args .file .now) (c .before .before .before .before .before .before .args .k) 3 (c .before .before .before .before .cut .ensures) (c .before .before .before .if1 .left))
 
--- src/same.rt:93:5
-both-requires-2 : tie.Need-both-requires-2
-both-requires-2 c κs = search needs
+-- src/lib.rt:94:5
+word-requires : tie.Need-word-requires
+word-requires c κs = search needs
 
--- src/same.rt:85:1
+-- src/lib.rt:94:56
+mul-result : tie.Need-mul-result
+mul-result c = search needs
+
+-- src/lib.rt:94:51
+add-result : tie.Need-add-result
+add-result c = search needs
+
+-- src/lib.rt:94:72
+mul-result-2 : tie.Need-mul-result-2
+mul-result-2 c = search needs
+
+-- src/lib.rt:94:51
+add-result-2 : tie.Need-add-result-2
+add-result-2 c = search needs
+
+-- src/lib.rt:87:1
 returns-2 : tie.Need-returns-2
-returns-2 c = λ t. waits-is (c .before .before .before .before .before .before .before .before .before .args .file .now) (c .before .before .before .before .before .before .before .before .before .args .k) (c .before .before .before .before .before .before .before .field .ensures) (c .before .before .before .before .before .before .field2 .ensures) (c .before .before .before .before .before .both .ensures) (not-false (c .before .before .before .before .before .both .result) (c .before .before .before .before .if1 .left)) (c .before .before .before .is-kind .ensures) (c .before .before .wide .ensures) (c .before .wide2 .ensures) (c .both2 .ensures) t
+returns-2 c = λ t. waits-is (c .before .before .before .before .before .before .before .args .file .now) (c .before .before .before .before .before .before .before .args .k) (c .before .before .before .before .before .before .before .pre) (c .before .before .before .before .before .cut .ensures) (c .before .before .before .before .if1 .left) (c .word .ensures) refl t
 
 pub waits-at-spec : {M : Type 1} → statement M
 waits-at-spec =
     tie.close
     (tie.spec
-    field-requires
-    field-requires-2
-    both-requires
+    cut-requires
     returns
-    is-kind-requires
-    wide-requires
-    mul-both
-    wide-requires-2
-    add-both
-    both-requires-2
+    shared-slice-read-word
+    add-word
+    shared-slice-read-word-2
+    add-word-2
+    shared-slice-read-word-3
+    word-requires
+    mul-result
+    add-result
+    mul-result-2
+    add-result-2
     returns-2)

@@ -25,7 +25,7 @@ one-covers-requires c κs = search needs
 
 -- src/search.rt:84:9
 returns : tie.Need-returns
-returns c = looked-covered (c .before .before .before .before .before .before .before .args .file .now) (c .before .before .before .before .before .before .before .args .list .now) (c .before .before .before .before .before .before .before .args .sum .now) (c .before .before .before .before .before .before .before .args .n) (c .before .before .before .before .before .before .before .args .shape) (c .before .before .before .before .before .before .before .args .cube) (c .before .before .before .tags-of .result) (c .before .before .number-of .result) (c .before .before .before .tags-of .ensures) (c .before .one-covers .ensures .0 (c .if1 .taken))
+returns c = looked-covered (c .before .before .before .before .before .before .before .before .args .file .now) (c .before .before .before .before .before .before .before .before .args .list .now) (c .before .before .before .before .before .before .before .before .args .sum .now) (c .before .before .before .before .before .before .before .before .args .n) (c .before .before .before .before .before .before .before .before .args .shape) (c .before .before .before .before .before .before .before .before .args .cube) (c .before .before .before .before .tags-of .result) (c .before .before .before .number-of .result) (c .before .before .before .before .tags-of .ensures) (c .before .one-covers .ensures .0 (c .if1 .taken))
 
 -- src/search.rt:89:9
 place-for-requires : tie.Need-place-for-requires
@@ -33,7 +33,7 @@ place-for-requires c κs = search needs
 
 -- src/search.rt:78:1
 returns-2 : tie.Need-returns-2
-returns-2 c = looked-open (c .before .before .before .before .before .before .before .before .args .file .now) (c .before .before .before .before .before .before .before .before .args .list .now) (c .before .before .before .before .before .before .before .before .args .sum .now) (c .before .before .before .before .before .before .before .before .args .n) (c .before .before .before .before .before .before .before .before .args .shape) (c .before .before .before .before .before .before .before .before .args .cube) (c .before .before .before .before .tags-of .result) (c .before .before .before .number-of .result) (c .before .before .before .before .tags-of .ensures) (c .before .before .before .number-of .ensures) (c .before .before .one-covers .ensures .1 (c .before .if1 .left)) (c .place-for .ensures .0) (c .place-for .ensures .1)
+returns-2 c = looked-open (c .before .before .before .before .before .before .before .before .before .args .file .now) (c .before .before .before .before .before .before .before .before .before .args .list .now) (c .before .before .before .before .before .before .before .before .before .args .sum .now) (c .before .before .before .before .before .before .before .before .before .args .n) (c .before .before .before .before .before .before .before .before .before .args .shape) (c .before .before .before .before .before .before .before .before .before .args .cube) (c .before .before .before .before .before .tags-of .result) (c .before .before .before .before .number-of .result) (c .before .before .before .before .before .tags-of .ensures) (c .before .before .before .before .number-of .ensures) (c .before .before .one-covers .ensures .1 (c .before .if1 .left)) (c .place-for .ensures .0) (c .place-for .ensures .1)
 
 pub look-for-spec : {M : Type 1} → statement M
 look-for-spec =

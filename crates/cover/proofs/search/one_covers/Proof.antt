@@ -23,7 +23,7 @@ walk-from-requires c κs = search needs
 
 -- src/search.rt:50:5
 loop-holds : tie.Need-loop-holds Inv-loop μ-loop
-loop-holds c = scanning-begin (c .before .before .before .before .before .args .file .now) (c .before .before .before .before .before .args .list .now) (c .before .before .before .before .before .args .sum .now) (c .before .before .before .before .before .args .n) (c .before .before .before .before .before .args .shape) (c .before .before .before .before .before .args .cube) (c .before .before .before .before .before .args .right) (c .before .before .before .before .before .args .number) (c .walk-from .ensures)
+loop-holds c = scanning-begin (c .before .before .before .before .before .args .file .now) (c .before .before .before .before .before .args .list .now) (c .before .before .before .before .before .args .sum .now) (c .before .before .before .before .before .args .n) (c .before .before .before .before .before .args .shape) (c .before .before .before .before .before .args .cube) (c .before .before .before .before .before .args .right .now) (c .before .before .before .before .before .args .number) (c .walk-from .ensures)
 
 -- src/search.rt:51:17
 sub-i : tie.Need-sub-i Inv-loop μ-loop
@@ -35,7 +35,7 @@ matches-at-requires c κs = search needs
 
 -- src/search.rt:53:13
 returns : tie.Need-returns Inv-loop μ-loop
-returns c = ((λ e. scanning-covered (c .before .before .before .before .before .before .before .before .before .before .before .args .file .now) (c .before .before .before .before .before .before .before .before .before .before .before .args .list .now) (c .before .before .before .before .before .before .before .before .before .before .before .args .sum .now) (c .before .before .before .before .before .before .before .before .before .before .before .args .n) (c .before .before .before .before .before .before .before .before .before .before .before .args .shape) (c .before .before .before .before .before .before .before .before .before .before .before .args .cube) (c .before .before .before .before .before .before .before .before .before .before .before .args .right) (c .before .before .before .before .before .before .before .before .before .before .before .args .number) (c .before .before .before .before .before .loop .inv) (c .before .before .before .if1 .taken) (λ A. sym (c .before .matches-at .ensures A) ∙ c .if2 .taken)), (λ e. absurd (true-not-false e)))
+returns c = ((λ e. scanning-covered (c .before .before .before .before .before .before .before .before .before .before .before .args .file .now) (c .before .before .before .before .before .before .before .before .before .before .before .args .list .now) (c .before .before .before .before .before .before .before .before .before .before .before .args .sum .now) (c .before .before .before .before .before .before .before .before .before .before .before .args .n) (c .before .before .before .before .before .before .before .before .before .before .before .args .shape) (c .before .before .before .before .before .before .before .before .before .before .before .args .cube) (c .before .before .before .before .before .before .before .before .before .before .before .args .right .now) (c .before .before .before .before .before .before .before .before .before .before .before .args .number) (c .before .before .before .before .before .loop .inv) (c .before .before .before .if1 .taken) (λ A. sym (c .before .matches-at .ensures A) ∙ c .if2 .taken)), (λ e. absurd (true-not-false e)))
 
 -- src/search.rt:55:13
 onward-requires : tie.Need-onward-requires Inv-loop μ-loop
@@ -47,11 +47,11 @@ loop-less c = far-less (c .before .before .before .before .before .before .loop 
 
 -- src/search.rt:50:5
 loop-again : tie.Need-loop-again Inv-loop μ-loop
-loop-again c = scanning-next (c .before .before .before .before .before .before .before .before .before .before .before .before .args .file .now) (c .before .before .before .before .before .before .before .before .before .before .before .before .args .list .now) (c .before .before .before .before .before .before .before .before .before .before .before .before .args .sum .now) (c .before .before .before .before .before .before .before .before .before .before .before .before .args .n) (c .before .before .before .before .before .before .before .before .before .before .before .before .args .shape) (c .before .before .before .before .before .before .before .before .before .before .before .before .args .cube) (c .before .before .before .before .before .before .before .before .before .before .before .before .args .right) (c .before .before .before .before .before .before .before .before .before .before .before .before .args .number) (c .before .before .before .before .before .before .loop .inv) (λ A. sym (c .before .before .matches-at .ensures A) ∙ c .before .if2 .left) (c .onward .ensures)
+loop-again c = scanning-next (c .before .before .before .before .before .before .before .before .before .before .before .before .args .file .now) (c .before .before .before .before .before .before .before .before .before .before .before .before .args .list .now) (c .before .before .before .before .before .before .before .before .before .before .before .before .args .sum .now) (c .before .before .before .before .before .before .before .before .before .before .before .before .args .n) (c .before .before .before .before .before .before .before .before .before .before .before .before .args .shape) (c .before .before .before .before .before .before .before .before .before .before .before .before .args .cube) (c .before .before .before .before .before .before .before .before .before .before .before .before .args .right .now) (c .before .before .before .before .before .before .before .before .before .before .before .before .args .number) (c .before .before .before .before .before .before .loop .inv) (λ A. sym (c .before .before .matches-at .ensures A) ∙ c .before .if2 .left) (c .onward .ensures)
 
 -- src/search.rt:35:1
 returns-2 : tie.Need-returns-2 Inv-loop μ-loop
-returns-2 c = ((λ e. absurd (true-not-false (sym e))), (λ e. scanning-end (c .before .before .before .before .before .before .before .before .args .file .now) (c .before .before .before .before .before .before .before .before .args .list .now) (c .before .before .before .before .before .before .before .before .args .sum .now) (c .before .before .before .before .before .before .before .before .args .n) (c .before .before .before .before .before .before .before .before .args .shape) (c .before .before .before .before .before .before .before .before .args .cube) (c .before .before .before .before .before .before .before .before .args .right) (c .before .before .before .before .before .before .before .before .args .number) (c .before .before .loop .inv) (c .if1 .left)))
+returns-2 c = ((λ e. absurd (true-not-false (sym e))), (λ e. scanning-end (c .before .before .before .before .before .before .before .before .args .file .now) (c .before .before .before .before .before .before .before .before .args .list .now) (c .before .before .before .before .before .before .before .before .args .sum .now) (c .before .before .before .before .before .before .before .before .args .n) (c .before .before .before .before .before .before .before .before .args .shape) (c .before .before .before .before .before .before .before .before .args .cube) (c .before .before .before .before .before .before .before .before .args .right .now) (c .before .before .before .before .before .before .before .before .args .number) (c .before .before .loop .inv) (c .if1 .left)))
 
 pub one-covers-spec : {M : Type 1} → statement M
 one-covers-spec =

@@ -1,37 +1,35 @@
 use mathlib.Core.Path.{_∙_, ap₂}
 use mathlib.Core.Bool.{_&&_}
 use Rattle.matching.specs.Relation.{relation}
-use Rattle.matching.proofs.ValueLaws.{pairwise-four, same-four}
+use Rattle.matching.proofs.ValueLaws.{pairwise-four, same-bytes, same-four}
 use borrow.Author.Needs.{needs}
 use Rattle.matching.proofs.values.values_related.Statement.{statement}
 use Rattle.matching.proofs.values.values_related.Tie as tie
 
 pub values-related-spec : {M : Type 1} → statement M
 values-related-spec = tie.close (tie.spec
-    -- array-read-both
+    -- array-read-word
     (λ c. search needs)
-    -- array-read-both-2
+    -- array-read-word-2
     (λ c. search needs)
-    -- array-read-both-3
+    -- array-read-word-3
     (λ c. search needs)
-    -- array-read-both-4
+    -- array-read-word-4
     (λ c. search needs)
-    -- both-requires
+    -- word-requires
     (λ c κs. search needs)
-    -- array-read-both-5
+    -- array-read-word-5
     (λ c. search needs)
-    -- array-read-both-6
+    -- array-read-word-6
     (λ c. search needs)
-    -- array-read-both-7
+    -- array-read-word-7
     (λ c. search needs)
-    -- array-read-both-8
+    -- array-read-word-8
     (λ c. search needs)
-    -- both-requires-2
-    (λ c κs. search needs)
-    -- both-requires-3
+    -- word-requires-2
     (λ c κs. search needs)
     -- returns
-    (λ c. same-four (c .before .before .before .before .args .exact) (c .before .before .before .before .args .t2) (c .before .before .before .before .args .t3) (search needs) (search needs) (c .before .before .before .both .ensures) (c .before .before .both2 .ensures) (c .before .both3 .ensures) (c .if1 .taken))
+    (λ c. same-four (c .before .before .before .args .exact) (c .before .before .before .args .t2) (c .before .before .before .args .t3) (search needs) (search needs) (same-bytes (c .before .before .word .ensures) (c .before .word2 .ensures) (c .if1 .taken)))
     -- array-read-related
     (λ c. search needs)
     -- array-read-related-2
@@ -44,7 +42,7 @@ values-related-spec = tie.close (tie.spec
     (λ c. search needs)
     -- related-requires-2
     (λ c κs. search needs)
-    -- both-requires-4
+    -- both-requires
     (λ c κs. search needs)
     -- array-read-related-5
     (λ c. search needs)
@@ -58,9 +56,9 @@ values-related-spec = tie.close (tie.spec
     (λ c. search needs)
     -- related-requires-4
     (λ c κs. search needs)
-    -- both-requires-5
+    -- both-requires-2
     (λ c κs. search needs)
-    -- both-requires-6
+    -- both-requires-3
     (λ c κs. search needs)
     -- returns-2
-    (λ c. c .both6 .ensures ∙ ap₂ _&&_ (c .before .before .before .before .both4 .ensures ∙ ap₂ _&&_ (c .before .before .before .before .before .before .related .ensures) (c .before .before .before .before .before .related2 .ensures)) (c .before .both5 .ensures ∙ ap₂ _&&_ (c .before .before .before .related3 .ensures) (c .before .before .related4 .ensures)) ∙ pairwise-four (relation (c .before .before .before .before .before .before .before .before .before .before .before .args .exact)) (c .before .before .before .before .before .before .before .before .before .before .before .args .t2) (c .before .before .before .before .before .before .before .before .before .before .before .args .t3) (search needs) (search needs)))
+    (λ c. c .both3 .ensures ∙ ap₂ _&&_ (c .before .before .before .before .both .ensures ∙ ap₂ _&&_ (c .before .before .before .before .before .before .related .ensures) (c .before .before .before .before .before .related2 .ensures)) (c .before .both2 .ensures ∙ ap₂ _&&_ (c .before .before .before .related3 .ensures) (c .before .before .related4 .ensures)) ∙ pairwise-four (relation (c .before .before .before .before .before .before .before .before .before .before .args .exact)) (c .before .before .before .before .before .before .before .before .before .before .args .t2) (c .before .before .before .before .before .before .before .before .before .before .args .t3) (search needs) (search needs)))

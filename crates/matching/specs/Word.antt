@@ -1,0 +1,9 @@
+-- Four bytes as a number. No statement rests on this definition.
+use Prim.Native.Nat.{ℕ, _+_, _*_, _<_}
+use mathlib.Core.Path.{_≡_}
+
+pub record Word (a b c d r : ℕ) : Type 0 where
+  pub is : r ≡ a + 256 * b + 65536 * c + 16777216 * d
+  pub first : a < 256
+  pub second : b < 256
+  pub third : c < 256
