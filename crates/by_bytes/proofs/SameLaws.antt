@@ -115,17 +115,15 @@ module _ {tags kept : List ℕ} {n m : ℕ} (w : Kept tags n kept m) (short : n 
 abbrev pub valuesAt : Bool → List ℕ → ℕ → List Message → List ℕ → ℕ → Bool
 valuesAt exact f start ms kept i = pairwise (relation exact) (messageAt f (start + 7 * i) .snapshot) (getD ms (getD kept i 0) noMessage .snapshot)
 
--- the first j messages were compared: m have a role, and as many 11s have their labels
-pub record Sent (exact : Bool) (f : List ℕ) (at : ℕ) (c : Cube) (tags : List ℕ) (n : ℕ) (kept : List ℕ) (m k : ℕ) (sent : Bool) (j : ℕ) : Type 0 where
+-- the first j messages were looked at: m have a role, and as many 11s stand there
+pub record Skipped (f : List ℕ) (at : ℕ) (tags : List ℕ) (n : ℕ) (kept : List ℕ) (m k j : ℕ) : Type 0 where
   pub most : j ≤ n
   pub places : Kept tags j kept m
   pub here : k ≡ at + 9 + 7 * m
   pub kinds : (i : ℕ) → i < m → byte f (at + 9 + 7 * i) ≡ 17
-  pub labels : (i : ℕ) → i < m → SameLabel (messageAt f (at + 9 + 7 * i)) (getD (c .messages) (getD kept i 0) noMessage)
-  pub tested : sent ≡ allBelow m (valuesAt exact f (at + 9) (c .messages) kept)
 
-pub sent-begin : (exact : Bool) (f : List ℕ) (at : ℕ) (c : Cube) (tags : List ℕ) (n : ℕ) → Sent exact f at c tags n (replicate 20 0) 0 (at + 9) true 0
-sent-begin exact f at c tags n =
+pub skipped-begin : (f : List ℕ) (at : ℕ) (tags : List ℕ) (n : ℕ) → Skipped f at tags n (replicate 20 0) 0 (at + 9) 0
+skipped-begin f at tags n =
     record {
       most = omega arith;
       places = record {
@@ -138,19 +136,14 @@ sent-begin exact f at c tags n =
       };
       here = omega arith;
       kinds = λ i l. absurd (omega arith);
-      labels = λ i l. absurd (omega arith);
-      tested = refl;
     }
 
-module _ {exact : Bool} {f : List ℕ} {at : ℕ} {c : Cube} {tags : List ℕ} {n : ℕ} {kept : List ℕ} {m k : ℕ} {sent : Bool} {j : ℕ} (w : Sent exact f at c tags n kept m k sent j) (short : n ≤ 20) (more : j < n) where
-  pub sent-skip : getD tags j 0 < 65536 → Sent exact f at c tags n kept m k sent (j + 1)
-  sent-skip l =
-      record { most = omega arith; places = kept-skip (w .places) l; here = w .here; kinds = w .kinds; labels = w .labels; tested = w .tested }
+module _ {f : List ℕ} {at : ℕ} {tags : List ℕ} {n : ℕ} {kept : List ℕ} {m k j : ℕ} (w : Skipped f at tags n kept m k j) (short : n ≤ 20) (more : j < n) where
+  pub skipped-next : getD tags j 0 < 65536 → Skipped f at tags n kept m k (j + 1)
+  skipped-next l = record { most = omega arith; places = kept-skip (w .places) l; here = w .here; kinds = w .kinds }
 
-  pub sent-more : {x : Message} {v good : Bool} → 65536 ≤ getD tags j 0 → byte f k ≡ 17 → x ≡ messageAt f k → SameLabel x (getD (c .messages) j noMessage)
-      → v ≡ pairwise (relation exact) (x .snapshot) (getD (c .messages) j noMessage .snapshot) → good ≡ sent && v
-      → Sent exact f at c tags n (set kept m j) (m + 1) (k + 7) good (j + 1)
-  sent-more {x} {v} {good} r b e l q g =
+  pub skipped-more : 65536 ≤ getD tags j 0 → byte f k ≡ 17 → Skipped f at tags n (set kept m j) (m + 1) (k + 7) (j + 1)
+  skipped-more r b =
       record {
         most = omega arith;
         places = kept-more (w .places) (omega arith) r;
@@ -159,25 +152,43 @@ module _ {exact : Bool} {f : List ℕ} {at : ℕ} {c : Cube} {tags : List ℕ} {
           | yes d ↦ ap (byte f) (at-m i d) ∙ b
           | no d ↦ w .kinds i (omega arith)
         ];
-        labels = λ i y. elim (ℕ-discrete i m) [
-          | yes d ↦ subst (λ (u : Message). SameLabel u (getD (c .messages) (getD (set kept m j) i 0) noMessage)) (e ∙ ap (messageAt f) (sym (at-m i d)))
-              (subst (λ (u : ℕ). SameLabel x (getD (c .messages) u noMessage)) (sym (ap (λ (u : ℕ). getD (set kept m j) u 0) d ∙ new (w .places) (omega arith))) l)
-          | no d ↦ subst (λ (u : ℕ). SameLabel (messageAt f (at + 9 + 7 * i)) (getD (c .messages) u noMessage)) (sym (old (w .places) (omega arith) i (omega arith))) (w .labels i (omega arith))
-        ];
-        tested = g ∙ ap₂ _&&_ (w .tested ∙ all-equal m (valuesAt exact f (at + 9) (c .messages) kept) (valuesAt exact f (at + 9) (c .messages) (set kept m j))
-            (λ i y. ap (λ (u : ℕ). pairwise (relation exact) (messageAt f (at + 9 + 7 * i) .snapshot) (getD (c .messages) u noMessage .snapshot)) (sym (old (w .places) (omega arith) i y))))
-            (q ∙ ap₂ (λ (a b : Message). pairwise (relation exact) (a .snapshot) (b .snapshot)) (e ∙ ap (messageAt f) (w .here)) (ap (λ (u : ℕ). getD (c .messages) u noMessage) (sym (new (w .places) (omega arith)))))
-            ∙ ap (λ (u : ℕ). allBelow u (valuesAt exact f (at + 9) (c .messages) (set kept m j))) next;
       }
     where
       at-m : (i : ℕ) → i ≡ m → at + 9 + 7 * i ≡ k
       at-m i d = omega (arith, w .here)
 
-      next : suc m ≡ m + 1
-      next = omega arith
+  pub skipped-room : m < 20
+  skipped-room = omega (arith, w .places .few)
 
-  pub sent-room : m < 20
-  sent-room = omega (arith, w .places .few)
+  pub skipped-inside : {x : Bool} → x ≡ cut f at (8 + 7 * n) → x ≡ false → k + 7 ≤ length f
+  skipped-inside e g = omega (arith, w .here, w .places .few, not-cut f at (8 + 7 * n) e g)
+
+-- the first i of the m 11s were compared: they have the labels of the messages that they stand for
+pub record Sent (exact : Bool) (f : List ℕ) (at : ℕ) (ms : List Message) (kept : List ℕ) (m : ℕ) (sent : Bool) (i : ℕ) : Type 0 where
+  pub few : i ≤ m
+  pub labels : (x : ℕ) → x < i → SameLabel (messageAt f (at + 9 + 7 * x)) (getD ms (getD kept x 0) noMessage)
+  pub tested : sent ≡ allBelow i (valuesAt exact f (at + 9) ms kept)
+
+pub sent-begin : (exact : Bool) (f : List ℕ) (at : ℕ) (ms : List Message) (kept : List ℕ) (m : ℕ) → Sent exact f at ms kept m true 0
+sent-begin exact f at ms kept m = record { few = omega arith; labels = λ i l. absurd (omega arith); tested = refl }
+
+pub sent-more : {exact : Bool} {f : List ℕ} {at : ℕ} {ms : List Message} {kept : List ℕ} {m : ℕ} {sent : Bool} {i z : ℕ} {x : Message} {v good : Bool}
+    → Sent exact f at ms kept m sent i → i < m → z ≡ getD kept i 0 → x ≡ messageAt f (at + 9 + 7 * i) → SameLabel x (getD ms z noMessage)
+    → v ≡ pairwise (relation exact) (x .snapshot) (getD ms z noMessage .snapshot) → good ≡ sent && v → Sent exact f at ms kept m good (i + 1)
+sent-more {exact} {f} {at} {ms} {kept} {m} {sent} {i} {z} {x} {v} {good} w l e d h q g =
+    record {
+      few = omega arith;
+      labels = λ y a. elim (ℕ-discrete y i) [
+        | yes b ↦ subst (λ (k : ℕ). SameLabel (messageAt f (at + 9 + 7 * k)) (getD ms (getD kept k 0) noMessage)) (sym b)
+            (subst (λ (k : ℕ). SameLabel (messageAt f (at + 9 + 7 * i)) (getD ms k noMessage)) e (subst (λ (u : Message). SameLabel u (getD ms z noMessage)) d h))
+        | no b ↦ w .labels y (omega arith)
+      ];
+      tested = g ∙ ap₂ _&&_ (w .tested) (q ∙ ap₂ (λ (a : Message) (b : ℕ). pairwise (relation exact) (a .snapshot) (getD ms b noMessage .snapshot)) d e)
+          ∙ ap (λ (u : ℕ). allBelow u (valuesAt exact f (at + 9) ms kept)) next;
+    }
+  where
+    next : suc i ≡ i + 1
+    next = omega arith
 
 -- ---- what the 11s load
 
@@ -481,13 +492,12 @@ by-rows (suc n) x g l t =
 
 -- ---- the whole
 
-module _ {exact : Bool} {f : List ℕ} {at : ℕ} {s : Shape} {c : Cube} {tags kept : List ℕ} {n m k : ℕ} {sent : Bool} {j : ℕ} {a b g h last variables end q : ℕ} {waits x r : Bool}
-    (inside : at < length f) (counted : n ≡ min (c .count) 20) (w : Sent exact f at c tags n kept m k sent j) (done : n ≤ j)
-    (pa : a ≡ byte f (at + 5)) (pb : b ≡ byte f (at + 6)) (pg : g ≡ byte f (at + 7)) (ph : h ≡ byte f (at + 8))
-    (points : PointsSame (s .processes) (a ∷ b ∷ g ∷ h ∷ []) (c .pointers) kept m) (first : OneFirst (s .processes) (a ∷ b ∷ g ∷ h ∷ []))
+-- the records of the entry are those that were looked at
+module _ (s : Shape) (c : Cube) {exact : Bool} {f : List ℕ} {at : ℕ} {tags kept : List ℕ} {n m k j : ℕ} {last variables end q : ℕ} {waits x : Bool}
+    (inside : at < length f) (counted : n ≡ min (c .count) 20) (w : Skipped f at tags n kept m k j) (done : n ≤ j)
     (few-is : end ≡ 4 * min (s .processes) 4) (narrow-is : variables ≡ min (s .variables) 4)
     (v : Waits exact f at (sentLoaded f (at + 9) m) variables (c .queues) last waits q) (full : q ≡ end)
-    (over : x ≡ not (isKind f last 17) && not (isKind f last 18)) (ends : x ≡ true) (both-are : r ≡ waits && sent) (A : Against s c tags)
+    (over : x ≡ not (isKind f last 17) && not (isKind f last 18)) (ends : x ≡ true)
   where
     no-more : loaded f at ≡ v .by
     unfolding loadsMessage loadsWaiting
@@ -508,78 +518,12 @@ module _ {exact : Bool} {f : List ℕ} {at : ℕ} {s : Shape} {c : Cube} {tags k
     unfolding loadEntry
     message-is i l = ap (λ (l : Loaded). getD (l .messages) i noMessage) no-more ∙ ap (λ (ms : List Message). getD ms i noMessage) (v .messages) ∙ sent-message f (at + 9) m i (omega (arith, w .places .few, w .most)) l
 
-    pointers-are : a ∷ b ∷ g ∷ h ∷ [] ≡ loadEntry f at .pointers
-    unfolding loadEntry
-    pointers-are = rw (pa, pb, pg, ph) refl
-
     queues-are : loadEntry f at .queues ≡ v .by .queues
     unfolding loadEntry
     queues-are = ap (λ (l : Loaded). l .queues) no-more
 
     short : m ≤ 20
     short = omega (arith, w .places .few, w .most)
-
-    tag-at : (i : ℕ) → i < c .count → getD tags i 0 ≡ 65536 * maskIn s c (suc i) + labelNumber (getD (c .messages) i noMessage)
-    tag-at i l =
-        let z : suc i - 1 ≡ i = omega arith in
-        ap (λ (ts : List ℕ). getD ts i 0) (A .is) ∙ tags-at s c i l (omega (arith, A .sized .messages)) ∙ tag-is s (A .sized .processes) (A .sized .variables) c (A .sized .messages) (suc i)
-        ∙ ap (λ (u : ℕ). 65536 * maskIn s c (suc i) + labelNumber (getD (c .messages) u noMessage)) z
-
-    point : (p : ℕ) → p < s .processes
-        → (1 ≤ getD (loadEntry f at .pointers) p 0) × (getD (loadEntry f at .pointers) p 0 ≤ m) × (getD (c .pointers) p 0 ≡ suc (getD kept (getD (loadEntry f at .pointers) p 0 - 1) 0))
-    point p l = subst (λ (zs : List ℕ). (1 ≤ getD zs p 0) × (getD zs p 0 ≤ m) × (getD (c .pointers) p 0 ≡ suc (getD kept (getD zs p 0 - 1) 0))) pointers-are (points p (omega (arith, A .sized .processes)))
-
-    one-first : OneFirst (s .processes) (loadEntry f at .pointers)
-    one-first = subst (OneFirst (s .processes)) pointers-are first
-
-    lowest-one : lowestPointer s (loadEntry f at .pointers) ≡ 1
-    unfolding lowestPointer
-    lowest-one =
-        omega (
-          arith,
-          low-one (min (s .processes) 4) (loadEntry f at .pointers) (one-first .0) (one-first .1) (one-first .2),
-          some-low (min (s .processes) 4) (loadEntry f at .pointers) (λ p l. point p (omega arith) .0),
-        )
-
-    first-kept : (i : ℕ) → i < m → lowestPointer s (c .pointers) ≤ suc (getD kept i 0)
-    unfolding lowestPointer
-    first-kept i l =
-        let y = one-first in
-        let u = point (y .0) (omega (arith, y .1)) in
-        let z : getD (loadEntry f at .pointers) (y .0) 0 - 1 ≡ 0 = omega (arith, y .2) in
-        omega (arith, low-at (min (s .processes) 4) (c .pointers) (y .0) (y .1), u .2, ap (λ (d : ℕ). getD kept d 0) z, zero-first i l)
-      where
-        zero-first : (i : ℕ) → i < m → getD kept 0 0 ≤ getD kept i 0
-        zero-first zero l = omega arith
-        zero-first (suc i) l = omega (arith, w .places .rises 0 (suc i) (omega arith) l)
-
-    traced : Traced s (loadEntry f at) c (λ i. getD kept i 0)
-    traced =
-        record {
-          inside = λ i l. omega (arith, w .places .low i (omega (arith, count-is)), w .most);
-          rises = λ i j y l. w .places .rises i j y (omega (arith, count-is));
-          process = λ i l. ap (λ (u : Message). u .process) (message-is i (omega (arith, count-is))) ∙ w .labels i (omega (arith, count-is)) .process;
-          variable = λ i l. ap (λ (u : Message). u .variable) (message-is i (omega (arith, count-is))) ∙ w .labels i (omega (arith, count-is)) .variable;
-          from = λ p l. point p l .0;
-          upto = λ p l. omega (arith, point p l .1, count-is);
-          pointer = λ p l. point p l .2;
-          role = λ i l.
-              let d = w .labels i (omega (arith, count-is)) in
-              omega (arith, w .places .role i (omega (arith, count-is)), tag-at (getD kept i 0) (omega (arith, w .places .low i (omega (arith, count-is)), w .most)), d .low, d .high);
-          all = λ i l y.
-              let d = w .places .all i (omega (arith, A .sized .messages)) (omega (arith, tag-at i l)) in
-              (d .0, omega (arith, d .1, count-is), d .2);
-          lowest = lowest-one;
-          first = λ i l. first-kept i (omega (arith, count-is));
-        }
-
-    channel-is : channelMatches s exact (loadEntry f at) c ≡ sent
-    channel-is =
-        traced-matches s (A .sized .processes) (A .sized .variables) (loadEntry f at) c (omega (arith, count-is, short)) (A .sized .messages) (λ i. getD kept i 0) traced exact
-        ∙ ap (λ (u : ℕ). allBelow u (λ i. pairwise (relation exact) (getD (loadEntry f at .messages) i noMessage .snapshot) (getD (c .messages) (getD kept i 0) noMessage .snapshot))) count-is
-        ∙ all-equal m (λ i. pairwise (relation exact) (getD (loadEntry f at .messages) i noMessage .snapshot) (getD (c .messages) (getD kept i 0) noMessage .snapshot)) (valuesAt exact f (at + 9) (c .messages) kept)
-        (λ i l. ap (λ (u : Message). pairwise (relation exact) (u .snapshot) (getD (c .messages) (getD kept i 0) noMessage .snapshot)) (message-is i l))
-        ∙ sym (w .tested)
 
     queues-tested : allBelow (min (s .processes) 4) (queueRow (s .variables) exact (loadEntry f at .queues) (c .queues)) ≡ waits
     unfolding queueRow
@@ -589,5 +533,83 @@ module _ {exact : Bool} {f : List ℕ} {at : ℕ} {s : Shape} {c : Cube} {tags k
         ∙ sym (by-rows (min (s .processes) 4) (min (s .variables) 4) (okay exact (v .by) (c .queues)) (omega arith) (λ i l y. v .absent i (omega arith) (omega arith)))
         ∙ ap (λ (d : ℕ). allBelow d (okay exact (v .by) (c .queues))) (sym z) ∙ sym (v .tested)
 
-    pub same-decides : r ≡ allBelow (min (s .processes) 4) (queueRow (s .variables) exact (loadEntry f at .queues) (c .queues)) && channelMatches s exact (loadEntry f at) c
-    same-decides = both-are ∙ ap₂ _&&_ (sym queues-tested) (sym channel-is)
+    pub queues-decide : waits ≡ false → false ≡ allBelow (min (s .processes) 4) (queueRow (s .variables) exact (loadEntry f at .queues) (c .queues)) && channelMatches s exact (loadEntry f at) c
+    queues-decide e = sym (ap (λ (y : Bool). y && channelMatches s exact (loadEntry f at) c) (queues-tested ∙ e))
+
+    -- and they have the labels and pointers of the messages with a role
+    module _ {a b g h i : ℕ} {sent : Bool} (yes-waits : waits ≡ true)
+        (pa : a ≡ byte f (at + 5)) (pb : b ≡ byte f (at + 6)) (pg : g ≡ byte f (at + 7)) (ph : h ≡ byte f (at + 8))
+        (points : PointsSame (s .processes) (a ∷ b ∷ g ∷ h ∷ []) (c .pointers) kept m) (first : OneFirst (s .processes) (a ∷ b ∷ g ∷ h ∷ []))
+        (u : Sent exact f at (c .messages) kept m sent i) (through : m ≤ i) (A : Against s c tags)
+      where
+        pointers-are : a ∷ b ∷ g ∷ h ∷ [] ≡ loadEntry f at .pointers
+        unfolding loadEntry
+        pointers-are = rw (pa, pb, pg, ph) refl
+
+        tag-at : (i : ℕ) → i < c .count → getD tags i 0 ≡ 65536 * maskIn s c (suc i) + labelNumber (getD (c .messages) i noMessage)
+        tag-at i l =
+            let z : suc i - 1 ≡ i = omega arith in
+            ap (λ (ts : List ℕ). getD ts i 0) (A .is) ∙ tags-at s c i l (omega (arith, A .sized .messages)) ∙ tag-is s (A .sized .processes) (A .sized .variables) c (A .sized .messages) (suc i)
+            ∙ ap (λ (u : ℕ). 65536 * maskIn s c (suc i) + labelNumber (getD (c .messages) u noMessage)) z
+
+        point : (p : ℕ) → p < s .processes
+            → (1 ≤ getD (loadEntry f at .pointers) p 0) × (getD (loadEntry f at .pointers) p 0 ≤ m) × (getD (c .pointers) p 0 ≡ suc (getD kept (getD (loadEntry f at .pointers) p 0 - 1) 0))
+        point p l = subst (λ (zs : List ℕ). (1 ≤ getD zs p 0) × (getD zs p 0 ≤ m) × (getD (c .pointers) p 0 ≡ suc (getD kept (getD zs p 0 - 1) 0))) pointers-are (points p (omega (arith, A .sized .processes)))
+
+        one-first : OneFirst (s .processes) (loadEntry f at .pointers)
+        one-first = subst (OneFirst (s .processes)) pointers-are first
+
+        lowest-one : lowestPointer s (loadEntry f at .pointers) ≡ 1
+        unfolding lowestPointer
+        lowest-one =
+            omega (
+              arith,
+              low-one (min (s .processes) 4) (loadEntry f at .pointers) (one-first .0) (one-first .1) (one-first .2),
+              some-low (min (s .processes) 4) (loadEntry f at .pointers) (λ p l. point p (omega arith) .0),
+            )
+
+        first-kept : (i : ℕ) → i < m → lowestPointer s (c .pointers) ≤ suc (getD kept i 0)
+        unfolding lowestPointer
+        first-kept i l =
+            let y = one-first in
+            let u = point (y .0) (omega (arith, y .1)) in
+            let z : getD (loadEntry f at .pointers) (y .0) 0 - 1 ≡ 0 = omega (arith, y .2) in
+            omega (arith, low-at (min (s .processes) 4) (c .pointers) (y .0) (y .1), u .2, ap (λ (d : ℕ). getD kept d 0) z, zero-first i l)
+          where
+            zero-first : (i : ℕ) → i < m → getD kept 0 0 ≤ getD kept i 0
+            zero-first zero l = omega arith
+            zero-first (suc i) l = omega (arith, w .places .rises 0 (suc i) (omega arith) l)
+
+        traced : Traced s (loadEntry f at) c (λ i. getD kept i 0)
+        traced =
+            record {
+              inside = λ i l. omega (arith, w .places .low i (omega (arith, count-is)), w .most);
+              rises = λ i j y l. w .places .rises i j y (omega (arith, count-is));
+              process = λ i l. ap (λ (u : Message). u .process) (message-is i (omega (arith, count-is))) ∙ u .labels i (omega (arith, count-is, through)) .process;
+              variable = λ i l. ap (λ (u : Message). u .variable) (message-is i (omega (arith, count-is))) ∙ u .labels i (omega (arith, count-is, through)) .variable;
+              from = λ p l. point p l .0;
+              upto = λ p l. omega (arith, point p l .1, count-is);
+              pointer = λ p l. point p l .2;
+              role = λ i l.
+                  let d = u .labels i (omega (arith, count-is, through)) in
+                  omega (arith, w .places .role i (omega (arith, count-is)), tag-at (getD kept i 0) (omega (arith, w .places .low i (omega (arith, count-is)), w .most)), d .low, d .high);
+              all = λ i l y.
+                  let d = w .places .all i (omega (arith, A .sized .messages)) (omega (arith, tag-at i l)) in
+                  (d .0, omega (arith, d .1, count-is), d .2);
+              lowest = lowest-one;
+              first = λ i l. first-kept i (omega (arith, count-is));
+            }
+
+        all-sent : i ≡ m
+        all-sent = omega (arith, u .few, through)
+
+        channel-is : channelMatches s exact (loadEntry f at) c ≡ sent
+        channel-is =
+            traced-matches s (A .sized .processes) (A .sized .variables) (loadEntry f at) c (omega (arith, count-is, short)) (A .sized .messages) (λ i. getD kept i 0) traced exact
+            ∙ ap (λ (u : ℕ). allBelow u (λ i. pairwise (relation exact) (getD (loadEntry f at .messages) i noMessage .snapshot) (getD (c .messages) (getD kept i 0) noMessage .snapshot))) count-is
+            ∙ all-equal m (λ i. pairwise (relation exact) (getD (loadEntry f at .messages) i noMessage .snapshot) (getD (c .messages) (getD kept i 0) noMessage .snapshot)) (valuesAt exact f (at + 9) (c .messages) kept)
+            (λ i l. ap (λ (u : Message). pairwise (relation exact) (u .snapshot) (getD (c .messages) (getD kept i 0) noMessage .snapshot)) (message-is i l))
+            ∙ ap (λ (y : ℕ). allBelow y (valuesAt exact f (at + 9) (c .messages) kept)) (sym all-sent) ∙ sym (u .tested)
+
+        pub same-decides : sent ≡ allBelow (min (s .processes) 4) (queueRow (s .variables) exact (loadEntry f at .queues) (c .queues)) && channelMatches s exact (loadEntry f at) c
+        same-decides = sym (ap₂ _&&_ (queues-tested ∙ yes-waits) channel-is)

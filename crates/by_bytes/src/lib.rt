@@ -142,8 +142,9 @@ fn ends_at(file: &[u8], k: usize) -> bool
     both(!is_kind(file, k, 17), !is_kind(file, k, 18))
 }
 
-// The entry whose 10 stands at a place, but for its local states: its 11s have the labels of the cube's messages with a role, whose tags say so, its
-// pointers are at those that the cube's are at, and its 12s are of the queues of the cube in which a value waits, in their order.
+// The entry whose 10 stands at a place, but for its local states: it has as many 11s as the cube has messages with a role, whose tags say so, then
+// 12s of the queues of the cube in which a value waits, in their order; and, if these are related, its 11s have the labels of those messages and
+// its pointers are at those that the cube's are at.
 pub fn compare_at(
     exact: bool,
     file: &[u8],
@@ -154,37 +155,23 @@ pub fn compare_at(
 ) -> Compared
     ensures { λ r. ⌜ (r .same ≡ true → Against shape cube (now (right .entry)) → r .related ≡ (allBelow (min (shape .processes) 4) (queueRow (shape .variables) exact (loadEntry (now (file .entry)) at .queues) (cube .queues)) && channelMatches shape exact (loadEntry (now (file .entry)) at) cube)) ⌝ }
 {
-    if cut(file, at, 8) {
+    let n = least(cube.count, 20);
+    if cut(file, at, 8 + 7 * n) {
         return not_same();
     }
-    let n = least(cube.count, 20);
     let mut kept = [0u8; 20];
     let mut m = 0;
     let mut k = at + 9;
-    let mut sent = true;
     for j in 0..n {
         if right[j] < 65536 {
             continue;
         }
-        if cut(file, k, 6) {
+        if file[k] != 17 {
             return not_same();
         }
-        let x = message_in(file, k);
-        let y = cube.messages[j];
-        if !both(file[k] == 17, same_label(x, y)) {
-            return not_same();
-        }
-        let before = x.snapshot;
-        let after = y.snapshot;
-        sent = both(sent, values_related(exact, before, after));
         kept[m] = j as u8;
         m += 1;
         k += 7;
-    }
-    let pointers = [file[at + 5], file[at + 6], file[at + 7], file[at + 8]];
-    let own = cube.pointers;
-    if !points_same(shape.processes, pointers, own, kept, m) {
-        return not_same();
     }
     let end = 4 * least(shape.processes, 4);
     let variables = least(shape.variables, 4);
@@ -215,8 +202,32 @@ pub fn compare_at(
     if !ends_at(file, k) {
         return not_same();
     }
+    // most entries that do not match are told by their queues
+    if !waits {
+        return Compared {
+            same: true,
+            related: false,
+        };
+    }
+    let pointers = [file[at + 5], file[at + 6], file[at + 7], file[at + 8]];
+    let own = cube.pointers;
+    if !points_same(shape.processes, pointers, own, kept, m) {
+        return not_same();
+    }
+    let mut sent = true;
+    for i in 0..m {
+        let j = small(kept[i]);
+        let x = message_in(file, at + 9 + 7 * i);
+        let y = cube.messages[j];
+        if !same_label(x, y) {
+            return not_same();
+        }
+        let before = x.snapshot;
+        let after = y.snapshot;
+        sent = both(sent, values_related(exact, before, after));
+    }
     Compared {
         same: true,
-        related: both(waits, sent),
+        related: sent,
     }
 }

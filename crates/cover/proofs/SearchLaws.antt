@@ -31,7 +31,7 @@ use Rattle.summary.proofs.OnwardLaws.{all-walked}
 use Rattle.cover.specs.declared.place.Place.{Place}
 use Rattle.cover.specs.declared.place.Place.the-variants.{Whole, Waiting, Sent}
 use Rattle.cover.specs.Places.{partOf, isWhole, isFree, proper, fillings, NoneFree}
-use Rattle.cover.specs.Search.{Covered, by-entry, by-parts, Plain, Searchable, Tried, Uncovered, Unmet, Stuck, Looked}
+use Rattle.cover.specs.Search.{Covered, by-entry, by-parts, Plain, Searchable, Tried, Uncovered, Unmet, Stuck}
 use Rattle.by_bytes.specs.Against.{Sized, Against}
 use Rattle.cover.proofs.PlaceLaws.{true-not-false}
 use Rattle.cover.proofs.EntryLaws.{load-few}
@@ -176,11 +176,11 @@ module _ (f list sum : List ℕ) (n : ℕ) (s : Shape) (c : Cube) (tags : List �
     against : Sized s c → Against s c tags
     against Z = record { sized = Z; is = t }
 
-    pub looked-covered : (Against s c tags → Covered f list n s c) → Looked f list sum n s c true Whole
-    looked-covered g = record { found = λ e Z. g (against Z); proper = refl; stuck = λ e. absurd (true-not-false e) }
+    pub cube-covered : (Against s c tags → Covered f list n s c) → Sized s c → Covered f list n s c
+    cube-covered g Z = g (against Z)
 
     -- none covers it, and it can't be split
-    cube-out : number ≡ numberOf s c → Uncovered f list sum n s c tags number → Stuck f list sum n s c tags number → Searchable f list sum n s c
+    pub cube-out : number ≡ numberOf s c → Uncovered f list sum n s c tags number → Stuck f list sum n s c tags number → Searchable f list sum n s c
         → held (shapeOf s) (entriesOf f list n) (configurationOf c) ≡ false
     cube-out m g q Z =
         let A = against (sized Z) in
@@ -191,10 +191,6 @@ module _ (f list sum : List ℕ) (n : ℕ) (s : Shape) (c : Cube) (tags : List �
         (⊎-elim
         (λ u. inl (all-unmatched Z false (at (λ k. matches (shapeOf s) alike (configurationOf (cubeAt f list k)) (configurationOf c)) (u A))))
         (λ u. inr u) q)
-
-    pub looked-open : {a : Place} → (tags ≡ tagsOf s c → number ≡ numberOf s c) → Uncovered f list sum n s c tags number → proper s c a ≡ true
-        → (isWhole a ≡ true → Stuck f list sum n s c tags number) → Looked f list sum n s c false a
-    looked-open m g p q = record { found = λ e. absurd (true-not-false (sym e)); proper = p; stuck = λ e w Z. cube-out (m t) g (q w) Z }
 
 -- ---- the parts in turn
 

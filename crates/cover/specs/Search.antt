@@ -72,9 +72,3 @@ Unmet = Unrelated alike
 -- and so it can't be held, or it has no free value
 abbrev pub Stuck : List ℕ → List ℕ → List ℕ → ℕ → Shape → Cube → List ℕ → ℕ → Type 0
 Stuck f list sum n s c tags number = Unmet f list sum n s c tags number ⊎ NoneFree s c
-
--- an entry covers the cube; or it is split at this place, and is not held if that is the whole
-pub record Looked (f list sum : List ℕ) (n : ℕ) (s : Shape) (c : Cube) (covered : Bool) (place : Place) : Type 0 where
-  pub found : covered ≡ true → Sized s c → Covered f list n s c
-  pub proper : proper s c place ≡ true
-  pub stuck : covered ≡ false → isWhole place ≡ true → Searchable f list sum n s c → held (shapeOf s) (entriesOf f list n) (configurationOf c) ≡ false

@@ -8,8 +8,8 @@ ghost use Rattle.program_part.specs.ProgramPart.{shapeOf};
 ghost use Rattle.whole_file.specs.Cube.{configurationOf};
 ghost use Rattle.by_number.specs.Again.{entriesOf};
 ghost use Rattle.cover.specs.Places.{proper};
-ghost use Rattle.cover.specs.Search.{Covered, Searchable, Uncovered, Looked};
-ghost use Rattle.by_bytes.specs.Against.{Sized, Against};
+ghost use Rattle.cover.specs.Search.{Covered, Searchable};
+ghost use Rattle.by_bytes.specs.Against.{Sized};
 use crate::entry::matches_at;
 use crate::place::Place;
 use crate::place::fillings;
@@ -30,68 +30,6 @@ fn rooms(cube: Cube) -> usize
     let queues = cube.queues;
     let messages = cube.messages;
     36
-}
-
-// Some entry that is walked over covers the cube, whose tags and number these are.
-fn one_covers(
-    file: &[u8],
-    list: &[u8],
-    sum: &[u8],
-    n: usize,
-    shape: Shape,
-    cube: Cube,
-    right: &[u64; 20],
-    number: u64,
-) -> bool
-    ensures { λ r. ⌜ (r ≡ true → Against shape cube (now (right .entry)) → Covered (now (file .entry)) (now (list .entry)) n shape cube) ⌝ }
-    ensures { λ r. ⌜ (r ≡ false → Uncovered (now (file .entry)) (now (list .entry)) (now (sum .entry)) n shape cube (now (right .entry)) number) ⌝ }
-{
-    let states = cube.states;
-    let mut walk = walk_from(file, list, sum, n, shape, states, number);
-    while walk.entry != 0 {
-        let i = walk.entry - 1;
-        if matches_at(true, file, list, i, shape, cube, right) {
-            return true;
-        }
-        let next = onward(
-            file,
-            list,
-            sum,
-            n,
-            shape,
-            states,
-            number,
-            walk.below,
-            walk.link,
-            walk.led,
-        );
-        walk = next;
-    }
-    false
-}
-
-// An entry covers the cube; or else where to split it, and the whole if it can't be held.
-struct Look {
-    covered: bool,
-    place: Place,
-}
-
-fn look_for(file: &[u8], list: &[u8], sum: &[u8], n: usize, shape: Shape, cube: Cube) -> Look
-    ensures { λ r. ⌜ Looked (now (file .entry)) (now (list .entry)) (now (sum .entry)) n shape cube (r .covered) (r .place) ⌝ }
-{
-    let right = tags_of(shape, cube);
-    let number = number_of(shape, cube, right);
-    if one_covers(file, list, sum, n, shape, cube, &right, number) {
-        return Look {
-            covered: true,
-            place: Place::Whole,
-        };
-    }
-    let place = place_for(file, list, sum, n, shape, cube, right, number);
-    Look {
-        covered: false,
-        place: place,
-    }
 }
 
 // Every part of the cube at a free place is looked for: an entry that covers it, or else its own parts at a further place.
@@ -135,7 +73,7 @@ fn parts_held(
             );
             walk = next;
         }
-        let further = place_for(file, list, sum, n, shape, part, right, number);
+        let further = place_for(file, list, sum, n, shape, part, &right, number);
         if is_whole(further) {
             return false;
         }
@@ -153,11 +91,30 @@ pub fn search(file: &[u8], list: &[u8], sum: &[u8], n: usize, shape: Shape, cube
     ensures { λ r. ⌜ (Searchable (now (file .entry)) (now (list .entry)) (now (sum .entry)) n shape cube → r ≡ held (shapeOf shape) (entriesOf (now (file .entry)) (now (list .entry)) n) (configurationOf cube)) ⌝ }
 {
     let sizes = rooms(cube);
-    let found = look_for(file, list, sum, n, shape, cube);
-    if found.covered {
-        return true;
+    let right = tags_of(shape, cube);
+    let number = number_of(shape, cube, right);
+    let states = cube.states;
+    let mut walk = walk_from(file, list, sum, n, shape, states, number);
+    while walk.entry != 0 {
+        let i = walk.entry - 1;
+        if matches_at(true, file, list, i, shape, cube, &right) {
+            return true;
+        }
+        let next = onward(
+            file,
+            list,
+            sum,
+            n,
+            shape,
+            states,
+            number,
+            walk.below,
+            walk.link,
+            walk.led,
+        );
+        walk = next;
     }
-    let place = found.place;
+    let place = place_for(file, list, sum, n, shape, cube, &right, number);
     if is_whole(place) {
         return false;
     }

@@ -60,10 +60,18 @@ fn with_gaps(split: Split, shape: Shape, cube: Cube, gaps: Gaps) -> Split
     }
 }
 
-fn gaps_at(file: &[u8], list: &[u8], i: usize, shape: Shape, cube: Cube, right: [u64; 20]) -> Gaps {
+fn gaps_at(
+    file: &[u8],
+    list: &[u8],
+    i: usize,
+    shape: Shape,
+    cube: Cube,
+    right: &[u64; 20],
+) -> Gaps {
     let entry = entry_at(file, list, i);
     let left = tags_of(shape, entry);
-    gaps_between(shape, entry, left, cube, right)
+    let tags = *right;
+    gaps_between(shape, entry, left, cube, tags)
 }
 
 // With one entry more, if it may meet the cube.
@@ -74,11 +82,11 @@ fn with_entry(
     i: usize,
     shape: Shape,
     cube: Cube,
-    right: [u64; 20],
+    right: &[u64; 20],
 ) -> Split
-    ensures { λ r. ⌜ Tried (now (file .entry)) (now (list .entry)) shape cube right (split .place) (split .met) i (r .place) (r .met) ⌝ }
+    ensures { λ r. ⌜ Tried (now (file .entry)) (now (list .entry)) shape cube (now (right .entry)) (split .place) (split .met) i (r .place) (r .met) ⌝ }
 {
-    if !matches_at(false, file, list, i, shape, cube, &right) {
+    if !matches_at(false, file, list, i, shape, cube, right) {
         return split;
     }
     let gaps = gaps_at(file, list, i, shape, cube, right);
@@ -93,11 +101,11 @@ fn best_split(
     n: usize,
     shape: Shape,
     cube: Cube,
-    right: [u64; 20],
+    right: &[u64; 20],
     number: u64,
 ) -> Split
     ensures { λ r. ⌜ proper shape cube (r .place) ≡ true ⌝ }
-    ensures { λ r. ⌜ (r .met ≡ false → Unmet (now (file .entry)) (now (list .entry)) (now (sum .entry)) n shape cube right number) ⌝ }
+    ensures { λ r. ⌜ (r .met ≡ false → Unmet (now (file .entry)) (now (list .entry)) (now (sum .entry)) n shape cube (now (right .entry)) number) ⌝ }
 {
     let states = cube.states;
     let mut split = Split {
@@ -139,11 +147,11 @@ pub(crate) fn place_for(
     n: usize,
     shape: Shape,
     cube: Cube,
-    right: [u64; 20],
+    right: &[u64; 20],
     number: u64,
 ) -> Place
     ensures { λ r. ⌜ proper shape cube r ≡ true ⌝ }
-    ensures { λ r. ⌜ (isWhole r ≡ true → Stuck (now (file .entry)) (now (list .entry)) (now (sum .entry)) n shape cube right number) ⌝ }
+    ensures { λ r. ⌜ (isWhole r ≡ true → Stuck (now (file .entry)) (now (list .entry)) (now (sum .entry)) n shape cube (now (right .entry)) number) ⌝ }
 {
     let split = best_split(file, list, sum, n, shape, cube, right, number);
     let place = split.place;

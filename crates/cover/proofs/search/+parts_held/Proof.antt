@@ -708,7 +708,7 @@ parts-held-returns : (t : ℕ) → parts-held-lts.Need-returns (
     parts-held-μ-loop
     parts-held-Inv-fillings
     parts-held-μ-fillings
-parts-held-returns t c = ((λ Z e. absurd (true-not-false (sym e))), (λ Z e. parting-stuck (c .before .before .before .before .before .before .before .before .before .before .before .before .before .before .before .before .before .before .args .file .now) (c .before .before .before .before .before .before .before .before .before .before .before .before .before .before .before .before .before .before .args .list .now) (c .before .before .before .before .before .before .before .before .before .before .before .before .before .before .before .before .before .before .args .sum .now) (c .before .before .before .before .before .before .before .before .before .before .before .before .before .before .before .before .before .before .args .n) (c .before .before .before .before .before .before .before .before .before .before .before .before .before .before .before .before .before .before .args .shape) (c .before .before .before .before .before .before .before .before .before .before .before .before .before .before .before .before .before .before .args .cube) (c .before .before .before .before .before .before .before .before .before .before .before .before .before .before .before .before .before .before .args .place) (c .before .before .before .before .before .loop .inv .0) (c .before .before .before .before .before .before .before .before .before .before .before .before .before .before .rooms .ensures .0) (c .before .before .before .before .before .before .before .before .before .before .before .before .before .before .rooms .ensures .1) (c .before .before .before .before .before .before .before .before .before .before .before .before .before .before .before .before .before .before .pre .1) Z (c .before .before .before .if1 .left) (c .before .before .place-for .ensures .1 (sym (c .before .is-whole .ensures) ∙ c .if3 .taken))))
+parts-held-returns t c = ((λ Z e. absurd (true-not-false (sym e))), (λ Z e. parting-stuck (c .before .before .before .before .before .before .before .before .before .before .before .before .before .before .before .before .before .before .before .args .file .now) (c .before .before .before .before .before .before .before .before .before .before .before .before .before .before .before .before .before .before .before .args .list .now) (c .before .before .before .before .before .before .before .before .before .before .before .before .before .before .before .before .before .before .before .args .sum .now) (c .before .before .before .before .before .before .before .before .before .before .before .before .before .before .before .before .before .before .before .args .n) (c .before .before .before .before .before .before .before .before .before .before .before .before .before .before .before .before .before .before .before .args .shape) (c .before .before .before .before .before .before .before .before .before .before .before .before .before .before .before .before .before .before .before .args .cube) (c .before .before .before .before .before .before .before .before .before .before .before .before .before .before .before .before .before .before .before .args .place) (c .before .before .before .before .before .before .loop .inv .0) (c .before .before .before .before .before .before .before .before .before .before .before .before .before .before .before .rooms .ensures .0) (c .before .before .before .before .before .before .before .before .before .before .before .before .before .before .before .rooms .ensures .1) (c .before .before .before .before .before .before .before .before .before .before .before .before .before .before .before .before .before .before .before .pre .1) Z (c .before .before .before .before .if1 .left) (c .before .before .place-for .ensures .1 (sym (c .before .is-whole .ensures) ∙ c .if3 .taken))))
 
 -- src/search.rt:142:13
 parts-held-parts-held-requires : (t : ℕ) → parts-held-lts.Need-parts-held-requires (
@@ -741,7 +741,7 @@ parts-held-parts-held-requires : (t : ℕ) → parts-held-lts.Need-parts-held-re
     parts-held-μ-loop
     parts-held-Inv-fillings
     parts-held-μ-fillings
-parts-held-parts-held-requires t c κs = let l = c .before .before .before .before .before .loop .inv .0 .one in (subst (λ (k : Cube). weight k (c .before .before .place-for .result) < t) (sym (c .before .before .before .before .before .loop .inv .0 .is)) (let y = part-less (c .before .before .before .before .before .before .before .before .before .before .before .before .before .before .before .before .before .before .args .shape) (c .before .before .before .before .before .before .before .before .before .before .before .before .before .before .before .before .before .before .args .cube) (c .before .before .before .before .before .before .before .before .before .before .before .before .before .before .rooms .ensures .0) (c .before .before .before .before .before .before .before .before .before .before .before .before .before .before .rooms .ensures .1) (c .before .before .before .before .before .before .before .before .before .before .before .before .before .before .before .before .before .before .args .place) (c .before .before .before .before .before .before .before .before .before .before .before .before .before .before .before .before .before .before .pre .1) (c .before .before .before .before .before .loop .x) (omega (arith, fillings-few (c .before .before .before .before .before .before .before .before .before .before .before .before .before .before .before .before .before .before .args .shape) (c .before .before .before .before .before .before .before .before .before .before .before .before .before .before .before .before .before .before .args .place), l)) (c .before .before .place-for .result) (sym (c .before .is-whole .ensures) ∙ c .if3 .left) in omega (arith, y, c .before .before .before .before .before .before .before .before .before .before .before .before .before .before .before .before .before .before .pre .0)), c .before .before .place-for .ensures .0)
+parts-held-parts-held-requires t c κs = let l = c .before .before .before .before .before .before .loop .inv .0 .one in (subst (λ (k : Cube). weight k (c .before .before .place-for .result) < t) (sym (c .before .before .before .before .before .before .loop .inv .0 .is)) (let y = part-less (c .before .before .before .before .before .before .before .before .before .before .before .before .before .before .before .before .before .before .before .args .shape) (c .before .before .before .before .before .before .before .before .before .before .before .before .before .before .before .before .before .before .before .args .cube) (c .before .before .before .before .before .before .before .before .before .before .before .before .before .before .before .rooms .ensures .0) (c .before .before .before .before .before .before .before .before .before .before .before .before .before .before .before .rooms .ensures .1) (c .before .before .before .before .before .before .before .before .before .before .before .before .before .before .before .before .before .before .before .args .place) (c .before .before .before .before .before .before .before .before .before .before .before .before .before .before .before .before .before .before .before .pre .1) (c .before .before .before .before .before .before .loop .x) (omega (arith, fillings-few (c .before .before .before .before .before .before .before .before .before .before .before .before .before .before .before .before .before .before .before .args .shape) (c .before .before .before .before .before .before .before .before .before .before .before .before .before .before .before .before .before .before .before .args .place), l)) (c .before .before .place-for .result) (sym (c .before .is-whole .ensures) ∙ c .if3 .left) in omega (arith, y, c .before .before .before .before .before .before .before .before .before .before .before .before .before .before .before .before .before .before .before .pre .0)), c .before .before .place-for .ensures .0)
 
 -- src/search.rt:143:13
 parts-held-returns-2 : (t : ℕ) → parts-held-lts.Need-returns-2 (
@@ -774,7 +774,7 @@ parts-held-returns-2 : (t : ℕ) → parts-held-lts.Need-returns-2 (
     parts-held-μ-loop
     parts-held-Inv-fillings
     parts-held-μ-fillings
-parts-held-returns-2 t c = ((λ Z e. absurd (true-not-false (sym e))), (λ Z e. parting-outside (c .before .before .before .before .before .before .before .before .before .before .before .before .before .before .before .before .before .before .before .before .args .file .now) (c .before .before .before .before .before .before .before .before .before .before .before .before .before .before .before .before .before .before .before .before .args .list .now) (c .before .before .before .before .before .before .before .before .before .before .before .before .before .before .before .before .before .before .before .before .args .sum .now) (c .before .before .before .before .before .before .before .before .before .before .before .before .before .before .before .before .before .before .before .before .args .n) (c .before .before .before .before .before .before .before .before .before .before .before .before .before .before .before .before .before .before .before .before .args .shape) (c .before .before .before .before .before .before .before .before .before .before .before .before .before .before .before .before .before .before .before .before .args .cube) (c .before .before .before .before .before .before .before .before .before .before .before .before .before .before .before .before .before .before .before .before .args .place) (c .before .before .before .before .before .before .before .loop .inv .0) (c .before .before .before .before .before .before .before .before .before .before .before .before .before .before .before .before .rooms .ensures .0) (c .before .before .before .before .before .before .before .before .before .before .before .before .before .before .before .before .rooms .ensures .1) (c .before .before .before .before .before .before .before .before .before .before .before .before .before .before .before .before .before .before .before .before .pre .1) Z (c .before .parts-held .ensures .1) (not-true (c .before .parts-held .result) (c .if4 .taken))))
+parts-held-returns-2 t c = ((λ Z e. absurd (true-not-false (sym e))), (λ Z e. parting-outside (c .before .before .before .before .before .before .before .before .before .before .before .before .before .before .before .before .before .before .before .before .before .args .file .now) (c .before .before .before .before .before .before .before .before .before .before .before .before .before .before .before .before .before .before .before .before .before .args .list .now) (c .before .before .before .before .before .before .before .before .before .before .before .before .before .before .before .before .before .before .before .before .before .args .sum .now) (c .before .before .before .before .before .before .before .before .before .before .before .before .before .before .before .before .before .before .before .before .before .args .n) (c .before .before .before .before .before .before .before .before .before .before .before .before .before .before .before .before .before .before .before .before .before .args .shape) (c .before .before .before .before .before .before .before .before .before .before .before .before .before .before .before .before .before .before .before .before .before .args .cube) (c .before .before .before .before .before .before .before .before .before .before .before .before .before .before .before .before .before .before .before .before .before .args .place) (c .before .before .before .before .before .before .before .before .loop .inv .0) (c .before .before .before .before .before .before .before .before .before .before .before .before .before .before .before .before .before .rooms .ensures .0) (c .before .before .before .before .before .before .before .before .before .before .before .before .before .before .before .before .before .rooms .ensures .1) (c .before .before .before .before .before .before .before .before .before .before .before .before .before .before .before .before .before .before .before .before .before .pre .1) Z (c .before .parts-held .ensures .1) (not-true (c .before .parts-held .result) (c .if4 .taken))))
 
 -- src/search.rt:113:20
 parts-held-add-x-2 : (t : ℕ) → parts-held-lts.Need-add-x-2 (
@@ -807,7 +807,7 @@ parts-held-add-x-2 : (t : ℕ) → parts-held-lts.Need-add-x-2 (
     parts-held-μ-loop
     parts-held-Inv-fillings
     parts-held-μ-fillings
-parts-held-add-x-2 t c = omega (arith, fillings-few (c .before .before .before .before .before .before .before .before .before .before .before .before .before .before .before .before .before .before .before .before .args .shape) (c .before .before .before .before .before .before .before .before .before .before .before .before .before .before .before .before .before .before .before .before .args .place), c .before .before .before .before .before .before .before .loop .inv .0 .one)
+parts-held-add-x-2 t c = omega (arith, fillings-few (c .before .before .before .before .before .before .before .before .before .before .before .before .before .before .before .before .before .before .before .before .before .args .shape) (c .before .before .before .before .before .before .before .before .before .before .before .before .before .before .before .before .before .before .before .before .before .args .place), c .before .before .before .before .before .before .before .before .loop .inv .0 .one)
 
 -- src/search.rt:113:5
 parts-held-fillings-less-2 : (t : ℕ) → parts-held-lts.Need-fillings-less-2 (
@@ -840,7 +840,7 @@ parts-held-fillings-less-2 : (t : ℕ) → parts-held-lts.Need-fillings-less-2 (
     parts-held-μ-loop
     parts-held-Inv-fillings
     parts-held-μ-fillings
-parts-held-fillings-less-2 t c = omega (arith, c .before .before .before .before .before .before .before .loop .inv .0 .one, c .before .before .before .before .before .before .before .loop .inv .1, c .before .before .before .before .before .before .before .before .before .before .before .before .before .before .before .fillings2 .ensures)
+parts-held-fillings-less-2 t c = omega (arith, c .before .before .before .before .before .before .before .before .loop .inv .0 .one, c .before .before .before .before .before .before .before .before .loop .inv .1, c .before .before .before .before .before .before .before .before .before .before .before .before .before .before .before .before .fillings2 .ensures)
 
 -- src/search.rt:113:5
 parts-held-fillings-again-2 : (t : ℕ) → parts-held-lts.Need-fillings-again-2 (
@@ -873,7 +873,7 @@ parts-held-fillings-again-2 : (t : ℕ) → parts-held-lts.Need-fillings-again-2
     parts-held-μ-loop
     parts-held-Inv-fillings
     parts-held-μ-fillings
-parts-held-fillings-again-2 t c = parting-held (c .before .before .before .before .before .before .before .before .before .before .before .before .before .before .before .before .before .before .before .before .args .file .now) (c .before .before .before .before .before .before .before .before .before .before .before .before .before .before .before .before .before .before .before .before .args .list .now) (c .before .before .before .before .before .before .before .before .before .before .before .before .before .before .before .before .before .before .before .before .args .sum .now) (c .before .before .before .before .before .before .before .before .before .before .before .before .before .before .before .before .before .before .before .before .args .n) (c .before .before .before .before .before .before .before .before .before .before .before .before .before .before .before .before .before .before .before .before .args .shape) (c .before .before .before .before .before .before .before .before .before .before .before .before .before .before .before .before .before .before .before .before .args .cube) (c .before .before .before .before .before .before .before .before .before .before .before .before .before .before .before .before .before .before .before .before .args .place) (c .before .before .before .before .before .before .before .loop .inv .0) (c .before .parts-held .ensures .0) (not-false (c .before .parts-held .result) (c .if4 .left))
+parts-held-fillings-again-2 t c = parting-held (c .before .before .before .before .before .before .before .before .before .before .before .before .before .before .before .before .before .before .before .before .before .args .file .now) (c .before .before .before .before .before .before .before .before .before .before .before .before .before .before .before .before .before .before .before .before .before .args .list .now) (c .before .before .before .before .before .before .before .before .before .before .before .before .before .before .before .before .before .before .before .before .before .args .sum .now) (c .before .before .before .before .before .before .before .before .before .before .before .before .before .before .before .before .before .before .before .before .before .args .n) (c .before .before .before .before .before .before .before .before .before .before .before .before .before .before .before .before .before .before .before .before .before .args .shape) (c .before .before .before .before .before .before .before .before .before .before .before .before .before .before .before .before .before .before .before .before .before .args .cube) (c .before .before .before .before .before .before .before .before .before .before .before .before .before .before .before .before .before .before .before .before .before .args .place) (c .before .before .before .before .before .before .before .before .loop .inv .0) (c .before .parts-held .ensures .0) (not-false (c .before .parts-held .result) (c .if4 .left))
 
 -- src/search.rt:98:1
 parts-held-returns-3 : (t : ℕ) → parts-held-lts.Need-returns-3 (
