@@ -1,2 +1,3 @@
 pub mod TracedLaws
 pub mod SameLaws
+pub mod CountLaws

@@ -17,6 +17,10 @@ pub record SameLabel (a b : Message) : Type 0 where
   pub low : b .process < 256
   pub high : b .variable < 256
 
+-- the 11 at k has another label than m
+abbrev pub OtherLabel : List ℕ → ℕ → Message → Type 0
+OtherLabel f k m = byte f (k + 1) ≡ m .process → byte f (k + 2) ≡ m .variable → ⊥
+
 -- pointers at messages that stand for those that other pointers are at
 abbrev pub PointsSame : ℕ → List ℕ → List ℕ → List ℕ → ℕ → Type 0
 PointsSame processes zs own kept m = (p : ℕ) → p < min processes 4 → (1 ≤ getD zs p 0) × (getD zs p 0 ≤ m) × (getD own p 0 ≡ suc (getD kept (getD zs p 0 - 1) 0))

@@ -26,6 +26,10 @@ use pws::Message;
 use whole_file::entry::Cube;
 use whole_file::entry::Queue;
 
+mod counting;
+
+pub use counting::outnumbers;
+
 // The entry is such a one, and then its values are related to the cube's.
 pub struct Compared {
     pub same: bool,
