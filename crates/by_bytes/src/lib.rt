@@ -179,9 +179,10 @@ pub fn compare_at(
     }
     let end = 4 * least(shape.processes, 4);
     let variables = least(shape.variables, 4);
+    let queues = cube.queues;
     let mut waits = true;
     for q in 0..end {
-        let queue = cube.queues[q];
+        let queue = queues[q];
         let w = waiting(queue);
         if w == 0 {
             continue;
@@ -218,11 +219,12 @@ pub fn compare_at(
     if !points_same(shape.processes, pointers, own, kept, m) {
         return not_same();
     }
+    let messages = cube.messages;
     let mut sent = true;
     for i in 0..m {
         let j = small(kept[i]);
         let x = message_in(file, at + 9 + 7 * i);
-        let y = cube.messages[j];
+        let y = messages[j];
         if !same_label(x, y) {
             return not_same();
         }

@@ -58,6 +58,31 @@ head-states : (f : List ℕ) (at : ℕ) {zs : List ℕ} → zs ≡ statesIn f at
 unfolding loadEntry
 head-states f at e = e
 
+module _ (exact : Bool) (s : Shape) (f : List ℕ) (at : ℕ) (c : Cube) where
+  abbrev rest : Cube → Bool
+  rest entry = allBelow (min (s .processes) 4) (queueRow (s .variables) exact (entry .queues) (c .queues)) && channelMatches s exact entry c
+
+  -- an entry that was built
+  pub queues-differ : {entry : Cube} {x : Bool} → entry ≡ loadEntry f at → x ≡ allBelow (min (s .processes) 4) (queueRow (s .variables) exact (entry .queues) (c .queues)) → x ≡ false
+      → false ≡ rest (loadEntry f at)
+  queues-differ {entry} z g h = sym (ap (λ (y : Bool). y && channelMatches s exact entry c) (sym g ∙ h)) ∙ ap rest z
+
+  pub channel-decides : {entry : Cube} {left right : List ℕ} {x r : Bool} → Against s c right → entry ≡ loadEntry f at
+      → x ≡ allBelow (min (s .processes) 4) (queueRow (s .variables) exact (entry .queues) (c .queues)) → x ≡ true → left ≡ tagsOf s entry
+      → (Suits s entry left c right → r ≡ channelMatches s exact entry c) → r ≡ rest (loadEntry f at)
+  channel-decides {entry} A z g h t v =
+      v (record {
+        sizes = record {
+          processes = A .sized .processes;
+          variables = A .sized .variables;
+          left = subst (λ (k : Cube). k .count ≤ 20) (sym z) (load-few f at);
+          right = A .sized .messages;
+        };
+        leftTags = t;
+        rightTags = A .is;
+      })
+      ∙ sym (ap (λ (y : Bool). y && channelMatches s exact entry c) (sym g ∙ h)) ∙ ap rest z
+
 module _ (exact : Bool) (s : Shape) (f list : List ℕ) (i at : ℕ) (c : Cube) (right : List ℕ) (A : Against s c right) (e : at ≡ offsetAt list i) where
   sizes : (a : Cube) → a .count ≤ 20 → Sizes s a c
   sizes a l = record { processes = A .sized .processes; variables = A .sized .variables; left = l; right = A .sized .messages }
@@ -71,31 +96,12 @@ module _ (exact : Bool) (s : Shape) (f list : List ℕ) (i at : ℕ) (c : Cube) 
       ∙ ap (λ (xs : List ℕ). allBelow (min (s .processes) 4) (λ p. eqb (getD xs p 0) (getD (c .states) p 0)))
       (head-states f at z ∙ ap (λ (k : ℕ). loadEntry f k .states) e)) h
 
-  pub queues-differ : {entry : Cube} {x : Bool} → entry ≡ loadEntry f at
-      → x ≡ allBelow (min (s .processes) 4) (queueRow (s .variables) exact (entry .queues) (c .queues)) → x ≡ false
-      → false ≡ matches (shapeOf s) (relation exact) (configurationOf (cubeAt f list i)) (configurationOf c)
-  queues-differ {entry} x g h =
-      queues-unlike exact s (cubeAt f list i) c (sizes (cubeAt f list i) (load-few f (offsetAt list i)))
-      (g ∙ ap (λ (k : Cube). allBelow (min (s .processes) 4) (queueRow (s .variables) exact (k .queues) (c .queues))) (x ∙ ap (loadEntry f) e)) h
-
-  pub channel-decides : {entry : Cube} {left : List ℕ} {x y r : Bool} {zs : List ℕ} → zs ≡ statesIn f at
-      → x ≡ allBelow (min (s .processes) 4) (λ p. eqb (getD zs p 0) (getD (c .states) p 0)) → x ≡ true → entry ≡ loadEntry f at
-      → y ≡ allBelow (min (s .processes) 4) (queueRow (s .variables) exact (entry .queues) (c .queues)) → y ≡ true → left ≡ tagsOf s entry
-      → (Suits s entry left c right → r ≡ channelMatches s exact entry c)
-      → r ≡ matches (shapeOf s) (relation exact) (configurationOf (cubeAt f list i)) (configurationOf c)
-  channel-decides {entry} {left} w g h z m n t v =
-      let l : entry .count ≤ 20 = subst (λ (k : Cube). k .count ≤ 20) (sym z) (load-few f at) in
-      channel-left exact s entry c (sizes entry l)
-      (g ∙ ap (λ (xs : List ℕ). allBelow (min (s .processes) 4) (λ p. eqb (getD xs p 0) (getD (c .states) p 0))) (head-states f at w ∙ ap (λ (k : Cube). k .states) (sym z)))
-      m h n (v (record { sizes = sizes entry l; leftTags = t; rightTags = A .is }))
-      ∙ ap (λ (k : Cube). matches (shapeOf s) (relation exact) (configurationOf k) (configurationOf c)) (z ∙ ap (loadEntry f) e)
-
-  -- an entry that is told by its bytes
-  pub bytes-decide : {x r : Bool} {zs : List ℕ} → zs ≡ statesIn f at
+  -- from its queues and messages on
+  pub rest-decides : {x r : Bool} {zs : List ℕ} → zs ≡ statesIn f at
       → x ≡ allBelow (min (s .processes) 4) (λ p. eqb (getD zs p 0) (getD (c .states) p 0)) → x ≡ true
       → r ≡ allBelow (min (s .processes) 4) (queueRow (s .variables) exact (loadEntry f at .queues) (c .queues)) && channelMatches s exact (loadEntry f at) c
       → r ≡ matches (shapeOf s) (relation exact) (configurationOf (cubeAt f list i)) (configurationOf c)
-  bytes-decide {x} {r} w g h z =
+  rest-decides {x} {r} w g h z =
       z
       ∙ decided (allBelow (min (s .processes) 4) (queueRow (s .variables) exact (loadEntry f at .queues) (c .queues))) refl
       ∙ ap (λ (k : ℕ). matches (shapeOf s) (relation exact) (configurationOf (loadEntry f k)) (configurationOf c)) e

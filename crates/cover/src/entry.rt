@@ -1,13 +1,16 @@
 // An entry in the file against a cube.
 ghost use mathlib.Core.Path.{_≡_};
 ghost use mathlib.Core.List.{[], _∷_};
-ghost use Prim.Native.Nat.{_+_};
+ghost use mathlib.Core.Bool.{_&&_};
+ghost use Prim.Native.Nat.{_+_, min};
 ghost use Rattle.program_part.specs.Bytes.{byte};
 ghost use Rattle.lists.specs.Matching.{matches};
 ghost use Rattle.program_part.specs.ProgramPart.{shapeOf};
-ghost use Rattle.whole_file.specs.Cube.{configurationOf};
+ghost use Rattle.whole_file.specs.Cube.{loadEntry, configurationOf};
 ghost use Rattle.by_number.specs.Again.{cubeAt};
 ghost use Rattle.matching.specs.Relation.{relation};
+ghost use Rattle.matching.specs.Match.{queueRow, channelMatches};
+ghost use Rattle.pws.specs.Machine.{allBelow};
 ghost use Rattle.by_bytes.specs.Against.{Against};
 use by_bytes::compare_at;
 use by_number::offset_at;
@@ -37,6 +40,28 @@ fn states_at(file: &[u8], at: usize) -> [u8; 4]
     ]
 }
 
+// The entry whose 10 stands at a place, built, against a cube with its tags, but for its local states.
+fn built_matches(
+    exact: bool,
+    file: &[u8],
+    at: usize,
+    shape: Shape,
+    cube: Cube,
+    right: &[u64; 20],
+) -> bool
+    ensures { λ r. ⌜ (Against shape cube (now (right .entry)) → r ≡ (allBelow (min (shape .processes) 4) (queueRow (shape .variables) exact (loadEntry (now (file .entry)) at .queues) (cube .queues)) && channelMatches shape exact (loadEntry (now (file .entry)) at) cube)) ⌝ }
+{
+    let entry = load_entry(file, at);
+    let before = entry.queues;
+    let after = cube.queues;
+    if !queues_match(exact, shape, before, after) {
+        return false;
+    }
+    let left = tags_of(shape, entry);
+    let tags = *right;
+    channel_matches(exact, shape, entry, left, cube, tags)
+}
+
 // Entry i against a cube with its tags: exactly, it covers the cube; else it may meet it.
 pub(crate) fn matches_at(
     exact: bool,
@@ -61,13 +86,5 @@ pub(crate) fn matches_at(
     if compared.same {
         return compared.related;
     }
-    let entry = load_entry(file, at);
-    let before = entry.queues;
-    let after = cube.queues;
-    if !queues_match(exact, shape, before, after) {
-        return false;
-    }
-    let left = tags_of(shape, entry);
-    let tags = *right;
-    channel_matches(exact, shape, entry, left, cube, tags)
+    built_matches(exact, file, at, shape, cube, right)
 }

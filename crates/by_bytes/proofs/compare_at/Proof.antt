@@ -30,22 +30,22 @@ use Rattle.program_part.proofs.bytes.both.Reads as both-reads
 use Rattle.program_part.proofs.bytes.cut.Reads as cut-reads
 
 abbrev Inv-loop : tie.InvT-loop
-Inv-loop exact file at shape right cube n kept₀ m₀ k₀ j₀ kept m k j = Skipped file at right n kept m k j
+Inv-loop exact file at shape cube right n kept₀ m₀ k₀ j₀ kept m k j = Skipped file at right n kept m k j
 
 abbrev μ-loop : tie.MeasureT-loop
-μ-loop exact file at shape right cube n kept₀ m₀ k₀ j₀ kept m k j = n - j
+μ-loop exact file at shape cube right n kept₀ m₀ k₀ j₀ kept m k j = n - j
 
 abbrev Inv-loop2 : tie.InvT-loop2
-Inv-loop2 exact file at shape right cube n kept m k₀ end variables waits₀ q₀ k waits q = Waits exact file at (sentLoaded file (at + 9) m) variables (cube .queues) k waits q × (q ≤ end)
+Inv-loop2 exact file at shape cube right n kept m k₀ end variables queues waits₀ q₀ k waits q = Waits exact file at (sentLoaded file (at + 9) m) variables queues k waits q × (q ≤ end)
 
 abbrev μ-loop2 : tie.MeasureT-loop2
-μ-loop2 exact file at shape right cube n kept m k₀ end variables waits₀ q₀ k waits q = end - q
+μ-loop2 exact file at shape cube right n kept m k₀ end variables queues waits₀ q₀ k waits q = end - q
 
 abbrev Inv-loop3 : tie.InvT-loop3
-Inv-loop3 exact file at right cube n kept m k end variables waits sent₀ i₀ sent i = Sent exact file at (cube .messages) kept m sent i
+Inv-loop3 exact file at right n kept m k end variables waits messages sent₀ i₀ sent i = Sent exact file at messages kept m sent i
 
 abbrev μ-loop3 : tie.MeasureT-loop3
-μ-loop3 exact file at right cube n kept m k end variables waits sent₀ i₀ sent i = m - i
+μ-loop3 exact file at right n kept m k end variables waits messages sent₀ i₀ sent i = m - i
 
 -- src/lib.rt:158:9
 least-requires : tie.Need-least-requires Inv-loop μ-loop Inv-loop2 μ-loop2 Inv-loop3 μ-loop3
@@ -154,273 +154,272 @@ mul-end c = search needs
 least-requires-3 : tie.Need-least-requires-3 Inv-loop μ-loop Inv-loop2 μ-loop2 Inv-loop3 μ-loop3
 least-requires-3 c κs = search needs
 
--- src/lib.rt:179:5
+-- src/lib.rt:180:5
 loop2-holds : tie.Need-loop2-holds Inv-loop μ-loop Inv-loop2 μ-loop2 Inv-loop3 μ-loop3
-loop2-holds c = (waits-begin _ _ _ _ _ _ (omega (arith, (not-cut (c .before .before .before .before .before .before .before .before .args .file .now) (c .before .before .before .before .before .before .before .before .args .at) (8 + 7 * c .before .before .before .before .before .before .least .result) (c .before .before .before .before .before .cut .ensures) (c .before .before .before .before .if1 .left)))) (omega (arith, c .before .before .before .loop .inv .places .few, c .before .before .before .loop .inv .most, c .before .before .before .before .before .before .least .ensures)) (c .before .before .before .loop .inv .kinds) (c .before .before .before .loop .inv .here), omega arith)
+loop2-holds c = (waits-begin _ _ _ _ _ _ (omega (arith, (not-cut (c .before .before .before .before .before .before .before .before .before .args .file .now) (c .before .before .before .before .before .before .before .before .before .args .at) (8 + 7 * c .before .before .before .before .before .before .before .least .result) (c .before .before .before .before .before .before .cut .ensures) (c .before .before .before .before .before .if1 .left)))) (omega (arith, c .before .before .before .before .loop .inv .places .few, c .before .before .before .before .loop .inv .most, c .before .before .before .before .before .before .before .least .ensures)) (c .before .before .before .before .loop .inv .kinds) (c .before .before .before .before .loop .inv .here), omega arith)
 
--- src/lib.rt:180:21
+-- src/lib.rt:181:21
 mul-queue : tie.Need-mul-queue Inv-loop μ-loop Inv-loop2 μ-loop2 Inv-loop3 μ-loop3
 mul-queue c = search needs
 
--- src/lib.rt:180:21
-element-copy-out-queue :
-    tie.Need-element-copy-out-queue Inv-loop μ-loop Inv-loop2 μ-loop2 Inv-loop3 μ-loop3
-element-copy-out-queue c = search needs
+-- src/lib.rt:181:21
+array-copy-out-queue :
+    tie.Need-array-copy-out-queue Inv-loop μ-loop Inv-loop2 μ-loop2 Inv-loop3 μ-loop3
+array-copy-out-queue c = search needs
 
--- src/lib.rt:181:13
+-- src/lib.rt:182:13
 waiting-requires : tie.Need-waiting-requires Inv-loop μ-loop Inv-loop2 μ-loop2 Inv-loop3 μ-loop3
 waiting-requires c κs = search needs
 
--- src/lib.rt:183:13
+-- src/lib.rt:184:13
 add-q : tie.Need-add-q Inv-loop μ-loop Inv-loop2 μ-loop2 Inv-loop3 μ-loop3
 add-q c = search needs
 
--- src/lib.rt:179:5
+-- src/lib.rt:180:5
 loop2-less : tie.Need-loop2-less Inv-loop μ-loop Inv-loop2 μ-loop2 Inv-loop3 μ-loop3
 loop2-less c = search needs
 
--- src/lib.rt:179:5
+-- src/lib.rt:180:5
 loop2-again : tie.Need-loop2-again Inv-loop μ-loop Inv-loop2 μ-loop2 Inv-loop3 μ-loop3
-loop2-again c = (waits-none (c .before .before .before .before .loop2 .inv .0) (omega (arith, c .before .before .before .loop2-test .taken, c .before .before .before .before .before .before .least2 .ensures)) (sym (c .before .waiting .ensures) ∙ c .if4 .taken), omega (arith, c .before .before .before .loop2-test .taken))
+loop2-again c = (waits-none (c .before .before .before .before .loop2 .inv .0) (omega (arith, c .before .before .before .loop2-test .taken, c .before .before .before .before .before .before .before .least2 .ensures)) (sym (c .before .waiting .ensures) ∙ c .if4 .taken), omega (arith, c .before .before .before .loop2-test .taken))
 
--- src/lib.rt:186:13
+-- src/lib.rt:187:13
 not-same-requires-3 :
     tie.Need-not-same-requires-3 Inv-loop μ-loop Inv-loop2 μ-loop2 Inv-loop3 μ-loop3
 not-same-requires-3 c κs = search needs
 
--- src/lib.rt:186:13
+-- src/lib.rt:187:13
 returns-3 : tie.Need-returns-3 Inv-loop μ-loop Inv-loop2 μ-loop2 Inv-loop3 μ-loop3
 returns-3 c = λ t A. absurd (never (c .not-same3 .result .same) (c .not-same3 .ensures) t)
 
--- src/lib.rt:188:13
-waits-at-requires : tie.Need-waits-at-requires Inv-loop μ-loop Inv-loop2 μ-loop2 Inv-loop3 μ-loop3
-waits-at-requires c κs = (omega (arith, c .before .before .before .before .loop2-test .taken, c .before .before .before .before .before .before .before .least2 .ensures))
-
 -- src/lib.rt:189:13
+waits-at-requires : tie.Need-waits-at-requires Inv-loop μ-loop Inv-loop2 μ-loop2 Inv-loop3 μ-loop3
+waits-at-requires c κs = (omega (arith, c .before .before .before .before .loop2-test .taken, c .before .before .before .before .before .before .before .before .least2 .ensures))
+
+-- src/lib.rt:190:13
 not-same-requires-4 :
     tie.Need-not-same-requires-4 Inv-loop μ-loop Inv-loop2 μ-loop2 Inv-loop3 μ-loop3
 not-same-requires-4 c κs = search needs
 
--- src/lib.rt:189:13
+-- src/lib.rt:190:13
 returns-4 : tie.Need-returns-4 Inv-loop μ-loop Inv-loop2 μ-loop2 Inv-loop3 μ-loop3
 returns-4 c = λ t A. absurd (never (c .not-same4 .result .same) (c .not-same4 .ensures) t)
 
--- src/lib.rt:191:27
+-- src/lib.rt:192:27
 add-waits-at : tie.Need-add-waits-at Inv-loop μ-loop Inv-loop2 μ-loop2 Inv-loop3 μ-loop3
 add-waits-at c = omega (arith, (c .before .waits-at .ensures (not-false (c .before .waits-at .result) (c .if6 .left))) .inside)
 
--- src/lib.rt:191:12
+-- src/lib.rt:192:12
 waits-at-requires-2 :
     tie.Need-waits-at-requires-2 Inv-loop μ-loop Inv-loop2 μ-loop2 Inv-loop3 μ-loop3
-waits-at-requires-2 c κs = (omega (arith, c .before .before .before .before .before .before .loop2-test .taken, c .before .before .before .before .before .before .before .before .before .least2 .ensures))
+waits-at-requires-2 c κs = (omega (arith, c .before .before .before .before .before .before .loop2-test .taken, c .before .before .before .before .before .before .before .before .before .before .least2 .ensures))
 
--- src/lib.rt:192:17
+-- src/lib.rt:193:17
 held-from-requires :
     tie.Need-held-from-requires Inv-loop μ-loop Inv-loop2 μ-loop2 Inv-loop3 μ-loop3
-held-from-requires c κs = (omega (arith, c .before .before .before .before .before .before .before .before .loop2-test .taken, c .before .before .before .before .before .before .before .before .before .before .before .least2 .ensures))
+held-from-requires c κs = (omega (arith, c .before .before .before .before .before .before .before .before .loop2-test .taken, c .before .before .before .before .before .before .before .before .before .before .before .before .least2 .ensures))
 
--- src/lib.rt:194:33
+-- src/lib.rt:195:33
 queue-matches-requires :
     tie.Need-queue-matches-requires Inv-loop μ-loop Inv-loop2 μ-loop2 Inv-loop3 μ-loop3
 queue-matches-requires c κs = search needs
 
--- src/lib.rt:194:13
+-- src/lib.rt:195:13
 both-requires : tie.Need-both-requires Inv-loop μ-loop Inv-loop2 μ-loop2 Inv-loop3 μ-loop3
 both-requires c κs = search needs
 
--- src/lib.rt:196:13
+-- src/lib.rt:197:13
 add-q-2 : tie.Need-add-q-2 Inv-loop μ-loop Inv-loop2 μ-loop2 Inv-loop3 μ-loop3
 add-q-2 c = search needs
 
--- src/lib.rt:179:5
+-- src/lib.rt:180:5
 loop2-less-2 : tie.Need-loop2-less-2 Inv-loop μ-loop Inv-loop2 μ-loop2 Inv-loop3 μ-loop3
 loop2-less-2 c = search needs
 
--- src/lib.rt:179:5
+-- src/lib.rt:180:5
 loop2-again-2 : tie.Need-loop2-again-2 Inv-loop μ-loop Inv-loop2 μ-loop2 Inv-loop3 μ-loop3
-loop2-again-2 c = (waits-several (c .before .before .before .before .before .before .before .before .before .before .before .before .before .loop2 .inv .0) (omega (arith, c .before .before .before .before .before .before .before .before .before .before .before .before .loop2-test .taken, c .before .before .before .before .before .before .before .before .before .before .before .before .before .before .before .least2 .ensures)) (omega (arith, c .before .before .before .before .before .before .before .before .if5 .left)) (c .before .before .before .held-from .ensures) (c .before .queue-matches .ensures) (c .both .ensures), omega (arith, c .before .before .before .before .before .before .before .before .before .before .before .before .loop2-test .taken))
+loop2-again-2 c = (waits-several (c .before .before .before .before .before .before .before .before .before .before .before .before .before .loop2 .inv .0) (omega (arith, c .before .before .before .before .before .before .before .before .before .before .before .before .loop2-test .taken, c .before .before .before .before .before .before .before .before .before .before .before .before .before .before .before .before .least2 .ensures)) (omega (arith, c .before .before .before .before .before .before .before .before .if5 .left)) (c .before .before .before .held-from .ensures) (c .before .queue-matches .ensures) (c .both .ensures), omega (arith, c .before .before .before .before .before .before .before .before .before .before .before .before .loop2-test .taken))
 
--- src/lib.rt:199:49
+-- src/lib.rt:200:49
 add-related : tie.Need-add-related Inv-loop μ-loop Inv-loop2 μ-loop2 Inv-loop3 μ-loop3
 add-related c = omega (arith, (c .before .before .before .waits-at .ensures (not-false (c .before .before .before .waits-at .result) (c .before .before .if6 .left))) .inside)
 
--- src/lib.rt:199:44
+-- src/lib.rt:200:44
 shared-slice-read-related :
     tie.Need-shared-slice-read-related Inv-loop μ-loop Inv-loop2 μ-loop2 Inv-loop3 μ-loop3
 shared-slice-read-related c = omega (arith, (c .before .before .before .before .waits-at .ensures (not-false (c .before .before .before .before .waits-at .result) (c .before .before .before .if6 .left))) .inside)
 
--- src/lib.rt:199:57
+-- src/lib.rt:200:57
 last-waiting-requires :
     tie.Need-last-waiting-requires Inv-loop μ-loop Inv-loop2 μ-loop2 Inv-loop3 μ-loop3
 last-waiting-requires c κs = search needs
 
--- src/lib.rt:199:29
+-- src/lib.rt:200:29
 related-requires : tie.Need-related-requires Inv-loop μ-loop Inv-loop2 μ-loop2 Inv-loop3 μ-loop3
 related-requires c κs = search needs
 
--- src/lib.rt:199:9
+-- src/lib.rt:200:9
 both-requires-2 : tie.Need-both-requires-2 Inv-loop μ-loop Inv-loop2 μ-loop2 Inv-loop3 μ-loop3
 both-requires-2 c κs = search needs
 
--- src/lib.rt:200:9
+-- src/lib.rt:201:9
 add-k-3 : tie.Need-add-k-3 Inv-loop μ-loop Inv-loop2 μ-loop2 Inv-loop3 μ-loop3
-add-k-3 c = omega (arith, c .before .before .before .before .before .before .before .before .before .before .before .before .before .before .before .before .before .before .before .before .before .before .good .1 .0, (c .before .before .before .before .before .before .before .waits-at .ensures (not-false (c .before .before .before .before .before .before .before .waits-at .result) (c .before .before .before .before .before .before .if6 .left))) .inside)
+add-k-3 c = omega (arith, c .before .before .before .before .before .before .before .before .before .before .before .before .before .before .before .before .before .before .before .before .before .before .before .good .1 .0, (c .before .before .before .before .before .before .before .waits-at .ensures (not-false (c .before .before .before .before .before .before .before .waits-at .result) (c .before .before .before .before .before .before .if6 .left))) .inside)
 
--- src/lib.rt:179:9
+-- src/lib.rt:180:9
 add-q-3 : tie.Need-add-q-3 Inv-loop μ-loop Inv-loop2 μ-loop2 Inv-loop3 μ-loop3
 add-q-3 c = search needs
 
--- src/lib.rt:179:5
+-- src/lib.rt:180:5
 loop2-less-3 : tie.Need-loop2-less-3 Inv-loop μ-loop Inv-loop2 μ-loop2 Inv-loop3 μ-loop3
 loop2-less-3 c = search needs
 
--- src/lib.rt:179:5
+-- src/lib.rt:180:5
 loop2-again-3 : tie.Need-loop2-again-3 Inv-loop μ-loop Inv-loop2 μ-loop2 Inv-loop3 μ-loop3
-loop2-again-3 c = (waits-one (c .before .before .before .before .before .before .before .before .before .before .before .before .before .loop2 .inv .0) (omega (arith, c .before .before .before .before .before .before .before .before .before .before .before .before .loop2-test .taken, c .before .before .before .before .before .before .before .before .before .before .before .before .before .before .before .least2 .ensures)) {n = length (waitingOf (getD (c .before .before .before .before .before .before .before .before .before .before .before .before .before .before .before .before .before .before .before .before .before .before .args .t5 .queues) (c .before .before .before .before .before .before .before .before .before .before .before .before .before .loop2 .q) noQueue)) - 1} (omega (arith, c .before .before .before .before .before .before .before .before .before .before .waiting .ensures, c .before .before .before .before .before .before .before .before .before .if4 .left)) (omega (arith, c .before .before .before .before .before .before .before .before .if5 .left)) (c .before .before .before .before .before .before .before .waits-at .ensures (not-false (c .before .before .before .before .before .before .before .waits-at .result) (c .before .before .before .before .before .before .if6 .left))) refl (c .before .related .ensures ∙ ap (relation (c .before .before .before .before .before .before .before .before .before .before .before .before .before .before .before .before .before .before .before .before .before .before .args .exact) (byte (c .before .before .before .before .before .before .before .before .before .before .before .before .before .before .before .before .before .before .before .before .before .before .args .file .now) (c .before .before .before .before .before .before .before .before .before .before .before .before .before .loop2 .k + 3))) (c .before .before .last-waiting .ensures)) (c .both2 .ensures), omega (arith, c .before .before .before .before .before .before .before .before .before .before .before .before .loop2-test .taken))
+loop2-again-3 c = (waits-one (c .before .before .before .before .before .before .before .before .before .before .before .before .before .loop2 .inv .0) (omega (arith, c .before .before .before .before .before .before .before .before .before .before .before .before .loop2-test .taken, c .before .before .before .before .before .before .before .before .before .before .before .before .before .before .before .before .least2 .ensures)) {n = length (waitingOf (getD (c .before .before .before .before .before .before .before .before .before .before .before .before .before .before .before .before .before .before .before .before .before .before .before .args .cube .queues) (c .before .before .before .before .before .before .before .before .before .before .before .before .before .loop2 .q) noQueue)) - 1} (omega (arith, c .before .before .before .before .before .before .before .before .before .before .waiting .ensures, c .before .before .before .before .before .before .before .before .before .if4 .left)) (omega (arith, c .before .before .before .before .before .before .before .before .if5 .left)) (c .before .before .before .before .before .before .before .waits-at .ensures (not-false (c .before .before .before .before .before .before .before .waits-at .result) (c .before .before .before .before .before .before .if6 .left))) refl (c .before .related .ensures ∙ ap (relation (c .before .before .before .before .before .before .before .before .before .before .before .before .before .before .before .before .before .before .before .before .before .before .before .args .exact) (byte (c .before .before .before .before .before .before .before .before .before .before .before .before .before .before .before .before .before .before .before .before .before .before .before .args .file .now) (c .before .before .before .before .before .before .before .before .before .before .before .before .before .loop2 .k + 3))) (c .before .before .last-waiting .ensures)) (c .both2 .ensures), omega (arith, c .before .before .before .before .before .before .before .before .before .before .before .before .loop2-test .taken))
 
--- src/lib.rt:202:9
+-- src/lib.rt:203:9
 ends-at-requires : tie.Need-ends-at-requires Inv-loop μ-loop Inv-loop2 μ-loop2 Inv-loop3 μ-loop3
 ends-at-requires c κs = search needs
 
--- src/lib.rt:203:9
+-- src/lib.rt:204:9
 not-same-requires-5 :
     tie.Need-not-same-requires-5 Inv-loop μ-loop Inv-loop2 μ-loop2 Inv-loop3 μ-loop3
 not-same-requires-5 c κs = search needs
 
--- src/lib.rt:203:9
+-- src/lib.rt:204:9
 returns-5 : tie.Need-returns-5 Inv-loop μ-loop Inv-loop2 μ-loop2 Inv-loop3 μ-loop3
 returns-5 c = λ t A. absurd (never (c .not-same5 .result .same) (c .not-same5 .ensures) t)
 
--- src/lib.rt:207:9
+-- src/lib.rt:208:9
 returns-6 : tie.Need-returns-6 Inv-loop μ-loop Inv-loop2 μ-loop2 Inv-loop3 μ-loop3
-returns-6 c = λ t A. queues-decide (c .before .before .before .before .before .before .before .before .before .before .before .before .before .args .shape) (c .before .before .before .before .before .before .before .before .before .before .before .before .before .args .t5) (omega (arith, (not-cut (c .before .before .before .before .before .before .before .before .before .before .before .before .before .args .file .now) (c .before .before .before .before .before .before .before .before .before .before .before .before .before .args .at) (8 + 7 * c .before .before .before .before .before .before .before .before .before .before .before .least .result) (c .before .before .before .before .before .before .before .before .before .before .cut .ensures) (c .before .before .before .before .before .before .before .before .before .if1 .left)))) (c .before .before .before .before .before .before .before .before .before .before .before .least .ensures) (c .before .before .before .before .before .before .before .before .loop .inv) (omega (arith, c .before .before .before .before .before .before .before .loop-test .left)) (ap (λ (k : ℕ). 4 * k) (c .before .before .before .before .before .before .least2 .ensures)) (c .before .before .before .before .before .least3 .ensures) (c .before .before .before .before .loop2 .inv .0) (omega (arith, c .before .before .before .loop2-test .left, c .before .before .before .before .loop2 .inv .1)) (c .before .before .ends-at .ensures) (not-false (c .before .before .ends-at .result) (c .before .if8 .left)) (not-true (c .before .before .before .before .loop2 .waits) (c .if9 .taken))
+returns-6 c = λ t A. queues-decide (c .before .before .before .before .before .before .before .before .before .before .before .before .before .before .args .shape) (c .before .before .before .before .before .before .before .before .before .before .before .before .before .before .args .cube) (omega (arith, (not-cut (c .before .before .before .before .before .before .before .before .before .before .before .before .before .before .args .file .now) (c .before .before .before .before .before .before .before .before .before .before .before .before .before .before .args .at) (8 + 7 * c .before .before .before .before .before .before .before .before .before .before .before .before .least .result) (c .before .before .before .before .before .before .before .before .before .before .before .cut .ensures) (c .before .before .before .before .before .before .before .before .before .before .if1 .left)))) (c .before .before .before .before .before .before .before .before .before .before .before .before .least .ensures) (c .before .before .before .before .before .before .before .before .before .loop .inv) (omega (arith, c .before .before .before .before .before .before .before .before .loop-test .left)) (ap (λ (k : ℕ). 4 * k) (c .before .before .before .before .before .before .before .least2 .ensures)) (c .before .before .before .before .before .before .least3 .ensures) (c .before .before .before .before .loop2 .inv .0) (omega (arith, c .before .before .before .loop2-test .left, c .before .before .before .before .loop2 .inv .1)) (c .before .before .ends-at .ensures) (not-false (c .before .before .ends-at .result) (c .before .if8 .left)) (not-true (c .before .before .before .before .loop2 .waits) (c .if9 .taken))
 
--- src/lib.rt:212:26
+-- src/lib.rt:213:26
+add-t33 : tie.Need-add-t33 Inv-loop μ-loop Inv-loop2 μ-loop2 Inv-loop3 μ-loop3
+add-t33 c = omega (arith, (not-cut (c .before .before .before .before .before .before .before .before .before .before .before .before .before .before .args .file .now) (c .before .before .before .before .before .before .before .before .before .before .before .before .before .before .args .at) (8 + 7 * c .before .before .before .before .before .before .before .before .before .before .before .before .least .result) (c .before .before .before .before .before .before .before .before .before .before .before .cut .ensures) (c .before .before .before .before .before .before .before .before .before .before .if1 .left)))
+
+-- src/lib.rt:213:21
+shared-slice-read-t57 :
+    tie.Need-shared-slice-read-t57 Inv-loop μ-loop Inv-loop2 μ-loop2 Inv-loop3 μ-loop3
+shared-slice-read-t57 c = omega (arith, (not-cut (c .before .before .before .before .before .before .before .before .before .before .before .before .before .before .before .args .file .now) (c .before .before .before .before .before .before .before .before .before .before .before .before .before .before .before .args .at) (8 + 7 * c .before .before .before .before .before .before .before .before .before .before .before .before .before .least .result) (c .before .before .before .before .before .before .before .before .before .before .before .before .cut .ensures) (c .before .before .before .before .before .before .before .before .before .before .before .if1 .left)))
+
+-- src/lib.rt:213:40
 add-t32 : tie.Need-add-t32 Inv-loop μ-loop Inv-loop2 μ-loop2 Inv-loop3 μ-loop3
-add-t32 c = omega (arith, (not-cut (c .before .before .before .before .before .before .before .before .before .before .before .before .before .args .file .now) (c .before .before .before .before .before .before .before .before .before .before .before .before .before .args .at) (8 + 7 * c .before .before .before .before .before .before .before .before .before .before .before .least .result) (c .before .before .before .before .before .before .before .before .before .before .cut .ensures) (c .before .before .before .before .before .before .before .before .before .if1 .left)))
+add-t32 c = omega (arith, (not-cut (c .before .before .before .before .before .before .before .before .before .before .before .before .before .before .before .args .file .now) (c .before .before .before .before .before .before .before .before .before .before .before .before .before .before .before .args .at) (8 + 7 * c .before .before .before .before .before .before .before .before .before .before .before .before .before .least .result) (c .before .before .before .before .before .before .before .before .before .before .before .before .cut .ensures) (c .before .before .before .before .before .before .before .before .before .before .before .if1 .left)))
 
--- src/lib.rt:212:21
-shared-slice-read-t56 :
-    tie.Need-shared-slice-read-t56 Inv-loop μ-loop Inv-loop2 μ-loop2 Inv-loop3 μ-loop3
-shared-slice-read-t56 c = omega (arith, (not-cut (c .before .before .before .before .before .before .before .before .before .before .before .before .before .before .args .file .now) (c .before .before .before .before .before .before .before .before .before .before .before .before .before .before .args .at) (8 + 7 * c .before .before .before .before .before .before .before .before .before .before .before .before .least .result) (c .before .before .before .before .before .before .before .before .before .before .before .cut .ensures) (c .before .before .before .before .before .before .before .before .before .before .if1 .left)))
+-- src/lib.rt:213:35
+shared-slice-read-t59 :
+    tie.Need-shared-slice-read-t59 Inv-loop μ-loop Inv-loop2 μ-loop2 Inv-loop3 μ-loop3
+shared-slice-read-t59 c = omega (arith, (not-cut (c .before .before .before .before .before .before .before .before .before .before .before .before .before .before .before .before .args .file .now) (c .before .before .before .before .before .before .before .before .before .before .before .before .before .before .before .before .args .at) (8 + 7 * c .before .before .before .before .before .before .before .before .before .before .before .before .before .before .least .result) (c .before .before .before .before .before .before .before .before .before .before .before .before .before .cut .ensures) (c .before .before .before .before .before .before .before .before .before .before .before .before .if1 .left)))
 
--- src/lib.rt:212:40
-add-t30 : tie.Need-add-t30 Inv-loop μ-loop Inv-loop2 μ-loop2 Inv-loop3 μ-loop3
-add-t30 c = omega (arith, (not-cut (c .before .before .before .before .before .before .before .before .before .before .before .before .before .before .args .file .now) (c .before .before .before .before .before .before .before .before .before .before .before .before .before .before .args .at) (8 + 7 * c .before .before .before .before .before .before .before .before .before .before .before .before .least .result) (c .before .before .before .before .before .before .before .before .before .before .before .cut .ensures) (c .before .before .before .before .before .before .before .before .before .before .if1 .left)))
+-- src/lib.rt:213:54
+add-t60 : tie.Need-add-t60 Inv-loop μ-loop Inv-loop2 μ-loop2 Inv-loop3 μ-loop3
+add-t60 c = omega (arith, (not-cut (c .before .before .before .before .before .before .before .before .before .before .before .before .before .before .before .before .args .file .now) (c .before .before .before .before .before .before .before .before .before .before .before .before .before .before .before .before .args .at) (8 + 7 * c .before .before .before .before .before .before .before .before .before .before .before .before .before .before .least .result) (c .before .before .before .before .before .before .before .before .before .before .before .before .before .cut .ensures) (c .before .before .before .before .before .before .before .before .before .before .before .before .if1 .left)))
 
--- src/lib.rt:212:35
-shared-slice-read-t58 :
-    tie.Need-shared-slice-read-t58 Inv-loop μ-loop Inv-loop2 μ-loop2 Inv-loop3 μ-loop3
-shared-slice-read-t58 c = omega (arith, (not-cut (c .before .before .before .before .before .before .before .before .before .before .before .before .before .before .before .args .file .now) (c .before .before .before .before .before .before .before .before .before .before .before .before .before .before .before .args .at) (8 + 7 * c .before .before .before .before .before .before .before .before .before .before .before .before .before .least .result) (c .before .before .before .before .before .before .before .before .before .before .before .before .cut .ensures) (c .before .before .before .before .before .before .before .before .before .before .before .if1 .left)))
+-- src/lib.rt:213:49
+shared-slice-read-t62 :
+    tie.Need-shared-slice-read-t62 Inv-loop μ-loop Inv-loop2 μ-loop2 Inv-loop3 μ-loop3
+shared-slice-read-t62 c = omega (arith, (not-cut (c .before .before .before .before .before .before .before .before .before .before .before .before .before .before .before .before .before .args .file .now) (c .before .before .before .before .before .before .before .before .before .before .before .before .before .before .before .before .before .args .at) (8 + 7 * c .before .before .before .before .before .before .before .before .before .before .before .before .before .before .before .least .result) (c .before .before .before .before .before .before .before .before .before .before .before .before .before .before .cut .ensures) (c .before .before .before .before .before .before .before .before .before .before .before .before .before .if1 .left)))
 
--- src/lib.rt:212:54
-add-t59 : tie.Need-add-t59 Inv-loop μ-loop Inv-loop2 μ-loop2 Inv-loop3 μ-loop3
-add-t59 c = omega (arith, (not-cut (c .before .before .before .before .before .before .before .before .before .before .before .before .before .before .before .args .file .now) (c .before .before .before .before .before .before .before .before .before .before .before .before .before .before .before .args .at) (8 + 7 * c .before .before .before .before .before .before .before .before .before .before .before .before .before .least .result) (c .before .before .before .before .before .before .before .before .before .before .before .before .cut .ensures) (c .before .before .before .before .before .before .before .before .before .before .before .if1 .left)))
+-- src/lib.rt:213:68
+add-t63 : tie.Need-add-t63 Inv-loop μ-loop Inv-loop2 μ-loop2 Inv-loop3 μ-loop3
+add-t63 c = omega (arith, (not-cut (c .before .before .before .before .before .before .before .before .before .before .before .before .before .before .before .before .before .args .file .now) (c .before .before .before .before .before .before .before .before .before .before .before .before .before .before .before .before .before .args .at) (8 + 7 * c .before .before .before .before .before .before .before .before .before .before .before .before .before .before .before .least .result) (c .before .before .before .before .before .before .before .before .before .before .before .before .before .before .cut .ensures) (c .before .before .before .before .before .before .before .before .before .before .before .before .before .if1 .left)))
 
--- src/lib.rt:212:49
-shared-slice-read-t61 :
-    tie.Need-shared-slice-read-t61 Inv-loop μ-loop Inv-loop2 μ-loop2 Inv-loop3 μ-loop3
-shared-slice-read-t61 c = omega (arith, (not-cut (c .before .before .before .before .before .before .before .before .before .before .before .before .before .before .before .before .args .file .now) (c .before .before .before .before .before .before .before .before .before .before .before .before .before .before .before .before .args .at) (8 + 7 * c .before .before .before .before .before .before .before .before .before .before .before .before .before .before .least .result) (c .before .before .before .before .before .before .before .before .before .before .before .before .before .cut .ensures) (c .before .before .before .before .before .before .before .before .before .before .before .before .if1 .left)))
+-- src/lib.rt:213:63
+shared-slice-read-t65 :
+    tie.Need-shared-slice-read-t65 Inv-loop μ-loop Inv-loop2 μ-loop2 Inv-loop3 μ-loop3
+shared-slice-read-t65 c = omega (arith, (not-cut (c .before .before .before .before .before .before .before .before .before .before .before .before .before .before .before .before .before .before .args .file .now) (c .before .before .before .before .before .before .before .before .before .before .before .before .before .before .before .before .before .before .args .at) (8 + 7 * c .before .before .before .before .before .before .before .before .before .before .before .before .before .before .before .before .least .result) (c .before .before .before .before .before .before .before .before .before .before .before .before .before .before .before .cut .ensures) (c .before .before .before .before .before .before .before .before .before .before .before .before .before .before .if1 .left)))
 
--- src/lib.rt:212:68
-add-t62 : tie.Need-add-t62 Inv-loop μ-loop Inv-loop2 μ-loop2 Inv-loop3 μ-loop3
-add-t62 c = omega (arith, (not-cut (c .before .before .before .before .before .before .before .before .before .before .before .before .before .before .before .before .args .file .now) (c .before .before .before .before .before .before .before .before .before .before .before .before .before .before .before .before .args .at) (8 + 7 * c .before .before .before .before .before .before .before .before .before .before .before .before .before .before .least .result) (c .before .before .before .before .before .before .before .before .before .before .before .before .before .cut .ensures) (c .before .before .before .before .before .before .before .before .before .before .before .before .if1 .left)))
-
--- src/lib.rt:212:63
-shared-slice-read-t64 :
-    tie.Need-shared-slice-read-t64 Inv-loop μ-loop Inv-loop2 μ-loop2 Inv-loop3 μ-loop3
-shared-slice-read-t64 c = omega (arith, (not-cut (c .before .before .before .before .before .before .before .before .before .before .before .before .before .before .before .before .before .args .file .now) (c .before .before .before .before .before .before .before .before .before .before .before .before .before .before .before .before .before .args .at) (8 + 7 * c .before .before .before .before .before .before .before .before .before .before .before .before .before .before .before .least .result) (c .before .before .before .before .before .before .before .before .before .before .before .before .before .before .cut .ensures) (c .before .before .before .before .before .before .before .before .before .before .before .before .before .if1 .left)))
-
--- src/lib.rt:214:9
+-- src/lib.rt:215:9
 points-same-requires :
     tie.Need-points-same-requires Inv-loop μ-loop Inv-loop2 μ-loop2 Inv-loop3 μ-loop3
 points-same-requires c κs = search needs
 
--- src/lib.rt:215:9
+-- src/lib.rt:216:9
 not-same-requires-6 :
     tie.Need-not-same-requires-6 Inv-loop μ-loop Inv-loop2 μ-loop2 Inv-loop3 μ-loop3
 not-same-requires-6 c κs = search needs
 
--- src/lib.rt:215:9
+-- src/lib.rt:216:9
 returns-7 : tie.Need-returns-7 Inv-loop μ-loop Inv-loop2 μ-loop2 Inv-loop3 μ-loop3
 returns-7 c = λ t A. absurd (never (c .not-same6 .result .same) (c .not-same6 .ensures) t)
 
--- src/lib.rt:218:5
+-- src/lib.rt:220:5
 loop3-holds : tie.Need-loop3-holds Inv-loop μ-loop Inv-loop2 μ-loop2 Inv-loop3 μ-loop3
 loop3-holds c = sent-begin _ _ _ _ _ _
 
--- src/lib.rt:219:23
+-- src/lib.rt:221:23
 array-read-small : tie.Need-array-read-small Inv-loop μ-loop Inv-loop2 μ-loop2 Inv-loop3 μ-loop3
-array-read-small c = omega (arith, c .before .before .before .before .before .before .before .before .before .before .before .before .before .before .before .before .before .loop .inv .places .few, c .before .before .before .before .before .before .before .before .before .before .before .before .before .before .before .before .before .loop .inv .most, c .before .before .before .before .before .before .before .before .before .before .before .before .before .before .before .before .before .before .before .before .least .ensures, c .loop3-test .taken)
+array-read-small c = omega (arith, c .before .before .before .before .before .before .before .before .before .before .before .before .before .before .before .before .before .before .before .loop .inv .places .few, c .before .before .before .before .before .before .before .before .before .before .before .before .before .before .before .before .before .before .before .loop .inv .most, c .before .before .before .before .before .before .before .before .before .before .before .before .before .before .before .before .before .before .before .before .before .before .least .ensures, c .loop3-test .taken)
 
--- src/lib.rt:219:13
+-- src/lib.rt:221:13
 small-requires : tie.Need-small-requires Inv-loop μ-loop Inv-loop2 μ-loop2 Inv-loop3 μ-loop3
 small-requires c κs = search needs
 
--- src/lib.rt:220:34
+-- src/lib.rt:222:34
 add-message-in : tie.Need-add-message-in Inv-loop μ-loop Inv-loop2 μ-loop2 Inv-loop3 μ-loop3
-add-message-in c = omega (arith, (not-cut (c .before .before .before .before .before .before .before .before .before .before .before .before .before .before .before .before .before .before .before .before .before .before .before .args .file .now) (c .before .before .before .before .before .before .before .before .before .before .before .before .before .before .before .before .before .before .before .before .before .before .before .args .at) (8 + 7 * c .before .before .before .before .before .before .before .before .before .before .before .before .before .before .before .before .before .before .before .before .before .least .result) (c .before .before .before .before .before .before .before .before .before .before .before .before .before .before .before .before .before .before .before .before .cut .ensures) (c .before .before .before .before .before .before .before .before .before .before .before .before .before .before .before .before .before .before .before .if1 .left)))
+add-message-in c = omega (arith, (not-cut (c .before .before .before .before .before .before .before .before .before .before .before .before .before .before .before .before .before .before .before .before .before .before .before .before .before .args .file .now) (c .before .before .before .before .before .before .before .before .before .before .before .before .before .before .before .before .before .before .before .before .before .before .before .before .before .args .at) (8 + 7 * c .before .before .before .before .before .before .before .before .before .before .before .before .before .before .before .before .before .before .before .before .before .before .before .least .result) (c .before .before .before .before .before .before .before .before .before .before .before .before .before .before .before .before .before .before .before .before .before .before .cut .ensures) (c .before .before .before .before .before .before .before .before .before .before .before .before .before .before .before .before .before .before .before .before .before .if1 .left)))
 
--- src/lib.rt:220:43
+-- src/lib.rt:222:43
 mul-message-in : tie.Need-mul-message-in Inv-loop μ-loop Inv-loop2 μ-loop2 Inv-loop3 μ-loop3
-mul-message-in c = omega (arith, c .before .before .before .before .before .before .before .before .before .before .before .before .before .before .before .before .before .before .loop .inv .places .few, c .before .before .before .before .before .before .before .before .before .before .before .before .before .before .before .before .before .before .loop .inv .most, c .before .before .before .before .before .before .before .before .before .before .before .before .before .before .before .before .before .before .before .before .before .least .ensures, c .before .loop3-test .taken)
+mul-message-in c = omega (arith, c .before .before .before .before .before .before .before .before .before .before .before .before .before .before .before .before .before .before .before .before .loop .inv .places .few, c .before .before .before .before .before .before .before .before .before .before .before .before .before .before .before .before .before .before .before .before .loop .inv .most, c .before .before .before .before .before .before .before .before .before .before .before .before .before .before .before .before .before .before .before .before .before .before .before .least .ensures, c .before .loop3-test .taken)
 
--- src/lib.rt:220:34
+-- src/lib.rt:222:34
 add-message-in-2 : tie.Need-add-message-in-2 Inv-loop μ-loop Inv-loop2 μ-loop2 Inv-loop3 μ-loop3
-add-message-in-2 c = omega (arith, c .before .before .before .before .before .before .before .before .before .before .before .before .before .before .before .before .before .before .before .before .before .before .before .good .1 .0, c .before .before .before .before .before .before .before .before .before .before .before .before .before .before .before .before .before .before .loop .inv .places .few, c .before .before .before .before .before .before .before .before .before .before .before .before .before .before .before .before .before .before .loop .inv .most, (not-cut (c .before .before .before .before .before .before .before .before .before .before .before .before .before .before .before .before .before .before .before .before .before .before .before .args .file .now) (c .before .before .before .before .before .before .before .before .before .before .before .before .before .before .before .before .before .before .before .before .before .before .before .args .at) (8 + 7 * c .before .before .before .before .before .before .before .before .before .before .before .before .before .before .before .before .before .before .before .before .before .least .result) (c .before .before .before .before .before .before .before .before .before .before .before .before .before .before .before .before .before .before .before .before .cut .ensures) (c .before .before .before .before .before .before .before .before .before .before .before .before .before .before .before .before .before .before .before .if1 .left)), c .before .loop3-test .taken)
+add-message-in-2 c = omega (arith, c .before .before .before .before .before .before .before .before .before .before .before .before .before .before .before .before .before .before .before .before .before .before .before .before .before .good .1 .0, c .before .before .before .before .before .before .before .before .before .before .before .before .before .before .before .before .before .before .before .before .loop .inv .places .few, c .before .before .before .before .before .before .before .before .before .before .before .before .before .before .before .before .before .before .before .before .loop .inv .most, (not-cut (c .before .before .before .before .before .before .before .before .before .before .before .before .before .before .before .before .before .before .before .before .before .before .before .before .before .args .file .now) (c .before .before .before .before .before .before .before .before .before .before .before .before .before .before .before .before .before .before .before .before .before .before .before .before .before .args .at) (8 + 7 * c .before .before .before .before .before .before .before .before .before .before .before .before .before .before .before .before .before .before .before .before .before .before .before .least .result) (c .before .before .before .before .before .before .before .before .before .before .before .before .before .before .before .before .before .before .before .before .before .before .cut .ensures) (c .before .before .before .before .before .before .before .before .before .before .before .before .before .before .before .before .before .before .before .before .before .if1 .left)), c .before .loop3-test .taken)
 
--- src/lib.rt:220:13
+-- src/lib.rt:222:13
 message-in-requires :
     tie.Need-message-in-requires Inv-loop μ-loop Inv-loop2 μ-loop2 Inv-loop3 μ-loop3
-message-in-requires c κs = (omega (arith, c .before .before .before .before .before .before .before .before .before .before .before .before .before .before .before .before .before .before .loop .inv .places .few, c .before .before .before .before .before .before .before .before .before .before .before .before .before .before .before .before .before .before .loop .inv .most, (not-cut (c .before .before .before .before .before .before .before .before .before .before .before .before .before .before .before .before .before .before .before .before .before .before .before .args .file .now) (c .before .before .before .before .before .before .before .before .before .before .before .before .before .before .before .before .before .before .before .before .before .before .before .args .at) (8 + 7 * c .before .before .before .before .before .before .before .before .before .before .before .before .before .before .before .before .before .before .before .before .before .least .result) (c .before .before .before .before .before .before .before .before .before .before .before .before .before .before .before .before .before .before .before .before .cut .ensures) (c .before .before .before .before .before .before .before .before .before .before .before .before .before .before .before .before .before .before .before .if1 .left)), c .before .loop3-test .taken))
+message-in-requires c κs = (omega (arith, c .before .before .before .before .before .before .before .before .before .before .before .before .before .before .before .before .before .before .before .before .loop .inv .places .few, c .before .before .before .before .before .before .before .before .before .before .before .before .before .before .before .before .before .before .before .before .loop .inv .most, (not-cut (c .before .before .before .before .before .before .before .before .before .before .before .before .before .before .before .before .before .before .before .before .before .before .before .before .before .args .file .now) (c .before .before .before .before .before .before .before .before .before .before .before .before .before .before .before .before .before .before .before .before .before .before .before .before .before .args .at) (8 + 7 * c .before .before .before .before .before .before .before .before .before .before .before .before .before .before .before .before .before .before .before .before .before .before .before .least .result) (c .before .before .before .before .before .before .before .before .before .before .before .before .before .before .before .before .before .before .before .before .before .before .cut .ensures) (c .before .before .before .before .before .before .before .before .before .before .before .before .before .before .before .before .before .before .before .before .before .if1 .left)), c .before .loop3-test .taken))
 
--- src/lib.rt:221:17
+-- src/lib.rt:223:17
 mul-y : tie.Need-mul-y Inv-loop μ-loop Inv-loop2 μ-loop2 Inv-loop3 μ-loop3
 mul-y c = search needs
 
--- src/lib.rt:221:17
-element-copy-out-y :
-    tie.Need-element-copy-out-y Inv-loop μ-loop Inv-loop2 μ-loop2 Inv-loop3 μ-loop3
-element-copy-out-y c = omega (arith, c .before .small .ensures .0, c .before .before .before .before .before .before .before .before .before .before .before .before .before .before .before .before .before .before .before .loop .inv .places .low (c .before .before .before .loop3 .i) (c .before .before .loop3-test .taken), c .before .before .before .before .before .before .before .before .before .before .before .before .before .before .before .before .before .before .before .loop .inv .most, c .before .before .before .before .before .before .before .before .before .before .before .before .before .before .before .before .before .before .before .before .before .before .least .ensures)
+-- src/lib.rt:223:17
+array-copy-out-y : tie.Need-array-copy-out-y Inv-loop μ-loop Inv-loop2 μ-loop2 Inv-loop3 μ-loop3
+array-copy-out-y c = omega (arith, c .before .small .ensures .0, c .before .before .before .before .before .before .before .before .before .before .before .before .before .before .before .before .before .before .before .before .before .loop .inv .places .low (c .before .before .before .loop3 .i) (c .before .before .loop3-test .taken), c .before .before .before .before .before .before .before .before .before .before .before .before .before .before .before .before .before .before .before .before .before .loop .inv .most, c .before .before .before .before .before .before .before .before .before .before .before .before .before .before .before .before .before .before .before .before .before .before .before .before .least .ensures)
 
--- src/lib.rt:222:13
+-- src/lib.rt:224:13
 same-label-requires :
     tie.Need-same-label-requires Inv-loop μ-loop Inv-loop2 μ-loop2 Inv-loop3 μ-loop3
 same-label-requires c κs = search needs
 
--- src/lib.rt:223:13
+-- src/lib.rt:225:13
 not-same-requires-7 :
     tie.Need-not-same-requires-7 Inv-loop μ-loop Inv-loop2 μ-loop2 Inv-loop3 μ-loop3
 not-same-requires-7 c κs = search needs
 
--- src/lib.rt:223:13
+-- src/lib.rt:225:13
 returns-8 : tie.Need-returns-8 Inv-loop μ-loop Inv-loop2 μ-loop2 Inv-loop3 μ-loop3
 returns-8 c = λ t A. absurd (never (c .not-same7 .result .same) (c .not-same7 .ensures) t)
 
--- src/lib.rt:227:27
+-- src/lib.rt:229:27
 values-related-requires :
     tie.Need-values-related-requires Inv-loop μ-loop Inv-loop2 μ-loop2 Inv-loop3 μ-loop3
 values-related-requires c κs = search needs
 
--- src/lib.rt:227:9
+-- src/lib.rt:229:9
 both-requires-3 : tie.Need-both-requires-3 Inv-loop μ-loop Inv-loop2 μ-loop2 Inv-loop3 μ-loop3
 both-requires-3 c κs = search needs
 
--- src/lib.rt:218:9
+-- src/lib.rt:220:9
 add-i : tie.Need-add-i Inv-loop μ-loop Inv-loop2 μ-loop2 Inv-loop3 μ-loop3
-add-i c = search needs
+add-i c = omega (arith, c .before .before .before .before .before .before .before .before .before .before .before .before .before .before .before .before .before .before .before .before .before .before .before .before .before .before .before .before .loop .inv .places .few, c .before .before .before .before .before .before .before .before .before .before .before .before .before .before .before .before .before .before .before .before .before .before .before .before .before .before .before .before .loop .inv .most, c .before .before .before .before .before .before .before .before .before .before .before .before .before .before .before .before .before .before .before .before .before .before .before .before .before .before .before .before .before .before .before .least .ensures, c .before .before .before .before .before .before .before .before .before .loop3-test .taken)
 
--- src/lib.rt:218:5
+-- src/lib.rt:220:5
 loop3-less : tie.Need-loop3-less Inv-loop μ-loop Inv-loop2 μ-loop2 Inv-loop3 μ-loop3
 loop3-less c = search needs
 
--- src/lib.rt:218:5
+-- src/lib.rt:220:5
 loop3-again : tie.Need-loop3-again Inv-loop μ-loop Inv-loop2 μ-loop2 Inv-loop3 μ-loop3
 loop3-again c = sent-more (c .before .before .before .before .before .before .before .before .before .before .loop3 .inv) (c .before .before .before .before .before .before .before .before .before .loop3-test .taken) (c .before .before .before .before .before .before .before .before .small .ensures .0) (c .before .before .before .before .before .before .before .message-in .ensures) (c .before .before .before .before .before .same-label .ensures (not-false (c .before .before .before .before .before .same-label .result) (c .before .before .before .before .if11 .left))) (c .before .values-related .ensures) (c .both3 .ensures)
 
 -- src/lib.rt:148:1
 returns-9 : tie.Need-returns-9 Inv-loop μ-loop Inv-loop2 μ-loop2 Inv-loop3 μ-loop3
-returns-9 c = λ t A. let y = not-false (c .before .before .before .points-same .result) (c .before .before .if10 .left) in same-decides (c .before .before .before .before .before .before .before .before .before .before .before .before .before .before .before .before .before .before .before .before .before .before .args .shape) (c .before .before .before .before .before .before .before .before .before .before .before .before .before .before .before .before .before .before .before .before .before .before .args .t5) (omega (arith, (not-cut (c .before .before .before .before .before .before .before .before .before .before .before .before .before .before .before .before .before .before .before .before .before .before .args .file .now) (c .before .before .before .before .before .before .before .before .before .before .before .before .before .before .before .before .before .before .before .before .before .before .args .at) (8 + 7 * c .before .before .before .before .before .before .before .before .before .before .before .before .before .before .before .before .before .before .before .before .least .result) (c .before .before .before .before .before .before .before .before .before .before .before .before .before .before .before .before .before .before .before .cut .ensures) (c .before .before .before .before .before .before .before .before .before .before .before .before .before .before .before .before .before .before .if1 .left)))) (c .before .before .before .before .before .before .before .before .before .before .before .before .before .before .before .before .before .before .before .before .least .ensures) (c .before .before .before .before .before .before .before .before .before .before .before .before .before .before .before .before .before .loop .inv) (omega (arith, c .before .before .before .before .before .before .before .before .before .before .before .before .before .before .before .before .loop-test .left)) (ap (λ (k : ℕ). 4 * k) (c .before .before .before .before .before .before .before .before .before .before .before .before .before .before .before .least2 .ensures)) (c .before .before .before .before .before .before .before .before .before .before .before .before .before .before .least3 .ensures) (c .before .before .before .before .before .before .before .before .before .before .before .before .before .loop2 .inv .0) (omega (arith, c .before .before .before .before .before .before .before .before .before .before .before .before .loop2-test .left, c .before .before .before .before .before .before .before .before .before .before .before .before .before .loop2 .inv .1)) (c .before .before .before .before .before .before .before .before .before .before .before .ends-at .ensures) (not-false (c .before .before .before .before .before .before .before .before .before .before .before .ends-at .result) (c .before .before .before .before .before .before .before .before .before .before .if8 .left)) (not-false (c .before .before .before .before .before .before .before .before .before .before .before .before .before .loop2 .waits) (c .before .before .before .before .before .before .before .before .before .if9 .left)) refl refl refl refl (c .before .before .before .points-same .ensures .0 y) (c .before .before .before .points-same .ensures .1 y) (c .before .loop3 .inv) (omega (arith, c .loop3-test .left)) A
+returns-9 c = λ t A. let y = not-false (c .before .before .before .before .points-same .result) (c .before .before .before .if10 .left) in same-decides (c .before .before .before .before .before .before .before .before .before .before .before .before .before .before .before .before .before .before .before .before .before .before .before .before .args .shape) (c .before .before .before .before .before .before .before .before .before .before .before .before .before .before .before .before .before .before .before .before .before .before .before .before .args .cube) (omega (arith, (not-cut (c .before .before .before .before .before .before .before .before .before .before .before .before .before .before .before .before .before .before .before .before .before .before .before .before .args .file .now) (c .before .before .before .before .before .before .before .before .before .before .before .before .before .before .before .before .before .before .before .before .before .before .before .before .args .at) (8 + 7 * c .before .before .before .before .before .before .before .before .before .before .before .before .before .before .before .before .before .before .before .before .before .before .least .result) (c .before .before .before .before .before .before .before .before .before .before .before .before .before .before .before .before .before .before .before .before .before .cut .ensures) (c .before .before .before .before .before .before .before .before .before .before .before .before .before .before .before .before .before .before .before .before .if1 .left)))) (c .before .before .before .before .before .before .before .before .before .before .before .before .before .before .before .before .before .before .before .before .before .before .least .ensures) (c .before .before .before .before .before .before .before .before .before .before .before .before .before .before .before .before .before .before .before .loop .inv) (omega (arith, c .before .before .before .before .before .before .before .before .before .before .before .before .before .before .before .before .before .before .loop-test .left)) (ap (λ (k : ℕ). 4 * k) (c .before .before .before .before .before .before .before .before .before .before .before .before .before .before .before .before .before .least2 .ensures)) (c .before .before .before .before .before .before .before .before .before .before .before .before .before .before .before .before .least3 .ensures) (c .before .before .before .before .before .before .before .before .before .before .before .before .before .before .loop2 .inv .0) (omega (arith, c .before .before .before .before .before .before .before .before .before .before .before .before .before .loop2-test .left, c .before .before .before .before .before .before .before .before .before .before .before .before .before .before .loop2 .inv .1)) (c .before .before .before .before .before .before .before .before .before .before .before .before .ends-at .ensures) (not-false (c .before .before .before .before .before .before .before .before .before .before .before .before .ends-at .result) (c .before .before .before .before .before .before .before .before .before .before .before .if8 .left)) (not-false (c .before .before .before .before .before .before .before .before .before .before .before .before .before .before .loop2 .waits) (c .before .before .before .before .before .before .before .before .before .before .if9 .left)) refl refl refl refl (c .before .before .before .before .points-same .ensures .0 y) (c .before .before .before .before .points-same .ensures .1 y) (c .before .loop3 .inv) (omega (arith, c .loop3-test .left)) A
 
 pub compare-at-spec : {M : Type 1} → statement M
 compare-at-spec =
@@ -460,7 +459,7 @@ compare-at-spec =
     least-requires-3
     loop2-holds
     mul-queue
-    element-copy-out-queue
+    array-copy-out-queue
     waiting-requires
     add-q
     loop2-less
@@ -491,14 +490,14 @@ compare-at-spec =
     not-same-requires-5
     returns-5
     returns-6
+    add-t33
+    shared-slice-read-t57
     add-t32
-    shared-slice-read-t56
-    add-t30
-    shared-slice-read-t58
-    add-t59
-    shared-slice-read-t61
-    add-t62
-    shared-slice-read-t64
+    shared-slice-read-t59
+    add-t60
+    shared-slice-read-t62
+    add-t63
+    shared-slice-read-t65
     points-same-requires
     not-same-requires-6
     returns-7
@@ -510,7 +509,7 @@ compare-at-spec =
     add-message-in-2
     message-in-requires
     mul-y
-    element-copy-out-y
+    array-copy-out-y
     same-label-requires
     not-same-requires-7
     returns-8

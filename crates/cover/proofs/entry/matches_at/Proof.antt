@@ -1,5 +1,5 @@
 use borrow.Author.Tests.{not-true, not-false}
-use Rattle.cover.proofs.EntryLaws.{states-differ, bytes-decide, queues-differ, channel-decides}
+use Rattle.cover.proofs.EntryLaws.{states-differ, rest-decides}
 use native.Mathlib.Omega.{arith}
 use borrow.Author.Needs.{needs}
 use Rattle.cover.proofs.entry.matches_at.Statement.{statement}
@@ -8,60 +8,41 @@ use Rattle.cover.proofs.entry.matches_at.Reads as reads
 use Rattle.cover.proofs.entry.matches_at.Lts as lts
 use Rattle.by_bytes.proofs.compare_at.Reads as compare-at-reads
 use Rattle.by_number.proofs.offset_at.Reads as offset-at-reads
+use Rattle.cover.proofs.entry.built_matches.Reads as built-matches-reads
 use Rattle.cover.proofs.entry.states_at.Reads as states-at-reads
-use Rattle.matching.proofs.channel_matches.Reads as channel-matches-reads
-use Rattle.matching.proofs.queues_match.Reads as queues-match-reads
 use Rattle.matching.proofs.states_match.Reads as states-match-reads
-use Rattle.matching.proofs.tags_of.Reads as tags-of-reads
-use Rattle.whole_file.proofs.entry.load_entry.Reads as load-entry-reads
 
--- src/entry.rt:52:9
+-- src/entry.rt:77:9
 offset-at-requires : tie.Need-offset-at-requires
 offset-at-requires c κs = search needs
 
--- src/entry.rt:54:9
+-- src/entry.rt:79:9
 states-at-requires : tie.Need-states-at-requires
 states-at-requires c κs = search needs
 
--- src/entry.rt:56:9
+-- src/entry.rt:81:9
 states-match-requires : tie.Need-states-match-requires
 states-match-requires c κs = search needs
 
--- src/entry.rt:57:9
+-- src/entry.rt:82:9
 returns : tie.Need-returns
 returns c = λ A. states-differ (c .before .before .before .before .before .before .before .args .exact) (c .before .before .before .before .before .before .before .args .shape) (c .before .before .before .before .before .before .before .args .file .now) (c .before .before .before .before .before .before .before .args .list .now) (c .before .before .before .before .before .before .before .args .i) (c .before .before .before .before .offset-at .result) (c .before .before .before .before .before .before .before .args .cube) (c .before .before .before .before .before .before .before .args .right .now) A (c .before .before .before .before .offset-at .ensures) (c .before .before .before .states-at .ensures) (c .before .states-match .ensures) (not-true (c .before .states-match .result) (c .if1 .taken))
 
--- src/entry.rt:60:9
+-- src/entry.rt:85:9
 compare-at-requires : tie.Need-compare-at-requires
 compare-at-requires c κs = search needs
 
--- src/entry.rt:62:9
+-- src/entry.rt:87:9
 returns-2 : tie.Need-returns-2
-returns-2 c = λ A. bytes-decide (c .before .before .before .before .before .before .before .before .before .args .exact) (c .before .before .before .before .before .before .before .before .before .args .shape) (c .before .before .before .before .before .before .before .before .before .args .file .now) (c .before .before .before .before .before .before .before .before .before .args .list .now) (c .before .before .before .before .before .before .before .before .before .args .i) (c .before .before .before .before .before .before .offset-at .result) (c .before .before .before .before .before .before .before .before .before .args .cube) (c .before .before .before .before .before .before .before .before .before .args .right .now) A (c .before .before .before .before .before .before .offset-at .ensures) (c .before .before .before .before .before .states-at .ensures) (c .before .before .before .states-match .ensures) (not-false (c .before .before .before .states-match .result) (c .before .before .if1 .left)) (c .before .compare-at .ensures (c .if2 .taken) A)
+returns-2 c = λ A. rest-decides (c .before .before .before .before .before .before .before .before .before .args .exact) (c .before .before .before .before .before .before .before .before .before .args .shape) (c .before .before .before .before .before .before .before .before .before .args .file .now) (c .before .before .before .before .before .before .before .before .before .args .list .now) (c .before .before .before .before .before .before .before .before .before .args .i) (c .before .before .before .before .before .before .offset-at .result) (c .before .before .before .before .before .before .before .before .before .args .cube) (c .before .before .before .before .before .before .before .before .before .args .right .now) A (c .before .before .before .before .before .before .offset-at .ensures) (c .before .before .before .before .before .states-at .ensures) (c .before .before .before .states-match .ensures) (not-false (c .before .before .before .states-match .result) (c .before .before .if1 .left)) (c .before .compare-at .ensures (c .if2 .taken) A)
 
--- src/entry.rt:64:9
-load-entry-requires : tie.Need-load-entry-requires
-load-entry-requires c κs = search needs
+-- src/entry.rt:89:5
+built-matches-requires : tie.Need-built-matches-requires
+built-matches-requires c κs = search needs
 
--- src/entry.rt:67:9
-queues-match-requires : tie.Need-queues-match-requires
-queues-match-requires c κs = search needs
-
--- src/entry.rt:68:9
+-- src/entry.rt:66:1
 returns-3 : tie.Need-returns-3
-returns-3 c = λ A. queues-differ (c .before .before .before .before .before .before .before .before .before .before .before .before .before .before .args .exact) (c .before .before .before .before .before .before .before .before .before .before .before .before .before .before .args .shape) (c .before .before .before .before .before .before .before .before .before .before .before .before .before .before .args .file .now) (c .before .before .before .before .before .before .before .before .before .before .before .before .before .before .args .list .now) (c .before .before .before .before .before .before .before .before .before .before .before .before .before .before .args .i) (c .before .before .before .before .before .before .before .before .before .before .before .offset-at .result) (c .before .before .before .before .before .before .before .before .before .before .before .before .before .before .args .cube) (c .before .before .before .before .before .before .before .before .before .before .before .before .before .before .args .right .now) A (c .before .before .before .before .before .before .before .before .before .before .before .offset-at .ensures) (c .before .before .before .before .load-entry .ensures) (c .before .queues-match .ensures) (not-true (c .before .queues-match .result) (c .if3 .taken))
-
--- src/entry.rt:70:9
-tags-of-requires : tie.Need-tags-of-requires
-tags-of-requires c κs = search needs
-
--- src/entry.rt:72:5
-channel-matches-requires : tie.Need-channel-matches-requires
-channel-matches-requires c κs = search needs
-
--- src/entry.rt:41:1
-returns-4 : tie.Need-returns-4
-returns-4 c = λ A. channel-decides (c .before .before .before .before .before .before .before .before .before .before .before .before .before .before .before .before .before .args .exact) (c .before .before .before .before .before .before .before .before .before .before .before .before .before .before .before .before .before .args .shape) (c .before .before .before .before .before .before .before .before .before .before .before .before .before .before .before .before .before .args .file .now) (c .before .before .before .before .before .before .before .before .before .before .before .before .before .before .before .before .before .args .list .now) (c .before .before .before .before .before .before .before .before .before .before .before .before .before .before .before .before .before .args .i) (c .before .before .before .before .before .before .before .before .before .before .before .before .before .before .offset-at .result) (c .before .before .before .before .before .before .before .before .before .before .before .before .before .before .before .before .before .args .cube) (c .before .before .before .before .before .before .before .before .before .before .before .before .before .before .before .before .before .args .right .now) A (c .before .before .before .before .before .before .before .before .before .before .before .before .before .before .offset-at .ensures) (c .before .before .before .before .before .before .before .before .before .before .before .before .before .states-at .ensures) (c .before .before .before .before .before .before .before .before .before .before .before .states-match .ensures) (not-false (c .before .before .before .before .before .before .before .before .before .before .before .states-match .result) (c .before .before .before .before .before .before .before .before .before .before .if1 .left)) (c .before .before .before .before .before .before .before .load-entry .ensures) (c .before .before .before .before .queues-match .ensures) (not-false (c .before .before .before .before .queues-match .result) (c .before .before .before .if3 .left)) (c .before .before .tags-of .ensures) (c .channel-matches .ensures)
+returns-3 c = λ A. rest-decides (c .before .before .before .before .before .before .before .before .before .before .args .exact) (c .before .before .before .before .before .before .before .before .before .before .args .shape) (c .before .before .before .before .before .before .before .before .before .before .args .file .now) (c .before .before .before .before .before .before .before .before .before .before .args .list .now) (c .before .before .before .before .before .before .before .before .before .before .args .i) (c .before .before .before .before .before .before .before .offset-at .result) (c .before .before .before .before .before .before .before .before .before .before .args .cube) (c .before .before .before .before .before .before .before .before .before .before .args .right .now) A (c .before .before .before .before .before .before .before .offset-at .ensures) (c .before .before .before .before .before .before .states-at .ensures) (c .before .before .before .before .states-match .ensures) (not-false (c .before .before .before .before .states-match .result) (c .before .before .before .if1 .left)) (c .built-matches .ensures A)
 
 pub matches-at-spec : {M : Type 1} → statement M
 matches-at-spec =
@@ -73,9 +54,5 @@ matches-at-spec =
     returns
     compare-at-requires
     returns-2
-    load-entry-requires
-    queues-match-requires
-    returns-3
-    tags-of-requires
-    channel-matches-requires
-    returns-4)
+    built-matches-requires
+    returns-3)

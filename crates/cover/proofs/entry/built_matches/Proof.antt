@@ -1,0 +1,47 @@
+use borrow.Author.Tests.{not-true, not-false}
+use Rattle.cover.proofs.EntryLaws.{queues-differ, channel-decides}
+use native.Mathlib.Omega.{arith}
+use borrow.Author.Needs.{needs}
+use Rattle.cover.proofs.entry.built_matches.Statement.{statement}
+use Rattle.cover.proofs.entry.built_matches.Tie as tie
+use Rattle.cover.proofs.entry.built_matches.Reads as reads
+use Rattle.cover.proofs.entry.built_matches.Lts as lts
+use Rattle.matching.proofs.channel_matches.Reads as channel-matches-reads
+use Rattle.matching.proofs.queues_match.Reads as queues-match-reads
+use Rattle.matching.proofs.tags_of.Reads as tags-of-reads
+use Rattle.whole_file.proofs.entry.load_entry.Reads as load-entry-reads
+
+-- src/entry.rt:54:9
+load-entry-requires : tie.Need-load-entry-requires
+load-entry-requires c κs = search needs
+
+-- src/entry.rt:57:9
+queues-match-requires : tie.Need-queues-match-requires
+queues-match-requires c κs = search needs
+
+-- src/entry.rt:58:9
+returns : tie.Need-returns
+returns c = λ A. queues-differ (c .before .before .before .before .before .before .args .exact) (c .before .before .before .before .before .before .args .shape) (c .before .before .before .before .before .before .args .file .now) (c .before .before .before .before .before .before .args .at) (c .before .before .before .before .before .before .args .cube) (c .before .before .before .before .load-entry .ensures) (c .before .queues-match .ensures) (not-true (c .before .queues-match .result) (c .if1 .taken))
+
+-- src/entry.rt:60:9
+tags-of-requires : tie.Need-tags-of-requires
+tags-of-requires c κs = search needs
+
+-- src/entry.rt:62:5
+channel-matches-requires : tie.Need-channel-matches-requires
+channel-matches-requires c κs = search needs
+
+-- src/entry.rt:44:1
+returns-2 : tie.Need-returns-2
+returns-2 c = λ A. channel-decides (c .before .before .before .before .before .before .before .before .before .args .exact) (c .before .before .before .before .before .before .before .before .before .args .shape) (c .before .before .before .before .before .before .before .before .before .args .file .now) (c .before .before .before .before .before .before .before .before .before .args .at) (c .before .before .before .before .before .before .before .before .before .args .cube) A (c .before .before .before .before .before .before .before .load-entry .ensures) (c .before .before .before .before .queues-match .ensures) (not-false (c .before .before .before .before .queues-match .result) (c .before .before .before .if1 .left)) (c .before .before .tags-of .ensures) (c .channel-matches .ensures)
+
+pub built-matches-spec : {M : Type 1} → statement M
+built-matches-spec =
+    tie.close
+    (tie.spec
+    load-entry-requires
+    queues-match-requires
+    returns
+    tags-of-requires
+    channel-matches-requires
+    returns-2)
