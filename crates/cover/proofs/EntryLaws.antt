@@ -21,6 +21,7 @@ use Rattle.by_number.specs.Again.{offsetAt, cubeAt}
 use Rattle.matching.specs.Relation.{relation}
 use Rattle.matching.specs.Tags.{tagsOf}
 use Rattle.matching.specs.Match.{Sizes, Suits, queueRow, channelMatches}
+use Rattle.matching.proofs.Below.{and-false}
 use Rattle.matching.proofs.MatchLaws.{states-fail, queues-unlike, channel-left}
 use Rattle.by_bytes.specs.Against.{Against}
 
@@ -66,6 +67,12 @@ module _ (exact : Bool) (s : Shape) (f : List ℕ) (at : ℕ) (c : Cube) where
   pub queues-differ : {entry : Cube} {x : Bool} → entry ≡ loadEntry f at → x ≡ allBelow (min (s .processes) 4) (queueRow (s .variables) exact (entry .queues) (c .queues)) → x ≡ false
       → false ≡ rest (loadEntry f at)
   queues-differ {entry} z g h = sym (ap (λ (y : Bool). y && channelMatches s exact entry c) (sym g ∙ h)) ∙ ap rest z
+
+  -- one that has messages for which the cube has none
+  pub outnumbering : channelMatches s exact (loadEntry f at) c ≡ false → false ≡ rest (loadEntry f at)
+  outnumbering e =
+      let q = allBelow (min (s .processes) 4) (queueRow (s .variables) exact (loadEntry f at .queues) (c .queues)) in
+      sym (ap (λ (y : Bool). q && y) e ∙ and-false q)
 
   pub channel-decides : {entry : Cube} {left right : List ℕ} {x r : Bool} → Against s c right → entry ≡ loadEntry f at
       → x ≡ allBelow (min (s .processes) 4) (queueRow (s .variables) exact (entry .queues) (c .queues)) → x ≡ true → left ≡ tagsOf s entry
