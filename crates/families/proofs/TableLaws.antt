@@ -7,7 +7,7 @@ use native.Mathlib.Omega.{arith}
 use native.Mathlib.Decide.{ℕ-discrete, decLt}
 use lib.ListN.{length, getD, replicate, length-replicate, getD-replicate}
 use lib.Dec.{T, eqb, eqb→eq}
-use borrow.Author.Tests.{lt-ltb, le-ltb}
+use borrow.Author.Tests.{lt-ltb, le-ltb, lt-leb, le-leb}
 use Rattle.pws.specs.declared.Message.{Message}
 use Rattle.pws.specs.declared.Step.the-variants.{Serialise, Update}
 use Rattle.pws.specs.Program as pws
@@ -34,15 +34,31 @@ use Rattle.by_number.proofs.Tables.{table-length, table-number}
 use Rattle.matching.specs.Match.{queueRow}
 use Rattle.summary.specs.Slots.{word, putWord}
 use Rattle.summary.proofs.WordLaws.{word-same, word-other}
-use Rattle.families.specs.Family.{InFamily, FamilyHeld, Families, Recorded}
+use Rattle.families.specs.Family.{InFamily, FamilyHeld, Families, Recorded, newestValues}
 use Rattle.families.proofs.FullLaws.{family-held, family-update}
 use Rattle.families.proofs.SerialiseLaws.{family-serialise}
 
 -- ---- membership
 
-pub top-is : (ms : List Message) (n : ℕ) → 1 ≤ n → getD ms (n - 1) noMessage ≡ topmost (channelOf ms n)
+top-is : (ms : List Message) (n : ℕ) → 1 ≤ n → getD ms (n - 1) noMessage ≡ topmost (channelOf ms n)
 top-is ms zero l = absurd (omega arith)
 top-is ms (suc n) l = ap (λ (k : ℕ). getD ms k noMessage) {x = suc n - 1} {y = n} (omega arith)
+
+module _ (c : Cube) where
+  pub values-none : c .count ≡ 0 → replicate 4 0 ≡ newestValues c
+  unfolding newestValues
+  values-none e = sym (rw (lt-leb 1 (c .count) (omega arith)) refl)
+
+  pub values-many : 20 < c .count → replicate 4 0 ≡ newestValues c
+  unfolding newestValues
+  values-many e = sym (rw (le-leb 1 (c .count) (omega arith), lt-leb (c .count) 20 e) refl)
+
+  pub values-some : 1 ≤ c .count → c .count ≤ 20 → getD (c .messages) (c .count - 1) noMessage .snapshot ≡ newestValues c
+  unfolding newestValues
+  values-some a b = sym (rw (le-leb 1 (c .count) a, le-leb (c .count) 20 b) refl)
+
+  pub values-newest : 1 ≤ c .count → c .count ≤ 20 → newestValues c ≡ topmost (configurationOf c .memory .channel) .snapshot
+  values-newest a b = sym (values-some a b) ∙ ap (λ (m : Message). m .snapshot) (top-is (c .messages) (c .count) a)
 
 module _ (s : Shape) (e c : Cube) (few : s .processes ≤ 4) (narrow : s .variables ≤ 4) where
   abbrev queueTest : ℕ → ℕ → Bool

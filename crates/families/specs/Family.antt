@@ -1,12 +1,13 @@
 -- Families of configurations: what number 11 asks of an entry does not depend on most of its channel, so it is often asked of all of them at once.
 use Prim.Native.Nat.{ℕ, _-_, _<_, _≤_}
 use mathlib.Core.Path.{_≡_}
+use mathlib.Core.Bool.{cond, _&&_}
 use mathlib.Core.List.{List, [], _∷_, map}
-use lib.ListN.{length}
-use lib.Dec.{T}
+use lib.ListN.{length, getD, replicate}
+use lib.Dec.{T, leb}
 use Rattle.pws.specs.declared.Message.{Message}
 use Rattle.pws.specs.Program.{Shape}
-use Rattle.pws.specs.Machine.{Memory, Configuration}
+use Rattle.pws.specs.Machine.{Memory, Configuration, noMessage}
 use Rattle.pws.specs.Configurations.{Fits, ValueOf}
 use Rattle.pws.specs.Entries.{AboveList, entry}
 use Rattle.lists.specs.Values.{fills, pairwise}
@@ -35,6 +36,10 @@ FamilyHeld S es e = (d : Configuration) → Fits (ValueOf S) S d → InFamily S 
 -- numbers says nothing.
 abbrev pub Families : Shape → List Configuration → List ℕ → Type 0
 Families S es table = (i : ℕ) → i < 1024 → 1 ≤ word table i → word table i ≤ length es → FamilyHeld S es (entry es (word table i - 1))
+
+-- the values of the newest of at most 20 messages
+unfoldable pub newestValues : Cube → List ℕ
+newestValues c = cond (leb 1 (c .count) && leb (c .count) 20) (getD (c .messages) (c .count - 1) noMessage .snapshot) (replicate 4 0)
 
 -- a cube is in the family of an entry that stands in the table
 pub record Recorded (table f list : List ℕ) (n : ℕ) (s : file.Shape) (c : Cube) : Type 0 where

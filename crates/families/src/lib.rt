@@ -13,7 +13,7 @@ ghost use Rattle.lists.specs.Cubes.{topmost};
 ghost use Rattle.program_part.specs.ProgramPart.{shapeOf};
 ghost use Rattle.whole_file.specs.Cube.{configurationOf};
 ghost use Rattle.by_number.specs.Again.{cubeAt};
-ghost use Rattle.families.specs.Family.{InFamily, FamilyHeld, Families, Recorded};
+ghost use Rattle.families.specs.Family.{InFamily, FamilyHeld, Families, Recorded, newestValues};
 use by_number::entry_at;
 use matching::least;
 use matching::queues_match;
@@ -27,9 +27,9 @@ use summary::word_at;
 use whole_file::entry::Cube;
 use whole_file::entry::Queue;
 
-// The values of the newest message.
+// The values of the newest message; 0 where there is none.
 pub fn newest_values(cube: Cube) -> [u8; 4]
-    ensures { λ r. ⌜ (1 ≤ cube .count → cube .count ≤ 20 → r ≡ topmost (configurationOf cube .memory .channel) .snapshot) ⌝ }
+    ensures { λ r. ⌜ r ≡ newestValues cube ⌝ }
 {
     let n = cube.count;
     if n == 0 {
@@ -154,9 +154,12 @@ fn free_word(table: &[u8], row: usize) -> usize
 
 // The family of entry k, which the cube is, stands in the table from now on, if there is room in its row.
 pub fn put_family(table: &mut [u8], shape: Shape, cube: Cube, k: usize)
-    requires { ⌜ k < 524288 ⌝ }
     ensures { λ _. ⌜ (length (now (table .exit)) ≡ length (now (table .entry))) × ((S : pws.Shape) (es : List Configuration) → FamilyHeld S es (entry es k) → Families S es (now (table .entry)) → Families S es (now (table .exit))) ⌝ }
 {
+    // no list has so many entries
+    if 524288 <= k {
+        return;
+    }
     let at = free_word(table, row_of(shape, cube));
     put_word(table, at, k + 1);
 }

@@ -1,6 +1,6 @@
 // Values of an entry and of a cube, and numbers of them.
 ghost use mathlib.Core.Path.{_≡_};
-ghost use Prim.Native.Nat.{min};
+ghost use Prim.Native.Nat.{_+_, _*_, min};
 ghost use lib.ListN.{length};
 ghost use Rattle.whole_file.specs.Cube.{waitingOf};
 ghost use Rattle.program_part.specs.ProgramPart.{shapeOf};
@@ -33,6 +33,7 @@ pub fn related(exact: bool, a: u8, b: u8) -> bool
 
 // Four bytes as a number: they are compared at once.
 pub fn word(a: u8, b: u8, c: u8, d: u8) -> usize
+    ensures { λ r. ⌜ r ≡ a + 256 * b + 65536 * c + 16777216 * d ⌝ }
     ensures { λ r. ⌜ Word a b c d r ⌝ }
 {
     wide(a) + 256 * wide(b) + 65536 * wide(c) + 16777216 * wide(d)

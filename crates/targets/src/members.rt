@@ -25,9 +25,11 @@ pub fn put_member(
     k: usize,
     table: &mut [u8],
 )
-    requires { ⌜ k < 524288 ⌝ }
     ensures { λ _. ⌜ (length (now (table .exit)) ≡ length (now (table .entry))) × (k < n → Searches (now (file .entry)) (now (list .entry)) (now (sum .entry)) n shape → Families (shapeOf shape) (entriesOf (now (file .entry)) (now (list .entry)) n) (now (table .entry)) → Families (shapeOf shape) (entriesOf (now (file .entry)) (now (list .entry)) n) (now (table .exit))) ⌝ }
 {
+    if 524288 <= k {
+        return;
+    }
     let cube = entry_at(file, list, k);
     if count_member(table, shape, cube) != most {
         return;

@@ -60,7 +60,7 @@ add-result-2 c = search needs
 
 -- src/lib.rt:87:1
 returns-2 : tie.Need-returns-2
-returns-2 c = λ t. waits-is (c .before .before .before .before .before .before .before .args .file .now) (c .before .before .before .before .before .before .before .args .k) (c .before .before .before .before .before .before .before .pre) (c .before .before .before .before .before .cut .ensures) (c .before .before .before .before .if1 .left) (c .word .ensures) refl t
+returns-2 c = λ t. waits-is (c .before .before .before .before .before .before .before .args .file .now) (c .before .before .before .before .before .before .before .args .k) (c .before .before .before .before .before .before .before .pre) (c .before .before .before .before .before .cut .ensures) (c .before .before .before .before .if1 .left) (c .word .ensures .1) refl t
 
 pub waits-at-spec : {M : Type 1} → statement M
 waits-at-spec =

@@ -1,8 +1,9 @@
-use mathlib.Core.Path.{_≡_, refl}
+use mathlib.Core.Path.{_≡_, refl, _∙_}
 use native.Mathlib.Omega.{arith}
 use lib.ListN.{length}
 use borrow.Author.Needs.{needs}
 use Rattle.matching.proofs.ValueLaws.{length-mapped}
+use Rattle.families.proofs.TableLaws.{values-newest}
 use Rattle.targets.proofs.EntryLaws.{topped-is, with-memory-is}
 use Rattle.targets.proofs.with_memory.Statement.{statement}
 use Rattle.targets.proofs.with_memory.Tie as tie
@@ -26,4 +27,4 @@ with-memory-spec = tie.close (tie.spec
     -- array-copy-in-messages
     (λ c. search needs)
     -- returns-3
-    (λ c a b l m. let room : length (c .before .before .before .before .before .before .before .before .args .shape .messages) ≡ 20 = search (needs, length-mapped) in (with-memory-is (c .before .before .before .before .before .before .before .before .args .entry) (c .before .before .before .before .before .before .before .before .args .shape) (c .before .before .newest-values .result) _ (c .before .before .newest-values .ensures a b) (topped-is (c .before .before .before .before .before .before .before .before .args .shape .messages) (c .before .before .before .before .before .before .before .before .args .shape .count) (c .before .before .newest-values .result) l (omega (arith, room))), (refl, refl))))
+    (λ c a b l m. let room : length (c .before .before .before .before .before .before .before .before .args .shape .messages) ≡ 20 = search (needs, length-mapped) in (with-memory-is (c .before .before .before .before .before .before .before .before .args .entry) (c .before .before .before .before .before .before .before .before .args .shape) (c .before .before .newest-values .result) _ (c .before .before .newest-values .ensures ∙ values-newest (c .before .before .before .before .before .before .before .before .args .entry) a b) (topped-is (c .before .before .before .before .before .before .before .before .args .shape .messages) (c .before .before .before .before .before .before .before .before .args .shape .count) (c .before .before .newest-values .result) l (omega (arith, room))), (refl, refl))))

@@ -29,7 +29,7 @@ values-related-spec = tie.close (tie.spec
     -- word-requires-2
     (λ c κs. search needs)
     -- returns
-    (λ c. same-four (c .before .before .before .args .exact) (c .before .before .before .args .t2) (c .before .before .before .args .t3) (search needs) (search needs) (same-bytes (c .before .before .word .ensures) (c .before .word2 .ensures) (c .if1 .taken)))
+    (λ c. same-four (c .before .before .before .args .exact) (c .before .before .before .args .t2) (c .before .before .before .args .t3) (search needs) (search needs) (same-bytes (c .before .before .word .ensures .1) (c .before .word2 .ensures .1) (c .if1 .taken)))
     -- array-read-related
     (λ c. search needs)
     -- array-read-related-2
