@@ -1,7 +1,7 @@
 -- An entry against a cube by the bytes of its records.
 use Prim.Native.Nat.{ℕ, zero, suc, _+_, _*_, _-_, _/_, _%_, _<_, _≤_, min}
 use mathlib.Core.Path.{_≡_, refl, sym, ap, ap₂, subst, _∙_}
-use mathlib.Core.Bool.{Bool, true, false, _&&_, _||_, not, true≢false, false≢true}
+use mathlib.Core.Bool.{Bool, true, false, _&&_, not, true≢false, false≢true}
 use mathlib.Core.List.{List, [], _∷_}
 use mathlib.Core.Option.{some}
 use native.Mathlib.Omega.{arith}
@@ -256,17 +256,6 @@ points-next {zs} {own} {kept} {m} {n} {p} {z} {t} {a} {b} {x} w l e o g h u v k 
         | no f ↦ w .each i (omega arith)
       ];
     }
-
--- among the first p pointers one is at the first message, if it was seen
-pub record Seen (zs : List ℕ) (first : Bool) (p : ℕ) : Type 0 where
-  pub one : first ≡ true → (i : ℕ) × (i < p) × (getD zs i 0 ≡ 1)
-
-pub seen-next : {zs : List ℕ} {first next : Bool} {p z : ℕ} → Seen zs first p → z ≡ getD zs p 0 → next ≡ first || eqb z 1 → Seen zs next (p + 1)
-seen-next {zs} {first} {next} {p} {z} w e g = record { one = at first w g }
-  where
-    at : (b : Bool) → Seen zs b p → next ≡ b || eqb z 1 → next ≡ true → (i : ℕ) × (i < p + 1) × (getD zs i 0 ≡ 1)
-    at true v h t = let y = v .one refl in (y .0, omega (arith, y .1), y .2)
-    at false v h t = (p, omega arith, sym e ∙ eqb-true z 1 (sym h ∙ t))
 
 low-at : (n : ℕ) (zs : List ℕ) (p : ℕ) → p < n → lowestBelow n zs ≤ getD zs p 0
 low-at zero zs p l = absurd (omega arith)

@@ -18,7 +18,6 @@ use matching::waiting;
 use matching::word;
 use program_part::bytes::both;
 use program_part::bytes::cut;
-use program_part::bytes::either;
 use program_part::bytes::wide;
 use program_part::program::Shape;
 use program_part::record::is_kind;
@@ -69,13 +68,11 @@ fn small(x: u8) -> usize
     x as usize
 }
 
-// Each pointer of the entry is at the message that stands for the one that the cube's is at, and one of them is at the first.
+// Each pointer of the entry is at the message that stands for the one that the cube's is at.
 fn points_same(processes: usize, pointers: [u8; 4], own: [u8; 4], kept: [u8; 20], m: usize) -> bool
     ensures { λ r. ⌜ (r ≡ true → PointsSame processes pointers own kept m) ⌝ }
-    ensures { λ r. ⌜ (r ≡ true → OneFirst processes pointers) ⌝ }
 {
     let n = least(processes, 4);
-    let mut first = false;
     for p in 0..n {
         let z = wide(pointers[p]);
         if !both(0 < z, z <= least(m, 20)) {
@@ -84,9 +81,21 @@ fn points_same(processes: usize, pointers: [u8; 4], own: [u8; 4], kept: [u8; 20]
         if small(kept[z - 1]) + 1 != wide(own[p]) {
             return false;
         }
-        first = either(first, z == 1);
     }
-    first
+    true
+}
+
+// One of the pointers is at the first message.
+fn one_first(processes: usize, pointers: [u8; 4]) -> bool
+    ensures { λ r. ⌜ (r ≡ true → OneFirst processes pointers) ⌝ }
+{
+    let n = least(processes, 4);
+    for p in 0..n {
+        if pointers[p] == 1 {
+            return true;
+        }
+    }
+    false
 }
 
 // The 12 at a place is of the queue q.
@@ -217,6 +226,9 @@ pub fn compare_at(
     let pointers = [file[at + 5], file[at + 6], file[at + 7], file[at + 8]];
     let own = cube.pointers;
     if !points_same(shape.processes, pointers, own, kept, m) {
+        return not_same();
+    }
+    if !one_first(shape.processes, pointers) {
         return not_same();
     }
     let messages = cube.messages;

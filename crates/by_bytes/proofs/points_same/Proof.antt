@@ -1,11 +1,11 @@
-use Prim.Native.Nat.{_-_, _<_}
+use Prim.Native.Nat.{_-_}
 use mathlib.Core.Path.{ap, sym, _∙_}
 use mathlib.Core.Bool.{false≢true}
+use native.Mathlib.Omega.{arith}
 use borrow.Author.Tests.{not-false, ltb-true, leb-true}
 use lib.Dec.{ltb, leb}
 use Rattle.program_part.proofs.ProgramLaws.{and-true}
-use Rattle.by_bytes.proofs.SameLaws.{Points, points-begin, points-next, Seen, seen-next}
-use native.Mathlib.Omega.{arith}
+use Rattle.by_bytes.proofs.SameLaws.{Points, points-begin, points-next}
 use borrow.Author.Needs.{needs}
 use Rattle.by_bytes.proofs.points_same.Statement.{statement}
 use Rattle.by_bytes.proofs.points_same.Tie as tie
@@ -14,90 +14,85 @@ use Rattle.by_bytes.proofs.points_same.Lts as lts
 use Rattle.by_bytes.proofs.small.Reads as small-reads
 use Rattle.matching.proofs.least.Reads as least-reads
 use Rattle.program_part.proofs.bytes.both.Reads as both-reads
-use Rattle.program_part.proofs.bytes.either.Reads as either-reads
 use Rattle.program_part.proofs.bytes.wide.Reads as wide-reads
 
 abbrev Inv-loop : tie.InvT-loop
-Inv-loop processes m pointers own kept n first₀ p₀ first p = Points pointers own kept m n p × Seen pointers first p
+Inv-loop processes m pointers own kept n p₀ p = Points pointers own kept m n p
 
 abbrev μ-loop : tie.MeasureT-loop
-μ-loop processes m pointers own kept n first₀ p₀ first p = n - p
+μ-loop processes m pointers own kept n p₀ p = n - p
 
--- src/lib.rt:73:9
+-- src/same.rt:77:9
 least-requires : tie.Need-least-requires Inv-loop μ-loop
 least-requires c κs = search needs
 
--- src/lib.rt:75:5
+-- src/same.rt:78:5
 loop-holds : tie.Need-loop-holds Inv-loop μ-loop
-loop-holds c = (points-begin _ _ _ _ _, record { one = λ t. absurd (false≢true t) })
+loop-holds c = points-begin _ _ _ _ _
 
--- src/lib.rt:76:22
+-- src/same.rt:79:22
 array-read-wide : tie.Need-array-read-wide Inv-loop μ-loop
 array-read-wide c = omega (arith, c .loop-test .taken, c .before .before .least .ensures)
 
--- src/lib.rt:76:13
+-- src/same.rt:79:13
 wide-requires : tie.Need-wide-requires Inv-loop μ-loop
 wide-requires c κs = search needs
 
--- src/lib.rt:77:30
+-- src/same.rt:80:30
 least-requires-2 : tie.Need-least-requires-2 Inv-loop μ-loop
 least-requires-2 c κs = search needs
 
--- src/lib.rt:77:13
+-- src/same.rt:80:13
 both-requires : tie.Need-both-requires Inv-loop μ-loop
 both-requires c κs = search needs
 
--- src/lib.rt:78:13
+-- src/same.rt:81:13
 returns : tie.Need-returns Inv-loop μ-loop
-returns c = (λ t. absurd (false≢true t), λ t. absurd (false≢true t))
+returns c = λ t. absurd (false≢true t)
 
--- src/lib.rt:80:23
+-- src/same.rt:83:23
 sub-small : tie.Need-sub-small Inv-loop μ-loop
 sub-small c = let y = and-true (ltb 0 (c .before .before .before .wide .result)) (leb (c .before .before .before .wide .result) (c .before .before .least2 .result)) (sym (c .before .both .ensures) ∙ not-false (c .before .both .result) (c .if1 .left)) in let u = ltb-true 0 (c .before .before .before .wide .result) (y .0) in let v = leb-true (c .before .before .before .wide .result) (c .before .before .least2 .result) (y .1) in omega arith
 
--- src/lib.rt:80:18
+-- src/same.rt:83:18
 array-read-small : tie.Need-array-read-small Inv-loop μ-loop
 array-read-small c = let y = and-true (ltb 0 (c .before .before .before .wide .result)) (leb (c .before .before .before .wide .result) (c .before .before .least2 .result)) (sym (c .before .both .ensures) ∙ not-false (c .before .both .result) (c .if1 .left)) in let u = ltb-true 0 (c .before .before .before .wide .result) (y .0) in let v = leb-true (c .before .before .before .wide .result) (c .before .before .least2 .result) (y .1) in omega (arith, c .before .before .least2 .ensures)
 
--- src/lib.rt:80:12
+-- src/same.rt:83:12
 small-requires : tie.Need-small-requires Inv-loop μ-loop
 small-requires c κs = search needs
 
--- src/lib.rt:80:12
+-- src/same.rt:83:12
 add-if2 : tie.Need-add-if2 Inv-loop μ-loop
 add-if2 c = omega (arith, c .small .ensures .1)
 
--- src/lib.rt:80:43
+-- src/same.rt:83:43
 array-read-wide-2 : tie.Need-array-read-wide-2 Inv-loop μ-loop
 array-read-wide-2 c = omega (arith, c .before .before .before .before .before .loop-test .taken, c .before .before .before .before .before .before .before .least .ensures)
 
--- src/lib.rt:80:38
+-- src/same.rt:83:38
 wide-requires-2 : tie.Need-wide-requires-2 Inv-loop μ-loop
 wide-requires-2 c κs = search needs
 
--- src/lib.rt:81:13
+-- src/same.rt:84:13
 returns-2 : tie.Need-returns-2 Inv-loop μ-loop
-returns-2 c = (λ t. absurd (false≢true t), λ t. absurd (false≢true t))
+returns-2 c = λ t. absurd (false≢true t)
 
--- src/lib.rt:83:9
-either-requires : tie.Need-either-requires Inv-loop μ-loop
-either-requires c κs = search needs
-
--- src/lib.rt:75:9
+-- src/same.rt:78:9
 add-p : tie.Need-add-p Inv-loop μ-loop
-add-p c = omega (arith, c .before .before .before .before .before .before .before .before .loop-test .taken, c .before .before .before .before .before .before .before .before .before .before .least .ensures)
+add-p c = omega (arith, c .before .before .before .before .before .before .before .loop-test .taken, c .before .before .before .before .before .before .before .before .before .least .ensures)
 
--- src/lib.rt:75:5
+-- src/same.rt:78:5
 loop-less : tie.Need-loop-less Inv-loop μ-loop
-loop-less c = omega (arith, c .before .before .before .before .before .before .before .before .loop-test .taken)
+loop-less c = omega (arith, c .before .before .before .before .before .before .before .loop-test .taken)
 
--- src/lib.rt:75:5
+-- src/same.rt:78:5
 loop-again : tie.Need-loop-again Inv-loop μ-loop
-loop-again c = (points-next (c .before .before .before .before .before .before .before .before .before .loop .inv .0) (c .before .before .before .before .before .before .before .before .loop-test .taken) (c .before .before .before .before .before .before .before .wide .ensures) (c .before .before .before .before .before .before .least2 .ensures) (c .before .before .before .before .before .both .ensures) (not-false (c .before .before .before .before .before .both .result) (c .before .before .before .before .if1 .left)) (c .before .before .before .small .ensures .0) (c .before .before .wide2 .ensures) (omega (arith, c .before .if2 .left)), seen-next (c .before .before .before .before .before .before .before .before .before .loop .inv .1) (c .before .before .before .before .before .before .before .wide .ensures) (c .either .ensures))
+loop-again c = points-next (c .before .before .before .before .before .before .before .before .loop .inv) (c .before .before .before .before .before .before .before .loop-test .taken) (c .before .before .before .before .before .before .wide .ensures) (c .before .before .before .before .before .least2 .ensures) (c .before .before .before .before .both .ensures) (not-false (c .before .before .before .before .both .result) (c .before .before .before .if1 .left)) (c .before .before .small .ensures .0) (c .before .wide2 .ensures) (omega (arith, c .if2 .left))
 
--- src/lib.rt:69:1
+-- src/same.rt:68:1
 returns-3 : tie.Need-returns-3 Inv-loop μ-loop
-returns-3 c = (λ t p l. c .before .loop .inv .0 .each p (omega (arith, c .loop-test .left, c .before .before .least .ensures)), λ t. let y = c .before .loop .inv .1 .one t in (y .0, omega (arith, y .1, c .before .loop .inv .0 .most, c .before .before .least .ensures), y .2))
+returns-3 c = λ t p l. c .before .loop .inv .each p (omega (arith, c .loop-test .left, c .before .before .least .ensures))
 
 pub points-same-spec : {M : Type 1} → statement M
 points-same-spec =
@@ -119,7 +114,6 @@ points-same-spec =
     array-read-wide-2
     wide-requires-2
     returns-2
-    either-requires
     add-p
     loop-less
     loop-again
