@@ -1,4 +1,5 @@
-//! Lists by their groups, a group being the entries of equal local states: many groups, one group, one entry, and equal entries.
+//! Lists by their groups, a group being the entries of equal local states: many groups, one group, one entry, equal entries, and groups of
+//! which families are whole.
 
 use crate::random;
 use crate::search::closed_list;
@@ -158,6 +159,38 @@ pub fn lists(r: &mut Random, each: &mut dyn FnMut(&str, &Program, &[Configuratio
         each("every FF filled in", &program, &filled);
         filled.remove(r.below(filled.len()));
         each("every FF filled in, but one", &program, &filled);
+    }
+    // Families: values in queues and in messages decide which configurations of some local states are above the list. Whole, without an
+    // entry, with FFs filled in one by one, and that without an entry.
+    for (processes, variables) in [(1, 1), (1, 2), (1, 3), (2, 1)] {
+        for operation in [Operation::Arw { variable: 0, old: 1, new: 0 }, Operation::Read { variable: 0, value: 1 }] {
+            let values = std::array::from_fn(|v| if v < variables { 2 } else { 0 });
+            let mut states = vec![1; processes];
+            states[0] = 3;
+            let mut program = idle(processes, variables, values, &states);
+            program.initial[0] = 2;
+            program.targets = vec![[1, 0, 0, 0]];
+            program.transitions.push(Transition { process: 0, from: 0, operation, to: 1 });
+            let entries = closed_list(&program, &[], 10_000).expect("a closed list");
+            each("families", &program, &entries);
+            for _ in 0..20 {
+                let mut fewer = entries.clone();
+                fewer.remove(r.below(fewer.len()));
+                each("families without an entry", &program, &fewer);
+            }
+            let mut split = Vec::new();
+            for entry in &entries {
+                let parts = fillings(&program, entry, 4_096).expect("few fillings");
+                if r.below(3) == 0 && parts.len() <= 64 {
+                    split.extend(parts);
+                } else {
+                    split.push(entry.clone());
+                }
+            }
+            each("families with FFs filled in", &program, &split);
+            split.remove(r.below(split.len()));
+            each("families with FFs filled in, but one", &program, &split);
+        }
     }
     let (program, entries) = thousands_of_groups();
     each("thousands of groups", &program, &entries);
