@@ -180,11 +180,9 @@ pub fn lists(r: &mut Random, each: &mut dyn FnMut(&str, &Program, &[Configuratio
             }
             let mut split = Vec::new();
             for entry in &entries {
-                let parts = fillings(&program, entry, 4_096).expect("few fillings");
-                if r.below(3) == 0 && parts.len() <= 64 {
-                    split.extend(parts);
-                } else {
-                    split.push(entry.clone());
+                match fillings(&program, entry, 64) {
+                    Some(parts) if r.below(3) == 0 => split.extend(parts),
+                    _ => split.push(entry.clone()),
                 }
             }
             each("families with FFs filled in", &program, &split);
