@@ -14,7 +14,7 @@ ghost use Rattle.program_part.specs.ProgramPart.{shapeOf};
 ghost use Rattle.whole_file.specs.Cube.{configurationOf};
 ghost use Rattle.by_number.specs.Again.{cubeAt};
 ghost use Rattle.families.specs.Family.{InFamily, FamilyHeld, Families, Recorded, newestValues};
-use by_number::entry_at;
+use by_number::offset_at;
 use matching::least;
 use matching::queues_match;
 use matching::states_match;
@@ -26,6 +26,7 @@ use summary::put_word;
 use summary::word_at;
 use whole_file::entry::Cube;
 use whole_file::entry::Queue;
+use whole_file::entry::load_entry;
 
 // The values of the newest message; 0 where there is none.
 pub fn newest_values(cube: Cube) -> [u8; 4]
@@ -64,11 +65,46 @@ fn newest_fits(entry: Cube, cube: Cube) -> bool
     values_related(true, newest_values(entry), newest_values(cube))
 }
 
+// The values of the newest of the 11s that follow the 10 at a place, and any if there is none. Of an entry as it stands in a file, these are its newest values.
+fn values_at(file: &[u8], at: usize) -> [u8; 4] {
+    let n = file.len();
+    let none = [255u8; 4];
+    if n <= at {
+        return none;
+    }
+    let room = n - at;
+    let mut last = 2;
+    for i in 0..20 {
+        let next = 9 + 7 * i;
+        if room < next + 7 {
+            break;
+        }
+        if file[at + next] != 17 {
+            break;
+        }
+        last = next;
+    }
+    if last == 2 {
+        return none;
+    }
+    [
+        file[at + last + 3],
+        file[at + last + 4],
+        file[at + last + 5],
+        file[at + last + 6],
+    ]
+}
+
 // The cube is in the family of entry k.
 fn in_family(file: &[u8], list: &[u8], shape: Shape, k: usize, cube: Cube) -> bool
     ensures { λ r. ⌜ (r ≡ true → shape .processes ≤ 4 → shape .variables ≤ 4 → InFamily (shapeOf shape) (configurationOf (cubeAt (now (file .entry)) (now (list .entry)) k)) (configurationOf cube)) ⌝ }
 {
-    let entry = entry_at(file, list, k);
+    let at = offset_at(list, k);
+    // most families of a row that the cube is not in are told by their newest values
+    if !values_related(true, values_at(file, at), newest_values(cube)) {
+        return false;
+    }
+    let entry = load_entry(file, at);
     let states = entry.states;
     let own = cube.states;
     if !states_match(shape.processes, states, own) {
