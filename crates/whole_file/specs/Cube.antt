@@ -77,6 +77,10 @@ loadFrom (suc bytes) f at l =
 unfoldable pub loaded : List ℕ → ℕ → Loaded
 loaded f at = choose (ltb at (length f)) (λ _. loadFrom (length f) f (at + 9) nothingLoaded) (λ _. nothingLoaded)
 
+-- an entry with these states and pointers
+abbrev pub headed : List ℕ → List ℕ → Loaded → Cube
+headed states pointers l = record { states = states; pointers = pointers; queues = l .queues; messages = l .messages; count = l .count }
+
 unfoldable pub loadEntry : List ℕ → ℕ → Cube
 loadEntry f at =
     record {

@@ -3,7 +3,7 @@ ghost use mathlib.Core.Path.{_≡_};
 ghost use Prim.Native.Nat.{ℕ, _+_, _*_, _≤_, _<_};
 ghost use lib.ListN.{length, getD};
 ghost use Rattle.program_part.specs.Records.{messageAt};
-ghost use Rattle.whole_file.specs.Cube.{loadsMessage, loadsWaiting, pushed, loaded, loadEntry};
+ghost use Rattle.whole_file.specs.Cube.{loadsMessage, loadsWaiting, pushed, headed, loaded, loadEntry};
 use program_part::bytes::both;
 use program_part::bytes::byte_at;
 use program_part::bytes::cut;
@@ -86,16 +86,16 @@ fn loads_waiting(file: &[u8], at: usize) -> bool
     )
 }
 
-// The queues and messages of an entry.
+// The queues and messages of an entry, so far: the proofs speak of them.
 pub struct Loaded {
     pub queues: [Queue; 16],
     pub messages: [Message; 20],
     pub count: usize,
 }
 
-// The records that follow the 10 at a place.
-fn load_records(file: &[u8], at: usize) -> Loaded
-    ensures { λ r. ⌜ r ≡ loaded (now (file .entry)) at ⌝ }
+// The entry with these states and pointers, and with the records that follow the 10 at a place.
+fn load_records(file: &[u8], at: usize, states: [u8; 4], pointers: [u8; 4]) -> Cube
+    ensures { λ r. ⌜ r ≡ headed states pointers (loaded (now (file .entry)) at) ⌝ }
 {
     let none = [0u8; 9];
     let snapshot = [0u8; 4];
@@ -110,7 +110,9 @@ fn load_records(file: &[u8], at: usize) -> Loaded
     }; 20];
     let mut count = 0;
     if file.len() <= at {
-        return Loaded {
+        return Cube {
+            states: states,
+            pointers: pointers,
             queues: queues,
             messages: messages,
             count: count,
@@ -131,7 +133,9 @@ fn load_records(file: &[u8], at: usize) -> Loaded
             break;
         }
     }
-    Loaded {
+    Cube {
+        states: states,
+        pointers: pointers,
         queues: queues,
         messages: messages,
         count: count,
@@ -142,6 +146,12 @@ fn load_records(file: &[u8], at: usize) -> Loaded
 pub fn load_entry(file: &[u8], at: usize) -> Cube
     ensures { λ r. ⌜ r ≡ loadEntry (now (file .entry)) at ⌝ }
 {
+    // one test for the record, and not one for each byte
+    if !cut(file, at, 8) {
+        let first = [file[at + 1], file[at + 2], file[at + 3], file[at + 4]];
+        let last = [file[at + 5], file[at + 6], file[at + 7], file[at + 8]];
+        return load_records(file, at, first, last);
+    }
     let states = [
         field(file, at, 1),
         field(file, at, 2),
@@ -154,14 +164,5 @@ pub fn load_entry(file: &[u8], at: usize) -> Cube
         field(file, at, 7),
         field(file, at, 8),
     ];
-    let records = load_records(file, at);
-    let queues = records.queues;
-    let messages = records.messages;
-    Cube {
-        states: states,
-        pointers: pointers,
-        queues: queues,
-        messages: messages,
-        count: records.count,
-    }
+    load_records(file, at, states, pointers)
 }

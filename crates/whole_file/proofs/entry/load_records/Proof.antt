@@ -9,24 +9,24 @@ use Rattle.whole_file.specs.declared.entry.Loaded.{Loaded}
 use Rattle.whole_file.specs.declared.entry.Queue.{Queue}
 use Rattle.program_part.specs.Bytes.{byte}
 use Rattle.whole_file.specs.Tally.{queueAt}
-use Rattle.whole_file.specs.Cube.{noQueue, pushed, loadsMessage, loadsWaiting, moreMessage, moreWaiting}
+use Rattle.whole_file.specs.Cube.{noQueue, headed, pushed, loadsMessage, loadsWaiting, moreMessage, moreWaiting}
 use Rattle.whole_file.proofs.CubeLaws.{message-loads, waiting-loads, Loading, loading-begin, loaded-nothing, loading-message, loading-waiting, loading-ends}
 use borrow.Author.Needs.{needs}
 use Rattle.whole_file.proofs.entry.load_records.Statement.{statement}
 use Rattle.whole_file.proofs.entry.load_records.Tie as tie
 
 abbrev Inv-loop : tie.InvT-loop
-Inv-loop file at queues₀ messages₀ count₀ k₀ queues messages count k = Loading file at (record { queues = queues; messages = messages; count = count }) k
+Inv-loop file at states pointers queues₀ messages₀ count₀ k₀ queues messages count k = Loading file at (record { queues = queues; messages = messages; count = count }) k
 
 abbrev μ-loop : tie.MeasureT-loop
-μ-loop file at queues₀ messages₀ count₀ k₀ queues messages count k = length file - k
+μ-loop file at states pointers queues₀ messages₀ count₀ k₀ queues messages count k = length file - k
 
 pub load-records-spec : {M : Type 1} → statement M
 load-records-spec = tie.close (tie.spec
     Inv-loop
     μ-loop
     -- returns 94:9
-    (λ c. sym (loaded-nothing (c .before .before .args .file .now) (c .before .before .args .at) (c .if1 .taken)))
+    (λ c. sym (ap (headed (c .before .before .args .states) (c .before .before .args .pointers)) (loaded-nothing (c .before .before .args .file .now) (c .before .before .args .at) (c .if1 .taken))))
     -- add-k 100:17
     (λ c. search needs)
     -- loop-holds 101:5
@@ -80,4 +80,4 @@ load-records-spec = tie.close (tie.spec
     -- loop-again-2 101:5
     (λ c. let f = c .before .before .before .before .before .before .before .before .before .before .before .before .before .before .args .file .now in let k = c .before .before .before .before .before .before .before .before .before .before .before .loop .k in let q : 4 * c .before .before .before .before .before .wide .result + c .before .before .before .wide2 .result ≡ queueAt f k = ap₂ (λ (a b : ℕ). 4 * a + b) (c .before .before .before .before .before .wide .ensures ∙ c .before .before .before .before .before .before .field .ensures) (c .before .before .before .wide2 .ensures ∙ c .before .before .before .before .field2 .ensures) in rw (c .pushed .ensures, c .before .field3 .ensures, q) (loading-waiting (c .before .before .before .before .before .before .before .before .before .before .before .loop .inv) (sym (c .before .before .before .before .before .before .before .before .before .before .loads-message .ensures) ∙ c .before .before .before .before .before .before .before .before .before .if2 .left) (sym (c .before .before .before .before .before .before .before .before .loads-waiting .ensures) ∙ c .before .before .before .before .before .before .before .if3 .taken)))
     -- returns-2 78:1
-    (λ c. sym (loading-ends (c .before .before .before .before .loop .inv) (sym (c .before .before .before .loads-message .ensures) ∙ c .before .before .if2 .left) (sym (c .before .loads-waiting .ensures) ∙ c .if3 .left))))
+    (λ c. sym (ap (headed (c .before .before .before .before .before .before .before .args .states) (c .before .before .before .before .before .before .before .args .pointers)) (loading-ends (c .before .before .before .before .loop .inv) (sym (c .before .before .before .loads-message .ensures) ∙ c .before .before .if2 .left) (sym (c .before .loads-waiting .ensures) ∙ c .if3 .left)))))
