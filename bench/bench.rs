@@ -184,4 +184,5 @@ fn main() {
     let found = inputs::found();
     bench.list("(2, 2; 2), from a backward search", &found);
     bench.list("(2, 2; 2), its FFs split in every third entry", &inputs::split(&found));
+    bench.list("(2, 2; 2), from a backward search for a read", &inputs::found_for_read());
 }

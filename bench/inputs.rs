@@ -121,14 +121,23 @@ pub fn many_targets(processes: usize, variables: usize, targets: u8) -> Listing 
     Listing { program, entries }
 }
 
-/// What a backward search finds for an arw that needs a 1, in a state where its process does not start: entries with values.
-pub fn found() -> Listing {
+/// What a backward search finds for an operation that needs a 1, in a state where its process does not start: entries with values. Of an arw the
+/// newest value decides, of a read that of any message which its process has before it.
+fn found_for(operation: Operation) -> Listing {
     let mut program = shape(2, 2, vec![3, 1]);
     program.initial[0] = 2;
-    program.transitions.push(Transition { process: 0, from: 0, operation: Operation::Arw { variable: 0, old: 1, new: 0 }, to: 1 });
+    program.transitions.push(Transition { process: 0, from: 0, operation, to: 1 });
     program.targets.push([1, 0, 0, 0]);
     let entries = closed_list(&program, &[], 524_288).expect("a closed list");
     Listing::of(program, &entries)
+}
+
+pub fn found() -> Listing {
+    found_for(Operation::Arw { variable: 0, old: 1, new: 0 })
+}
+
+pub fn found_for_read() -> Listing {
+    found_for(Operation::Read { variable: 0, value: 1 })
 }
 
 /// The same sets with other entries: in every third one, an FF chosen by chance is split into its values, so that only several entries
