@@ -1,3 +1,4 @@
 pub mod TracedLaws
+pub mod LeftLaws
+pub mod PlacedLaws
 pub mod SameLaws
-pub mod CountLaws

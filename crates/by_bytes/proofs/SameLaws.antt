@@ -1,4 +1,4 @@
--- An entry against a cube by the bytes of its records.
+-- What the records of an entry load, and its 12s against the queues of a cube.
 use Prim.Native.Nat.{ℕ, zero, suc, _+_, _*_, _-_, _/_, _%_, _<_, _≤_, min}
 use mathlib.Core.Path.{_≡_, refl, sym, ap, ap₂, subst, _∙_}
 use mathlib.Core.Bool.{Bool, true, false, _&&_, not, true≢false, false≢true}
@@ -17,24 +17,17 @@ use Rattle.program_part.specs.Bytes.{byte, cut}
 use Rattle.program_part.specs.Records.{isKind, messageAt}
 use Rattle.program_part.proofs.ProgramLaws.{and-true}
 use Rattle.whole_file.specs.declared.entry.Queue.{Queue}
-use Rattle.whole_file.specs.declared.entry.Cube.{Cube}
 use Rattle.whole_file.specs.declared.entry.Loaded.{Loaded}
 use Rattle.whole_file.specs.Tally.{queueAt}
-use Rattle.whole_file.specs.Cube.{noQueue, emptyQueue, waitingOf, pushed, loadsMessage, loadsWaiting, nothingLoaded, moreMessage, moreWaiting, loaded, loadEntry, configurationOf}
-use Rattle.whole_file.proofs.CubeLaws.{Loading, loading-begin, loading-message, loading-waiting, loading-ends}
-use Rattle.lists.specs.Values.{pairwise}
+use Rattle.whole_file.specs.Cube.{noQueue, emptyQueue, waitingOf, pushed, loadsMessage, loadsWaiting, nothingLoaded, moreMessage, moreWaiting, loadFrom, loaded, loadEntry}
+use Rattle.whole_file.proofs.CubeLaws.{message-loads, load-message, load-waiting, load-ends, Loading, loading-begin, loading-message, loading-waiting, loading-ends}
 use Rattle.lists.specs.Matching.{subsequence, queueMatches}
 use Rattle.matching.specs.Relation.{relation}
 use Rattle.matching.specs.Word.{Word}
-use Rattle.matching.specs.Tags.{labelNumber, tagOf, tagsOf, lowestBelow, lowestPointer}
-use Rattle.matching.specs.Match.{queueRow, channelMatches}
-use Rattle.matching.proofs.Below.{and-false, all-true, all-equal}
+use Rattle.matching.specs.Match.{queueRow}
+use Rattle.matching.proofs.Below.{and-false, all-equal}
 use Rattle.matching.proofs.ValueLaws.{newest-at, same-bytes}
-use Rattle.matching.proofs.TagLaws.{tag-is}
-use Rattle.matching.proofs.MarkLaws.{tags-at}
-use Rattle.by_bytes.specs.Same.{SameLabel, PointsSame, OneFirst, WaitsAt, HeldFrom, none, more}
-use Rattle.by_bytes.specs.Against.{Against}
-use Rattle.by_bytes.proofs.TracedLaws.{maskIn, Traced, valuesMatch, traced-matches}
+use Rattle.by_bytes.specs.Same.{Kinds, Stands, WaitsAt, HeldFrom, none, more}
 
 -- ---- tests
 
@@ -53,142 +46,6 @@ nothing-last (x ∷ xs) e = absurd (omega arith)
 pub not-cut : (f : List ℕ) (k n : ℕ) {x : Bool} → x ≡ cut f k n → x ≡ false → k + n < length f
 unfolding cut
 not-cut f k n e g = omega (arith, leb-false (length f - k) n (sym e ∙ g))
-
--- ---- the messages with a role
-
--- the places of those of the first n tags that have a role
-pub record Kept (tags : List ℕ) (n : ℕ) (kept : List ℕ) (m : ℕ) : Type 0 where
-  pub few : m ≤ n
-  pub room : length kept ≡ 20
-  pub low : (i : ℕ) → i < m → getD kept i 0 < n
-  pub rises : (i j : ℕ) → i < j → j < m → getD kept i 0 < getD kept j 0
-  pub role : (i : ℕ) → i < m → 65536 ≤ getD tags (getD kept i 0) 0
-  pub all : (j : ℕ) → j < n → 65536 ≤ getD tags j 0 → (i : ℕ) × (i < m) × (getD kept i 0 ≡ j)
-
-kept-skip : {tags kept : List ℕ} {n m : ℕ} → Kept tags n kept m → getD tags n 0 < 65536 → Kept tags (n + 1) kept m
-kept-skip {tags} {kept} {n} {m} w l =
-    record {
-      few = omega (arith, w .few);
-      room = w .room;
-      low = λ i k. omega (arith, w .low i k);
-      rises = w .rises;
-      role = w .role;
-      all = λ j k r. elim (ℕ-discrete j n) [
-        | yes d ↦ absurd (omega (arith, ap (λ (x : ℕ). getD tags x 0) d))
-        | no d ↦ w .all j (omega arith) r
-      ];
-    }
-
-module _ {tags kept : List ℕ} {n m : ℕ} (w : Kept tags n kept m) (short : n < 20) where
-  old : (i : ℕ) → i < m → getD (set kept m n) i 0 ≡ getD kept i 0
-  old i l = getD-set-other kept m i n 0 (λ f. omega arith)
-
-  new : getD (set kept m n) m 0 ≡ n
-  new = getD-set-same kept m n 0 (omega (arith, w .few, w .room))
-
-  kept-more : 65536 ≤ getD tags n 0 → Kept tags (n + 1) (set kept m n) (m + 1)
-  kept-more r =
-      record {
-        few = omega (arith, w .few);
-        room = length-set kept m n ∙ w .room;
-        low = λ i k. elim (ℕ-discrete i m) [
-          | yes d ↦ omega (arith, ap (λ (x : ℕ). getD (set kept m n) x 0) d, new)
-          | no d ↦ omega (arith, old i (omega arith), w .low i (omega arith))
-        ];
-        rises = λ i j k l. elim (ℕ-discrete j m) [
-          | yes d ↦ omega (arith, ap (λ (x : ℕ). getD (set kept m n) x 0) d, new, old i (omega arith), w .low i (omega arith))
-          | no d ↦ omega (arith, old i (omega arith), old j (omega arith), w .rises i j k (omega arith))
-        ];
-        role = λ i k. elim (ℕ-discrete i m) [
-          | yes d ↦ subst (λ (x : ℕ). 65536 ≤ getD tags x 0) (sym (ap (λ (x : ℕ). getD (set kept m n) x 0) d ∙ new)) r
-          | no d ↦ subst (λ (x : ℕ). 65536 ≤ getD tags x 0) (sym (old i (omega arith))) (w .role i (omega arith))
-        ];
-        all = λ j k q. elim (ℕ-discrete j n) [
-          | yes d ↦ (m, omega arith, new ∙ sym d)
-          | no d ↦ let v = w .all j (omega arith) q in (v .0, omega (arith, v .1), old (v .0) (v .1) ∙ v .2)
-        ];
-      }
-
--- ---- the 11s
-
--- the values of the 11 at a place, and those of the message at kept i
-abbrev pub valuesAt : Bool → List ℕ → ℕ → List Message → List ℕ → ℕ → Bool
-valuesAt exact f start ms kept i = pairwise (relation exact) (messageAt f (start + 7 * i) .snapshot) (getD ms (getD kept i 0) noMessage .snapshot)
-
--- the first j messages were looked at: m have a role, and as many 11s stand there
-pub record Skipped (f : List ℕ) (at : ℕ) (tags : List ℕ) (n : ℕ) (kept : List ℕ) (m k j : ℕ) : Type 0 where
-  pub most : j ≤ n
-  pub places : Kept tags j kept m
-  pub here : k ≡ at + 9 + 7 * m
-  pub kinds : (i : ℕ) → i < m → byte f (at + 9 + 7 * i) ≡ 17
-
-pub skipped-begin : (f : List ℕ) (at : ℕ) (tags : List ℕ) (n : ℕ) → Skipped f at tags n (replicate 20 0) 0 (at + 9) 0
-skipped-begin f at tags n =
-    record {
-      most = omega arith;
-      places = record {
-        few = omega arith;
-        room = refl;
-        low = λ i l. absurd (omega arith);
-        rises = λ i j k l. absurd (omega arith);
-        role = λ i l. absurd (omega arith);
-        all = λ j l r. absurd (omega arith);
-      };
-      here = omega arith;
-      kinds = λ i l. absurd (omega arith);
-    }
-
-module _ {f : List ℕ} {at : ℕ} {tags : List ℕ} {n : ℕ} {kept : List ℕ} {m k j : ℕ} (w : Skipped f at tags n kept m k j) (short : n ≤ 20) (more : j < n) where
-  pub skipped-next : getD tags j 0 < 65536 → Skipped f at tags n kept m k (j + 1)
-  skipped-next l = record { most = omega arith; places = kept-skip (w .places) l; here = w .here; kinds = w .kinds }
-
-  pub skipped-more : 65536 ≤ getD tags j 0 → byte f k ≡ 17 → Skipped f at tags n (set kept m j) (m + 1) (k + 7) (j + 1)
-  skipped-more r b =
-      record {
-        most = omega arith;
-        places = kept-more (w .places) (omega arith) r;
-        here = omega (arith, w .here);
-        kinds = λ i y. elim (ℕ-discrete i m) [
-          | yes d ↦ ap (byte f) (at-m i d) ∙ b
-          | no d ↦ w .kinds i (omega arith)
-        ];
-      }
-    where
-      at-m : (i : ℕ) → i ≡ m → at + 9 + 7 * i ≡ k
-      at-m i d = omega (arith, w .here)
-
-  pub skipped-room : m < 20
-  skipped-room = omega (arith, w .places .few)
-
-  pub skipped-inside : {x : Bool} → x ≡ cut f at (8 + 7 * n) → x ≡ false → k + 7 ≤ length f
-  skipped-inside e g = omega (arith, w .here, w .places .few, not-cut f at (8 + 7 * n) e g)
-
--- the first i of the m 11s were compared: they have the labels of the messages that they stand for
-pub record Sent (exact : Bool) (f : List ℕ) (at : ℕ) (ms : List Message) (kept : List ℕ) (m : ℕ) (sent : Bool) (i : ℕ) : Type 0 where
-  pub few : i ≤ m
-  pub labels : (x : ℕ) → x < i → SameLabel (messageAt f (at + 9 + 7 * x)) (getD ms (getD kept x 0) noMessage)
-  pub tested : sent ≡ allBelow i (valuesAt exact f (at + 9) ms kept)
-
-pub sent-begin : (exact : Bool) (f : List ℕ) (at : ℕ) (ms : List Message) (kept : List ℕ) (m : ℕ) → Sent exact f at ms kept m true 0
-sent-begin exact f at ms kept m = record { few = omega arith; labels = λ i l. absurd (omega arith); tested = refl }
-
-pub sent-more : {exact : Bool} {f : List ℕ} {at : ℕ} {ms : List Message} {kept : List ℕ} {m : ℕ} {sent : Bool} {i z : ℕ} {x : Message} {v good : Bool}
-    → Sent exact f at ms kept m sent i → i < m → z ≡ getD kept i 0 → x ≡ messageAt f (at + 9 + 7 * i) → SameLabel x (getD ms z noMessage)
-    → v ≡ pairwise (relation exact) (x .snapshot) (getD ms z noMessage .snapshot) → good ≡ sent && v → Sent exact f at ms kept m good (i + 1)
-sent-more {exact} {f} {at} {ms} {kept} {m} {sent} {i} {z} {x} {v} {good} w l e d h q g =
-    record {
-      few = omega arith;
-      labels = λ y a. elim (ℕ-discrete y i) [
-        | yes b ↦ subst (λ (k : ℕ). SameLabel (messageAt f (at + 9 + 7 * k)) (getD ms (getD kept k 0) noMessage)) (sym b)
-            (subst (λ (k : ℕ). SameLabel (messageAt f (at + 9 + 7 * i)) (getD ms k noMessage)) e (subst (λ (u : Message). SameLabel u (getD ms z noMessage)) d h))
-        | no b ↦ w .labels y (omega arith)
-      ];
-      tested = g ∙ ap₂ _&&_ (w .tested) (q ∙ ap₂ (λ (a : Message) (b : ℕ). pairwise (relation exact) (a .snapshot) (getD ms b noMessage .snapshot)) d e)
-          ∙ ap (λ (u : ℕ). allBelow u (valuesAt exact f (at + 9) ms kept)) next;
-    }
-  where
-    next : suc i ≡ i + 1
-    next = omega arith
 
 -- ---- what the 11s load
 
@@ -221,7 +78,7 @@ sent-message f start (suc m) i a l = elim (ℕ-discrete i m) [
       ∙ sent-message f start m i (omega arith) (omega arith)
 ]
 
-sent-loading : (f : List ℕ) (at m : ℕ) → at < length f → m ≤ 20 → ((i : ℕ) → i < m → byte f (at + 9 + 7 * i) ≡ 17) → Loading f at (sentLoaded f (at + 9) m) (at + 9 + 7 * m)
+sent-loading : (f : List ℕ) (at m : ℕ) → at < length f → m ≤ 20 → Kinds f at m → Loading f at (sentLoaded f (at + 9) m) (at + 9 + 7 * m)
 unfolding loadsMessage isKind
 sent-loading f at zero l a h = let z : at + 9 ≡ at + 9 + 7 * 0 = omega arith in subst (Loading f at nothingLoaded) z (loading-begin f at l)
 sent-loading f at (suc m) l a h =
@@ -231,45 +88,6 @@ sent-loading f at (suc m) l a h =
   where
     yes-loads : loadsMessage f (at + 9 + 7 * m) (sentLoaded f (at + 9) m .count) ≡ true
     yes-loads = ap₂ _&&_ (eq-eqb (byte f (at + 9 + 7 * m)) 17 (h m (omega arith))) (lt-ltb (sentLoaded f (at + 9) m .count) 20 (omega (arith, sent-count f (at + 9) m)))
-
--- ---- pointers
-
--- the first p of n pointers
-pub record Points (zs own kept : List ℕ) (m n p : ℕ) : Type 0 where
-  pub most : p ≤ n
-  pub each : (i : ℕ) → i < p → (1 ≤ getD zs i 0) × (getD zs i 0 ≤ m) × (getD own i 0 ≡ suc (getD kept (getD zs i 0 - 1) 0))
-
-pub points-begin : (zs own kept : List ℕ) (m n : ℕ) → Points zs own kept m n 0
-points-begin zs own kept m n = record { most = omega arith; each = λ i l. absurd (omega arith) }
-
-pub points-next : {zs own kept : List ℕ} {m n p z t a b : ℕ} {x : Bool} → Points zs own kept m n p → p < n → z ≡ getD zs p 0 → t ≡ min m 20 → x ≡ ltb 0 z && leb z t → x ≡ true
-    → a ≡ getD kept (z - 1) 0 → b ≡ getD own p 0 → a + 1 ≡ b → Points zs own kept m n (p + 1)
-points-next {zs} {own} {kept} {m} {n} {p} {z} {t} {a} {b} {x} w l e o g h u v k =
-    let y = and-true (ltb 0 z) (leb z t) (sym g ∙ h) in
-    let c = ltb-true 0 z (y .0) in
-    let d = leb-true z t (y .1) in
-    let q : getD own p 0 ≡ suc (getD kept (getD zs p 0 - 1) 0) = omega (arith, ap (λ (k : ℕ). getD kept (k - 1) 0) e) in
-    record {
-      most = omega arith;
-      each = λ i r. elim (ℕ-discrete i p) [
-        | yes f ↦ subst (λ (j : ℕ). (1 ≤ getD zs j 0) × (getD zs j 0 ≤ m) × (getD own j 0 ≡ suc (getD kept (getD zs j 0 - 1) 0))) (sym f) (omega arith, omega arith, q)
-        | no f ↦ w .each i (omega arith)
-      ];
-    }
-
-low-at : (n : ℕ) (zs : List ℕ) (p : ℕ) → p < n → lowestBelow n zs ≤ getD zs p 0
-low-at zero zs p l = absurd (omega arith)
-low-at (suc n) zs p l = elim (ℕ-discrete p n) [
-  | yes d ↦ omega (arith, ap (λ (k : ℕ). getD zs k 0) d)
-  | no d ↦ omega (arith, low-at n zs p (omega arith))
-]
-
-some-low : (n : ℕ) (zs : List ℕ) → ((p : ℕ) → p < n → 1 ≤ getD zs p 0) → 1 ≤ lowestBelow n zs
-some-low zero zs h = omega arith
-some-low (suc n) zs h = omega (arith, h n (omega arith), some-low n zs (λ p l. h p (omega arith)))
-
-low-one : (n : ℕ) (zs : List ℕ) (p : ℕ) → p < n → getD zs p 0 ≡ 1 → lowestBelow n zs ≤ 1
-low-one n zs p l e = omega (arith, low-at n zs p l)
 
 -- ---- the 12s
 
@@ -313,7 +131,7 @@ sixteen i l = replicate-at 16 i l
     replicate-at (suc n) zero l = refl
     replicate-at (suc n) (suc i) l = replicate-at n i (omega arith)
 
-pub waits-begin : (exact : Bool) (f : List ℕ) (at m variables : ℕ) (queues : List Queue) {k : ℕ} → at < length f → m ≤ 20 → ((i : ℕ) → i < m → byte f (at + 9 + 7 * i) ≡ 17)
+pub waits-begin : (exact : Bool) (f : List ℕ) (at m variables : ℕ) (queues : List Queue) {k : ℕ} → at < length f → m ≤ 20 → Kinds f at m
     → k ≡ at + 9 + 7 * m → Waits exact f at (sentLoaded f (at + 9) m) variables queues k true 0
 waits-begin exact f at m variables queues l a h e =
     record {
@@ -481,11 +299,10 @@ by-rows (suc n) x g l t =
 
 -- ---- the whole
 
--- the records of the entry are those that were looked at
-module _ (s : Shape) (c : Cube) {exact : Bool} {f : List ℕ} {at : ℕ} {tags kept : List ℕ} {n m k j : ℕ} {last variables end q : ℕ} {waits x : Bool}
-    (inside : at < length f) (counted : n ≡ min (c .count) 20) (w : Skipped f at tags n kept m k j) (done : n ≤ j)
+-- the 12s of the entry are those that were looked at
+module _ (s : Shape) {exact : Bool} {f : List ℕ} {at : ℕ} (m : ℕ) {queues : List Queue} {last variables end q : ℕ} {waits x : Bool}
     (few-is : end ≡ 4 * min (s .processes) 4) (narrow-is : variables ≡ min (s .variables) 4)
-    (v : Waits exact f at (sentLoaded f (at + 9) m) variables (c .queues) last waits q) (full : q ≡ end)
+    (v : Waits exact f at (sentLoaded f (at + 9) m) variables queues last waits q) (full : q ≡ end)
     (over : x ≡ not (isKind f last 17) && not (isKind f last 18)) (ends : x ≡ true)
   where
     no-more : loaded f at ≡ v .by
@@ -499,106 +316,65 @@ module _ (s : Shape) (c : Cube) {exact : Bool} {f : List ℕ} {at : ℕ} {tags k
         not-true true y = absurd (false≢true y)
         not-true false y = refl
 
-    count-is : loadEntry f at .count ≡ m
+    pub all-counted : loadEntry f at .count ≡ m
     unfolding loadEntry
-    count-is = ap (λ (l : Loaded). l .count) no-more ∙ v .count ∙ sent-count f (at + 9) m
-
-    message-is : (i : ℕ) → i < m → getD (loadEntry f at .messages) i noMessage ≡ messageAt f (at + 9 + 7 * i)
-    unfolding loadEntry
-    message-is i l = ap (λ (l : Loaded). getD (l .messages) i noMessage) no-more ∙ ap (λ (ms : List Message). getD ms i noMessage) (v .messages) ∙ sent-message f (at + 9) m i (omega (arith, w .places .few, w .most)) l
+    all-counted = ap (λ (l : Loaded). l .count) no-more ∙ v .count ∙ sent-count f (at + 9) m
 
     queues-are : loadEntry f at .queues ≡ v .by .queues
     unfolding loadEntry
     queues-are = ap (λ (l : Loaded). l .queues) no-more
 
-    short : m ≤ 20
-    short = omega (arith, w .places .few, w .most)
-
-    queues-tested : allBelow (min (s .processes) 4) (queueRow (s .variables) exact (loadEntry f at .queues) (c .queues)) ≡ waits
+    pub queues-tested : waits ≡ allBelow (min (s .processes) 4) (queueRow (s .variables) exact (loadEntry f at .queues) queues)
     unfolding queueRow
     queues-tested =
         let z : q ≡ 4 * min (s .processes) 4 = omega arith in
-        ap (λ (qs : List Queue). allBelow (min (s .processes) 4) (queueRow (s .variables) exact qs (c .queues))) queues-are
-        ∙ sym (by-rows (min (s .processes) 4) (min (s .variables) 4) (okay exact (v .by) (c .queues)) (omega arith) (λ i l y. v .absent i (omega arith) (omega arith)))
-        ∙ ap (λ (d : ℕ). allBelow d (okay exact (v .by) (c .queues))) (sym z) ∙ sym (v .tested)
+        sym (ap (λ (qs : List Queue). allBelow (min (s .processes) 4) (queueRow (s .variables) exact qs queues)) queues-are
+        ∙ sym (by-rows (min (s .processes) 4) (min (s .variables) 4) (okay exact (v .by) queues) (omega arith) (λ i l y. v .absent i (omega arith) (omega arith)))
+        ∙ ap (λ (d : ℕ). allBelow d (okay exact (v .by) queues)) (sym z) ∙ sym (v .tested))
 
-    pub queues-decide : waits ≡ false → false ≡ allBelow (min (s .processes) 4) (queueRow (s .variables) exact (loadEntry f at .queues) (c .queues)) && channelMatches s exact (loadEntry f at) c
-    queues-decide e = sym (ap (λ (y : Bool). y && channelMatches s exact (loadEntry f at) c) (queues-tested ∙ e))
+-- ---- whatever follows the 11s, they are the oldest messages
 
-    -- and they have the labels and pointers of the messages with a role
-    module _ {a b g h i : ℕ} {sent : Bool} (yes-waits : waits ≡ true)
-        (pa : a ≡ byte f (at + 5)) (pb : b ≡ byte f (at + 6)) (pg : g ≡ byte f (at + 7)) (ph : h ≡ byte f (at + 8))
-        (points : PointsSame (s .processes) (a ∷ b ∷ g ∷ h ∷ []) (c .pointers) kept m) (first : OneFirst (s .processes) (a ∷ b ∷ g ∷ h ∷ []))
-        (u : Sent exact f at (c .messages) kept m sent i) (through : m ≤ i) (A : Against s c tags)
-      where
-        pointers-are : a ∷ b ∷ g ∷ h ∷ [] ≡ loadEntry f at .pointers
-        unfolding loadEntry
-        pointers-are = rw (pa, pb, pg, ph) refl
+record Keeps (l m : Loaded) : Type 0 where
+  least : l .count ≤ m .count
+  most : m .count ≤ 20
+  same : (j : ℕ) → j < l .count → getD (m .messages) j noMessage ≡ getD (l .messages) j noMessage
 
-        tag-at : (i : ℕ) → i < c .count → getD tags i 0 ≡ 65536 * maskIn s c (suc i) + labelNumber (getD (c .messages) i noMessage)
-        tag-at i l =
-            let z : suc i - 1 ≡ i = omega arith in
-            ap (λ (ts : List ℕ). getD ts i 0) (A .is) ∙ tags-at s c i l (omega (arith, A .sized .messages)) ∙ tag-is s (A .sized .processes) (A .sized .variables) c (A .sized .messages) (suc i)
-            ∙ ap (λ (u : ℕ). 65536 * maskIn s c (suc i) + labelNumber (getD (c .messages) u noMessage)) z
+load-keeps : (bytes : ℕ) (f : List ℕ) (at : ℕ) (l : Loaded) → l .count ≤ 20 → Keeps l (loadFrom bytes f at l)
+unfolding loadFrom
+load-keeps zero f at l r = record { least = omega arith; most = r; same = λ j k. refl }
+load-keeps (suc bytes) f at l r = go (load-keeps bytes) (loadsMessage f at (l .count)) refl (loadsWaiting f at) refl
+  where
+    go : ((f : List ℕ) (at : ℕ) (l : Loaded) → l .count ≤ 20 → Keeps l (loadFrom bytes f at l)) → (b : Bool) → loadsMessage f at (l .count) ≡ b → (d : Bool) → loadsWaiting f at ≡ d
+        → Keeps l (loadFrom (suc bytes) f at l)
+    go rec true e d x =
+        let w = rec f (at + 7) (moreMessage f at l) (omega (arith, message-loads f at (l .count) e .1)) in
+        subst (Keeps l) (sym (load-message f at l bytes e))
+        (record {
+          least = omega (arith, w .least);
+          most = w .most;
+          same = λ j k. w .same j (omega arith) ∙ getD-set-other (l .messages) (l .count) j (messageAt f at) noMessage (λ q. omega arith);
+        })
+    go rec false e true x =
+        let w = rec f (at + 4) (moreWaiting f at l) r in
+        subst (Keeps l) (sym (load-waiting f at l bytes e x)) (record { least = w .least; most = w .most; same = w .same })
+    go rec false e false x = subst (Keeps l) (sym (load-ends f at l (suc bytes) e x)) (record { least = omega arith; most = r; same = λ j k. refl })
 
-        point : (p : ℕ) → p < s .processes
-            → (1 ≤ getD (loadEntry f at .pointers) p 0) × (getD (loadEntry f at .pointers) p 0 ≤ m) × (getD (c .pointers) p 0 ≡ suc (getD kept (getD (loadEntry f at .pointers) p 0 - 1) 0))
-        point p l = subst (λ (zs : List ℕ). (1 ≤ getD zs p 0) × (getD zs p 0 ≤ m) × (getD (c .pointers) p 0 ≡ suc (getD kept (getD zs p 0 - 1) 0))) pointers-are (points p (omega (arith, A .sized .processes)))
+pub entry-stands : (f : List ℕ) (at m : ℕ) → at < length f → m ≤ 20 → Kinds f at m → Stands f at m (loadEntry f at)
+unfolding loadEntry
+entry-stands f at m l a h =
+    let L = sent-loading f at m l a h in
+    let K = subst (Keeps (sentLoaded f (at + 9) m)) (L .reads) (load-keeps (L .bytes) f (at + 9 + 7 * m) (sentLoaded f (at + 9) m) (omega (arith, sent-count f (at + 9) m))) in
+    record {
+      least = omega (arith, K .least, sent-count f (at + 9) m);
+      most = K .most;
+      message = λ i k. K .same i (omega (arith, sent-count f (at + 9) m)) ∙ sent-message f (at + 9) m i a k;
+      pointers = refl;
+    }
 
-        one-first : OneFirst (s .processes) (loadEntry f at .pointers)
-        one-first = subst (OneFirst (s .processes)) pointers-are first
+-- ---- both together
 
-        lowest-one : lowestPointer s (loadEntry f at .pointers) ≡ 1
-        unfolding lowestPointer
-        lowest-one =
-            omega (
-              arith,
-              low-one (min (s .processes) 4) (loadEntry f at .pointers) (one-first .0) (one-first .1) (one-first .2),
-              some-low (min (s .processes) 4) (loadEntry f at .pointers) (λ p l. point p (omega arith) .0),
-            )
+pub told-no : (q : Bool) {x c : Bool} → x ≡ false → c ≡ false → x ≡ q && c
+told-no q {x} {c} e d = e ∙ sym (ap (_&&_ q) d ∙ and-false q)
 
-        first-kept : (i : ℕ) → i < m → lowestPointer s (c .pointers) ≤ suc (getD kept i 0)
-        unfolding lowestPointer
-        first-kept i l =
-            let y = one-first in
-            let u = point (y .0) (omega (arith, y .1)) in
-            let z : getD (loadEntry f at .pointers) (y .0) 0 - 1 ≡ 0 = omega (arith, y .2) in
-            omega (arith, low-at (min (s .processes) 4) (c .pointers) (y .0) (y .1), u .2, ap (λ (d : ℕ). getD kept d 0) z, zero-first i l)
-          where
-            zero-first : (i : ℕ) → i < m → getD kept 0 0 ≤ getD kept i 0
-            zero-first zero l = omega arith
-            zero-first (suc i) l = omega (arith, w .places .rises 0 (suc i) (omega arith) l)
-
-        traced : Traced s (loadEntry f at) c (λ i. getD kept i 0)
-        traced =
-            record {
-              inside = λ i l. omega (arith, w .places .low i (omega (arith, count-is)), w .most);
-              rises = λ i j y l. w .places .rises i j y (omega (arith, count-is));
-              process = λ i l. ap (λ (u : Message). u .process) (message-is i (omega (arith, count-is))) ∙ u .labels i (omega (arith, count-is, through)) .process;
-              variable = λ i l. ap (λ (u : Message). u .variable) (message-is i (omega (arith, count-is))) ∙ u .labels i (omega (arith, count-is, through)) .variable;
-              from = λ p l. point p l .0;
-              upto = λ p l. omega (arith, point p l .1, count-is);
-              pointer = λ p l. point p l .2;
-              role = λ i l.
-                  let d = u .labels i (omega (arith, count-is, through)) in
-                  omega (arith, w .places .role i (omega (arith, count-is)), tag-at (getD kept i 0) (omega (arith, w .places .low i (omega (arith, count-is)), w .most)), d .low, d .high);
-              all = λ i l y.
-                  let d = w .places .all i (omega (arith, A .sized .messages)) (omega (arith, tag-at i l)) in
-                  (d .0, omega (arith, d .1, count-is), d .2);
-              lowest = lowest-one;
-              first = λ i l. first-kept i (omega (arith, count-is));
-            }
-
-        all-sent : i ≡ m
-        all-sent = omega (arith, u .few, through)
-
-        channel-is : channelMatches s exact (loadEntry f at) c ≡ sent
-        channel-is =
-            traced-matches s (A .sized .processes) (A .sized .variables) (loadEntry f at) c (omega (arith, count-is, short)) (A .sized .messages) (λ i. getD kept i 0) traced exact
-            ∙ ap (λ (u : ℕ). allBelow u (λ i. pairwise (relation exact) (getD (loadEntry f at .messages) i noMessage .snapshot) (getD (c .messages) (getD kept i 0) noMessage .snapshot))) count-is
-            ∙ all-equal m (λ i. pairwise (relation exact) (getD (loadEntry f at .messages) i noMessage .snapshot) (getD (c .messages) (getD kept i 0) noMessage .snapshot)) (valuesAt exact f (at + 9) (c .messages) kept)
-            (λ i l. ap (λ (u : Message). pairwise (relation exact) (u .snapshot) (getD (c .messages) (getD kept i 0) noMessage .snapshot)) (message-is i l))
-            ∙ ap (λ (y : ℕ). allBelow y (valuesAt exact f (at + 9) (c .messages) kept)) (sym all-sent) ∙ sym (u .tested)
-
-        pub same-decides : sent ≡ allBelow (min (s .processes) 4) (queueRow (s .variables) exact (loadEntry f at .queues) (c .queues)) && channelMatches s exact (loadEntry f at) c
-        same-decides = sym (ap₂ _&&_ (queues-tested ∙ yes-waits) channel-is)
+pub told-yes : {q x c : Bool} → x ≡ q → c ≡ true → x ≡ q && c
+told-yes {q} {x} {c} e d = e ∙ sym (ap (_&&_ q) d ∙ and-right q)

@@ -1,39 +1,40 @@
--- An entry whose messages stand, one for one, for those of a cube that have a role: it matches the cube exactly when the values do.
+-- An entry whose messages stand for messages of a cube, among them all that have a role: it matches the cube if the values do.
 use Prim.Native.Nat.{ℕ, zero, suc, _-_, _<_, _≤_}
-use mathlib.Core.Path.{_≡_, refl, sym, ap, ap₂, subst, _∙_}
+use mathlib.Core.Path.{_≡_, refl, sym, ap, ap₂, subst, subst₂, _∙_}
 use mathlib.Core.Logic.{⊎-elim, inl, inr}
-use mathlib.Core.Bool.{Bool, true, false, _&&_}
+use mathlib.Core.Bool.{Bool, true, _&&_}
 use mathlib.Core.List.{List, [], _∷_}
 use native.Mathlib.Omega.{arith}
-use native.Mathlib.Decide.{decLt, decLe, ℕ-discrete}
+use native.Mathlib.Decide.{decLt, ℕ-discrete}
 use lib.ListN.{length, getD}
 use lib.Dec.{T, eqb}
-use borrow.Author.Tests.{eqb-true, eq-eqb, ne-eqb}
+use borrow.Author.Tests.{eq-eqb, ne-eqb}
 use Rattle.pws.specs.declared.Message.{Message}
 use Rattle.pws.specs.Program as pws
-use Rattle.pws.specs.Machine.{Memory, noMessage, message, labelled, lastWrite, allBelow}
-use Rattle.pws.specs.Tagged.{Tagged, hasRole}
+use Rattle.pws.specs.Machine.{Memory, noMessage, message, labelled, lastWrite}
+use Rattle.pws.specs.Tagged.{Tagged}
 use Rattle.pws.proofs.Facts.{IsLast, last-is, last-eq}
-use Rattle.pws.proofs.Tagged.{role-is, role-last}
+use Rattle.pws.proofs.Tagged.{role-last}
 use Rattle.program_part.specs.declared.program.Shape.{Shape}
 use Rattle.program_part.specs.ProgramPart.{shapeOf}
 use Rattle.whole_file.specs.declared.entry.Cube.{Cube}
 use Rattle.whole_file.specs.Cube.{configurationOf}
 use Rattle.whole_file.proofs.CubeParts.{channel-length, channel-message}
 use Rattle.lists.specs.Values.{pairwise}
-use Rattle.lists.specs.Matching.{subsequence, messageMatches, tagMatches}
+use Rattle.lists.specs.Matching.{Subsequence, nothing, skip, keep, subsequence, messageMatches, tagMatches}
+use Rattle.lists.proofs.Lists.{T-true}
+use Rattle.lists.proofs.Matching.{leftmost}
 use Rattle.matching.specs.Relation.{relation}
 use Rattle.matching.specs.Tags.{mask, lowestPointer}
 use Rattle.matching.specs.Match.{channelMatches}
-use Rattle.matching.proofs.Below.{and-false}
-use Rattle.matching.proofs.TagLaws.{Alike, mask-alike, alike-mask, role-mask, no-role-mask, roles-test}
-use Rattle.matching.proofs.ChannelLaws.{tag, upTo, up-none, up-some}
+use Rattle.matching.proofs.TagLaws.{Alike, alike-mask, role-mask, roles-test}
+use Rattle.matching.proofs.ChannelLaws.{tag, upTo, up-some}
 
 -- the roles of message i as a number
 abbrev pub maskIn : Shape → Cube → ℕ → ℕ
 maskIn s c i = mask (s .processes) (s .variables) (configurationOf c .memory) i
 
--- message i of the entry e stands for message `kept i` of the cube c, and no other message of c has a role
+-- message i of the entry e stands for message `kept i` of the cube c, and every message of c with a role has one that stands for it
 pub record Traced (s : Shape) (e c : Cube) (kept : ℕ → ℕ) : Type 0 where
   pub inside : (i : ℕ) → i < e .count → kept i < c .count
   pub rises : (i j : ℕ) → i < j → j < e .count → kept i < kept j
@@ -42,7 +43,6 @@ pub record Traced (s : Shape) (e c : Cube) (kept : ℕ → ℕ) : Type 0 where
   pub from : (p : ℕ) → p < s .processes → 1 ≤ getD (e .pointers) p 0
   pub upto : (p : ℕ) → p < s .processes → getD (e .pointers) p 0 ≤ e .count
   pub pointer : (p : ℕ) → p < s .processes → getD (c .pointers) p 0 ≡ suc (kept (getD (e .pointers) p 0 - 1))
-  pub role : (i : ℕ) → i < e .count → 0 < maskIn s c (suc (kept i))
   pub all : (j : ℕ) → j < c .count → 0 < maskIn s c (suc j) → (i : ℕ) × (i < e .count) × (kept i ≡ j)
   pub lowest : lowestPointer s (e .pointers) ≡ 1
   pub first : (i : ℕ) → i < e .count → lowestPointer s (c .pointers) ≤ suc (kept i)
@@ -151,22 +151,6 @@ module _ (s : Shape) (few : s .processes ≤ 4) (narrow : s .variables ≤ 4) (e
   masks : (i : ℕ) → i < e .count → maskIn s e (suc i) ≡ maskIn s c (suc (kept i))
   masks i l = alike-mask S em (suc i) cm (suc (kept i)) narrow (omega arith) (omega arith) (alike i l)
 
-  -- a role is one message's
-  alone : (k j : ℕ) → 0 < maskIn s c (suc k) → maskIn s c (suc k) ≡ maskIn s c (suc j) → k ≡ j
-  alone k j g f = at (hasRole S cm (suc k)) refl
-    where
-      A : Alike S cm (suc k) cm (suc j)
-      A = mask-alike S cm (suc k) cm (suc j) narrow (omega arith) (omega arith) f
-
-      at : (h : Bool) → hasRole S cm (suc k) ≡ h → k ≡ j
-      at true h =
-          let r = role-is S cm (suc k) (subst T (sym h) tt) in
-          ⊎-elim
-          (λ d. omega (arith, eqb-true (cm .pointer (r .0)) (suc j) (sym (A .pointers (r .0) (r .1)) ∙ eq-eqb (cm .pointer (r .0)) (suc k) d)))
-          (λ u. omega (arith, u .2, eqb-true (lastWrite cm (r .0) (u .0)) (suc j) (sym (A .lastWrites (r .0) (u .0) (r .1) (u .1)) ∙ eq-eqb (lastWrite cm (r .0) (u .0)) (suc k) (u .2))))
-          (r .2)
-      at false h = absurd (omega (arith, no-role-mask S narrow cm (suc k) (omega arith) (λ t. subst T h t)))
-
   module _ (exact : Bool) where
     -- the values of message i
     abbrev pub valuesMatch : ℕ → Bool
@@ -183,17 +167,7 @@ module _ (s : Shape) (few : s .processes ≤ 4) (narrow : s .variables ≤ 4) (e
         (eq-eqb (getD (e .messages) i noMessage .process) (getD (c .messages) (kept i) noMessage .process) (w .process i l))
         (eq-eqb (getD (e .messages) i noMessage .variable) (getD (c .messages) (kept i) noMessage .variable) (w .variable i l))
 
-    far : (i j : ℕ) → i < e .count → (kept i ≡ j → ⊥) → tagMatches (relation exact) (tag s e (suc i)) (tag s c (suc j)) ≡ false
-    far i j l d =
-        ap (λ (k : Bool). k && messageMatches (relation exact) (getD (e .messages) (suc i - 1) noMessage) (getD (c .messages) (suc j - 1) noMessage))
-        (roles-test S narrow em (suc i) cm (suc j) (omega arith) (omega arith)
-        ∙ ne-eqb (maskIn s e (suc i)) (maskIn s c (suc j)) (λ f. d (alone (kept i) j (w .role i l) (sym (masks i l) ∙ f))))
-
-    -- ---- leftmost matching
-
-    step : (x y : Tagged) (us vs : List Tagged) (g : Bool) → tagMatches (relation exact) x y ≡ g
-        → subsequence (tagMatches (relation exact)) (x ∷ us) (y ∷ vs) ≡ (elim g [ true ↦ subsequence (tagMatches (relation exact)) us vs | false ↦ subsequence (tagMatches (relation exact)) (x ∷ us) vs ])
-    step x y us vs g f = ap (λ (k : Bool). elim k [ true ↦ subsequence (tagMatches (relation exact)) us vs | false ↦ subsequence (tagMatches (relation exact)) (x ∷ us) vs ]) f
+    -- ---- in their order
 
     own-some : (i : ℕ) → i < e .count → upTo s e (suc i) ≡ tag s e (suc i) ∷ upTo s e i
     own-some i l =
@@ -205,49 +179,26 @@ module _ (s : Shape) (few : s .processes ≤ 4) (narrow : s .variables ≤ 4) (e
         let z : suc j - 1 ≡ j = omega arith in
         up-some s few c (suc j) (omega arith) g ∙ ap (λ (k : ℕ). tag s c (suc j) ∷ upTo s c k) z
 
-    -- before the message that message i stands for, there is none for it
-    none-left : (j i : ℕ) → i < e .count → j ≤ kept i → subsequence (tagMatches (relation exact)) (upTo s e (suc i)) (upTo s c j) ≡ false
-    none-left zero i l g = ap (λ (us : List Tagged). subsequence (tagMatches (relation exact)) us []) (own-some i l)
-    none-left (suc j) i l g = elim (decLe (lowestPointer s (c .pointers)) (suc j)) [
-      | yes d ↦
-          ap₂ (subsequence (tagMatches (relation exact))) (own-some i l) (their-some j (omega (arith, w .inside i l)) d)
-          ∙ step (tag s e (suc i)) (tag s c (suc j)) (upTo s e i) (upTo s c j) false (far i j l (λ f. omega arith))
-          ∙ ap (λ (us : List Tagged). subsequence (tagMatches (relation exact)) us (upTo s c j)) (sym (own-some i l))
-          ∙ none-left j i l (omega arith)
-      | no d ↦ ap₂ (subsequence (tagMatches (relation exact))) (own-some i l) (up-none s few c (suc j) (omega (arith, w .inside i l)) (omega arith))
-    ]
+    none-sub : (ys : List Tagged) → Subsequence (tagMatches (relation exact)) [] ys
+    none-sub [] = nothing
+    none-sub (y ∷ ys) = skip (none-sub ys)
 
     -- the first i messages, in the first j of the cube, among which are those that they stand for
-    matched : (j i : ℕ) → i ≤ e .count → j ≤ c .count → ((k : ℕ) → k < i → kept k < j) → subsequence (tagMatches (relation exact)) (upTo s e i) (upTo s c j) ≡ allBelow i valuesMatch
-    matched j zero l g h = refl
-    matched zero (suc i) l g h = absurd (omega (arith, h i (omega arith)))
-    matched (suc j) (suc i) l g h = elim (ℕ-discrete (kept i) j) [
+    placed : (j i : ℕ) → i ≤ e .count → j ≤ c .count → ((k : ℕ) → k < i → kept k < j) → ((k : ℕ) → k < i → valuesMatch k ≡ true) → Subsequence (tagMatches (relation exact)) (upTo s e i) (upTo s c j)
+    placed j zero l g h v = none-sub (upTo s c j)
+    placed zero (suc i) l g h v = absurd (omega (arith, h i (omega arith)))
+    placed (suc j) (suc i) l g h v = elim (ℕ-discrete (kept i) j) [
       | yes d ↦
-          ap₂ (subsequence (tagMatches (relation exact))) (own-some i (omega arith)) (their-some j (omega arith) (omega (arith, w .first i (omega arith))))
-          ∙ here d (matched j i (omega arith) (omega arith) (λ k q. omega (arith, w .rises k i q (omega arith)))) (valuesMatch i) refl
+          subst₂ (Subsequence (tagMatches (relation exact))) (sym (own-some i (omega arith))) (sym (their-some j (omega arith) (omega (arith, w .first i (omega arith)))))
+          (keep (subst (λ (k : ℕ). T (tagMatches (relation exact) (tag s e (suc i)) (tag s c (suc k)))) d (subst T (sym (near i (omega arith) ∙ v i (omega arith))) tt))
+          (placed j i (omega arith) (omega arith) (λ k q. omega (arith, w .rises k i q (omega arith))) (λ k q. v k (omega arith))))
       | no d ↦
-          ap₂ (subsequence (tagMatches (relation exact))) (own-some i (omega arith)) (their-some j (omega arith) (omega (arith, w .first i (omega arith), h i (omega arith))))
-          ∙ step (tag s e (suc i)) (tag s c (suc j)) (upTo s e i) (upTo s c j) false (far i j (omega arith) d)
-          ∙ ap (λ (us : List Tagged). subsequence (tagMatches (relation exact)) us (upTo s c j)) (sym (own-some i (omega arith)))
-          ∙ matched j (suc i) l (omega arith) (λ k f. omega (arith, h i (omega arith), mono k i (omega arith) (omega arith)))
+          subst (Subsequence (tagMatches (relation exact)) (upTo s e (suc i))) (sym (their-some j (omega arith) (omega (arith, w .first i (omega arith), h i (omega arith)))))
+          (skip (placed j (suc i) l (omega arith) (λ k f. omega (arith, h i (omega arith), mono k i (omega arith) (omega arith))) v))
     ]
-      where
-        here : kept i ≡ j → subsequence (tagMatches (relation exact)) (upTo s e i) (upTo s c j) ≡ allBelow i valuesMatch → (v : Bool) → valuesMatch i ≡ v
-            → subsequence (tagMatches (relation exact)) (tag s e (suc i) ∷ upTo s e i) (tag s c (suc j) ∷ upTo s c j) ≡ allBelow i valuesMatch && valuesMatch i
-        here d rec true f =
-            step (tag s e (suc i)) (tag s c (suc j)) (upTo s e i) (upTo s c j) true (subst (λ (k : ℕ). tagMatches (relation exact) (tag s e (suc i)) (tag s c (suc k)) ≡ true) d (near i (omega arith) ∙ f))
-            ∙ rec
-            ∙ sym (ap (_&&_ (allBelow i valuesMatch)) f ∙ and-right (allBelow i valuesMatch))
-          where
-            and-right : (x : Bool) → x && true ≡ x
-            and-right true = refl
-            and-right false = refl
-        here d rec false f =
-            step (tag s e (suc i)) (tag s c (suc j)) (upTo s e i) (upTo s c j) false (subst (λ (k : ℕ). tagMatches (relation exact) (tag s e (suc i)) (tag s c (suc k)) ≡ false) d (near i (omega arith) ∙ f))
-            ∙ ap (λ (us : List Tagged). subsequence (tagMatches (relation exact)) us (upTo s c j)) (sym (own-some i (omega arith)))
-            ∙ none-left j i (omega arith) (omega arith)
-            ∙ sym (ap (_&&_ (allBelow i valuesMatch)) f ∙ and-false (allBelow i valuesMatch))
 
-    pub traced-matches : channelMatches s exact e c ≡ allBelow (e .count) valuesMatch
+    pub traced-matches : ((i : ℕ) → i < e .count → valuesMatch i ≡ true) → channelMatches s exact e c ≡ true
     unfolding channelMatches
-    traced-matches = matched (c .count) (e .count) (omega arith) (omega arith) (λ k l. w .inside k l)
+    traced-matches v =
+        T-true (subsequence (tagMatches (relation exact)) (upTo s e (e .count)) (upTo s c (c .count)))
+        (leftmost (tagMatches (relation exact)) (upTo s e (e .count)) (upTo s c (c .count)) .1 (placed (c .count) (e .count) (omega arith) (omega arith) (λ k l. w .inside k l) v))

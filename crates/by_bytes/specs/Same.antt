@@ -1,33 +1,41 @@
 -- What is compared of an entry's bytes and a cube. No statement rests on these definitions.
-use Prim.Native.Nat.{ℕ, suc, _+_, _-_, _<_, _≤_, min}
+use Prim.Native.Nat.{ℕ, suc, _+_, _*_, _-_, _<_, _≤_, min}
 use mathlib.Core.Path.{_≡_}
 use mathlib.Core.Bool.{true}
-use mathlib.Core.List.{List}
+use mathlib.Core.List.{List, [], _∷_}
 use lib.ListN.{length, getD}
+use lib.Dec.{eqb}
 use Rattle.pws.specs.declared.Message.{Message}
+use Rattle.pws.specs.Machine.{noMessage}
 use Rattle.program_part.specs.Bytes.{byte}
+use Rattle.program_part.specs.Records.{messageAt}
 use Rattle.whole_file.specs.declared.entry.Queue.{Queue}
+use Rattle.whole_file.specs.declared.entry.Cube.{Cube}
 use Rattle.whole_file.specs.Tally.{queueAt}
 use Rattle.whole_file.specs.Cube.{emptyQueue, loadsWaiting, pushed}
 
--- two messages have one label, of two bytes
-pub record SameLabel (a b : Message) : Type 0 where
-  pub process : a .process ≡ b .process
-  pub variable : a .variable ≡ b .variable
-  pub low : b .process < 256
-  pub high : b .variable < 256
+-- ---- messages
 
--- the 11 at k has another label than m
-abbrev pub OtherLabel : List ℕ → ℕ → Message → Type 0
-OtherLabel f k m = byte f (k + 1) ≡ m .process → byte f (k + 2) ≡ m .variable → ⊥
+-- m 11s follow the 10 at a place
+abbrev pub Kinds : List ℕ → ℕ → ℕ → Type 0
+Kinds f at m = (i : ℕ) → i < m → byte f (at + 9 + 7 * i) ≡ 17
+
+-- the entry has the pointers of the 10 at a place, and its oldest m messages are the 11s that follow it
+pub record Stands (f : List ℕ) (at m : ℕ) (e : Cube) : Type 0 where
+  pub least : m ≤ e .count
+  pub most : e .count ≤ 20
+  pub message : (i : ℕ) → i < m → getD (e .messages) i noMessage ≡ messageAt f (at + 9 + 7 * i)
+  pub pointers : e .pointers ≡ byte f (at + 5) ∷ byte f (at + 6) ∷ byte f (at + 7) ∷ byte f (at + 8) ∷ []
 
 -- pointers at messages that stand for those that other pointers are at
 abbrev pub PointsSame : ℕ → List ℕ → List ℕ → List ℕ → ℕ → Type 0
 PointsSame processes zs own kept m = (p : ℕ) → p < min processes 4 → (1 ≤ getD zs p 0) × (getD zs p 0 ≤ m) × (getD own p 0 ≡ suc (getD kept (getD zs p 0 - 1) 0))
 
--- one of the pointers is at the first message
-abbrev pub OneFirst : ℕ → List ℕ → Type 0
-OneFirst processes zs = (p : ℕ) × (p < min processes 4) × (getD zs p 0 ≡ 1)
+-- a process points at i and another than j, or at j and another than i
+abbrev pub PointsOther : ℕ → List ℕ → List ℕ → ℕ → ℕ → Type 0
+PointsOther processes zs own i j = (p : ℕ) × (p < min processes 4) × (eqb (getD zs p 0) i ≡ eqb (getD own p 0) j → ⊥)
+
+-- ---- waiting values
 
 -- a 12 of the queue q stands at k
 pub record WaitsAt (f : List ℕ) (k q : ℕ) : Type 0 where

@@ -1,13 +1,12 @@
 -- An entry in the file against a cube.
-use Prim.Native.Nat.{ℕ, zero, suc, _+_, _*_, _-_, _/_, _%_, _<_, _≤_, min}
+use Prim.Native.Nat.{ℕ, _+_, _≤_, min}
 use mathlib.Core.Path.{_≡_, refl, sym, ap, subst, _∙_}
-use mathlib.Core.Bool.{Bool, true, false, cond, _&&_}
+use mathlib.Core.Bool.{Bool, true, false, _&&_}
 use mathlib.Core.List.{List, [], _∷_}
 use native.Mathlib.Omega.{arith}
-use native.Mathlib.Decide.{decLt, ℕ-discrete}
+use native.Mathlib.Decide.{decLt}
 use lib.ListN.{length, getD}
-use lib.Dec.{eqb, ltb}
-use borrow.Author.Tests.{lt-ltb, le-ltb, le-leb, lt-leb, eq-eqb, ne-eqb}
+use lib.Dec.{eqb}
 use Rattle.pws.specs.Machine.{allBelow}
 use Rattle.lists.specs.Matching.{matches}
 use Rattle.program_part.specs.declared.program.Shape.{Shape}
@@ -15,40 +14,24 @@ use Rattle.whole_file.specs.declared.entry.Cube.{Cube}
 use Rattle.whole_file.specs.declared.entry.Loaded.{Loaded}
 use Rattle.program_part.specs.Bytes.{byte}
 use Rattle.program_part.specs.ProgramPart.{shapeOf}
-use Rattle.whole_file.specs.Cube.{configurationOf, loadsMessage, loadsWaiting, nothingLoaded, moreMessage, moreWaiting, loadFrom, loaded, loadEntry}
-use Rattle.whole_file.proofs.CubeLaws.{message-loads, load-message, load-waiting, load-ends, loaded-nothing}
+use Rattle.whole_file.specs.Cube.{configurationOf, loadEntry}
+use Rattle.whole_file.proofs.CubeLaws.{loaded-nothing}
 use Rattle.by_number.specs.Again.{offsetAt, cubeAt}
 use Rattle.matching.specs.Relation.{relation}
 use Rattle.matching.specs.Tags.{tagsOf}
 use Rattle.matching.specs.Match.{Sizes, Suits, queueRow, channelMatches}
-use Rattle.matching.proofs.Below.{and-false}
 use Rattle.matching.proofs.MatchLaws.{states-fail, queues-unlike, channel-left}
 use Rattle.by_bytes.specs.Against.{Against}
+use Rattle.by_bytes.proofs.SameLaws.{entry-stands}
 
 -- ---- an entry has room for twenty messages
 
-load-most : (bytes : ℕ) (f : List ℕ) (at : ℕ) (l : Loaded) → l .count ≤ 20 → loadFrom bytes f at l .count ≤ 20
-unfolding loadFrom
-load-most zero f at l a = a
-load-most (suc bytes) f at l a = go (load-most bytes) (loadsMessage f at (l .count)) refl (loadsWaiting f at) refl
-  where
-    go : ((f : List ℕ) (at : ℕ) (l : Loaded) → l .count ≤ 20 → loadFrom bytes f at l .count ≤ 20) → (b : Bool) → loadsMessage f at (l .count) ≡ b → (d : Bool) → loadsWaiting f at ≡ d
-        → loadFrom (suc bytes) f at l .count ≤ 20
-    go rec true e d x =
-        subst (λ (k : Loaded). k .count ≤ 20) (sym (load-message f at l bytes e))
-        (rec f (at + 7) (moreMessage f at l) (omega (arith, message-loads f at (l .count) e .1)))
-    go rec false e true x = subst (λ (k : Loaded). k .count ≤ 20) (sym (load-waiting f at l bytes e x)) (rec f (at + 4) (moreWaiting f at l) a)
-    go rec false e false x = subst (λ (k : Loaded). k .count ≤ 20) (sym (load-ends f at l (suc bytes) e x)) a
-
 pub load-few : (f : List ℕ) (at : ℕ) → loadEntry f at .count ≤ 20
-unfolding loadEntry loaded
+unfolding loadEntry
 load-few f at = elim (decLt at (length f)) [
-  | yes d ↦ subst (λ (k : Loaded). k .count ≤ 20) (sym (begun d)) (load-most (length f) f (at + 9) nothingLoaded (omega arith))
+  | yes d ↦ entry-stands f at 0 d (omega arith) (λ i l. absurd (omega arith)) .most
   | no d ↦ subst (λ (k : Loaded). k .count ≤ 20) (sym (loaded-nothing f at (omega arith))) (omega arith)
 ]
-  where
-    begun : at < length f → loaded f at ≡ loadFrom (length f) f (at + 9) nothingLoaded
-    begun d = rw (lt-ltb at (length f) d) refl
 
 -- ---- the match of an entry, from its states on
 
@@ -67,12 +50,6 @@ module _ (exact : Bool) (s : Shape) (f : List ℕ) (at : ℕ) (c : Cube) where
   pub queues-differ : {entry : Cube} {x : Bool} → entry ≡ loadEntry f at → x ≡ allBelow (min (s .processes) 4) (queueRow (s .variables) exact (entry .queues) (c .queues)) → x ≡ false
       → false ≡ rest (loadEntry f at)
   queues-differ {entry} z g h = sym (ap (λ (y : Bool). y && channelMatches s exact entry c) (sym g ∙ h)) ∙ ap rest z
-
-  -- one that has messages for which the cube has none
-  pub outnumbering : channelMatches s exact (loadEntry f at) c ≡ false → false ≡ rest (loadEntry f at)
-  outnumbering e =
-      let q = allBelow (min (s .processes) 4) (queueRow (s .variables) exact (loadEntry f at .queues) (c .queues)) in
-      sym (ap (λ (y : Bool). q && y) e ∙ and-false q)
 
   pub channel-decides : {entry : Cube} {left right : List ℕ} {x r : Bool} → Against s c right → entry ≡ loadEntry f at
       → x ≡ allBelow (min (s .processes) 4) (queueRow (s .variables) exact (entry .queues) (c .queues)) → x ≡ true → left ≡ tagsOf s entry

@@ -13,7 +13,6 @@ ghost use Rattle.matching.specs.Match.{queueRow, channelMatches};
 ghost use Rattle.pws.specs.Machine.{allBelow};
 ghost use Rattle.by_bytes.specs.Against.{Against};
 use by_bytes::compare_at;
-use by_bytes::outnumbers;
 use by_number::offset_at;
 use matching::channel_matches;
 use matching::queues_match;
@@ -52,9 +51,6 @@ fn built_matches(
 ) -> bool
     ensures { λ r. ⌜ (Against shape cube (now (right .entry)) → r ≡ (allBelow (min (shape .processes) 4) (queueRow (shape .variables) exact (loadEntry (now (file .entry)) at .queues) (cube .queues)) && channelMatches shape exact (loadEntry (now (file .entry)) at) cube)) ⌝ }
 {
-    if outnumbers(file, at, shape, cube) {
-        return false;
-    }
     let entry = load_entry(file, at);
     let before = entry.queues;
     let after = cube.queues;

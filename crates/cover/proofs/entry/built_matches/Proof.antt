@@ -1,5 +1,5 @@
 use borrow.Author.Tests.{not-true, not-false}
-use Rattle.cover.proofs.EntryLaws.{outnumbering, queues-differ, channel-decides}
+use Rattle.cover.proofs.EntryLaws.{queues-differ, channel-decides}
 use native.Mathlib.Omega.{arith}
 use borrow.Author.Needs.{needs}
 use Rattle.cover.proofs.entry.built_matches.Statement.{statement}
@@ -11,12 +11,6 @@ use Rattle.matching.proofs.queues_match.Reads as queues-match-reads
 use Rattle.matching.proofs.tags_of.Reads as tags-of-reads
 use Rattle.whole_file.proofs.entry.load_entry.Reads as load-entry-reads
 
-outnumbers-requires : tie.Need-outnumbers-requires
-outnumbers-requires c κs = tt
-
-returns : tie.Need-returns
-returns c = λ A. outnumbering (c .before .before .before .args .exact) (c .before .before .before .args .shape) (c .before .before .before .args .file .now) (c .before .before .before .args .at) (c .before .before .before .args .cube) (c .before .outnumbers .ensures (c .if1 .taken) (A .sized) (c .before .before .before .args .exact))
-
 -- src/entry.rt:54:9
 load-entry-requires : tie.Need-load-entry-requires
 load-entry-requires c κs = search needs
@@ -26,8 +20,8 @@ queues-match-requires : tie.Need-queues-match-requires
 queues-match-requires c κs = search needs
 
 -- src/entry.rt:58:9
-returns-2 : tie.Need-returns-2
-returns-2 c = λ A. queues-differ (c .before .before .before .before .before .before .before .before .args .exact) (c .before .before .before .before .before .before .before .before .args .shape) (c .before .before .before .before .before .before .before .before .args .file .now) (c .before .before .before .before .before .before .before .before .args .at) (c .before .before .before .before .before .before .before .before .args .cube) (c .before .before .before .before .load-entry .ensures) (c .before .queues-match .ensures) (not-true (c .before .queues-match .result) (c .if2 .taken))
+returns : tie.Need-returns
+returns c = λ A. queues-differ (c .before .before .before .before .before .before .args .exact) (c .before .before .before .before .before .before .args .shape) (c .before .before .before .before .before .before .args .file .now) (c .before .before .before .before .before .before .args .at) (c .before .before .before .before .before .before .args .cube) (c .before .before .before .before .load-entry .ensures) (c .before .queues-match .ensures) (not-true (c .before .queues-match .result) (c .if1 .taken))
 
 -- src/entry.rt:60:9
 tags-of-requires : tie.Need-tags-of-requires
@@ -38,18 +32,16 @@ channel-matches-requires : tie.Need-channel-matches-requires
 channel-matches-requires c κs = search needs
 
 -- src/entry.rt:44:1
-returns-3 : tie.Need-returns-3
-returns-3 c = λ A. channel-decides (c .before .before .before .before .before .before .before .before .before .before .before .args .exact) (c .before .before .before .before .before .before .before .before .before .before .before .args .shape) (c .before .before .before .before .before .before .before .before .before .before .before .args .file .now) (c .before .before .before .before .before .before .before .before .before .before .before .args .at) (c .before .before .before .before .before .before .before .before .before .before .before .args .cube) A (c .before .before .before .before .before .before .before .load-entry .ensures) (c .before .before .before .before .queues-match .ensures) (not-false (c .before .before .before .before .queues-match .result) (c .before .before .before .if2 .left)) (c .before .before .tags-of .ensures) (c .channel-matches .ensures)
+returns-2 : tie.Need-returns-2
+returns-2 c = λ A. channel-decides (c .before .before .before .before .before .before .before .before .before .args .exact) (c .before .before .before .before .before .before .before .before .before .args .shape) (c .before .before .before .before .before .before .before .before .before .args .file .now) (c .before .before .before .before .before .before .before .before .before .args .at) (c .before .before .before .before .before .before .before .before .before .args .cube) A (c .before .before .before .before .before .before .before .load-entry .ensures) (c .before .before .before .before .queues-match .ensures) (not-false (c .before .before .before .before .queues-match .result) (c .before .before .before .if1 .left)) (c .before .before .tags-of .ensures) (c .channel-matches .ensures)
 
 pub built-matches-spec : {M : Type 1} → statement M
 built-matches-spec =
     tie.close
     (tie.spec
-    outnumbers-requires
-    returns
     load-entry-requires
     queues-match-requires
-    returns-2
+    returns
     tags-of-requires
     channel-matches-requires
-    returns-3)
+    returns-2)

@@ -9,11 +9,11 @@ use Rattle.by_bytes.specs.Same.{HeldFrom, none, more}
 use Rattle.by_bytes.proofs.SameLaws.{push-one}
 use native.Mathlib.Omega.{arith}
 use borrow.Author.Needs.{needs}
-use Rattle.by_bytes.proofs.held_from.Statement.{statement}
-use Rattle.by_bytes.proofs.held_from.Tie as tie
-use Rattle.by_bytes.proofs.held_from.Reads as reads
-use Rattle.by_bytes.proofs.held_from.Lts as lts
-use Rattle.by_bytes.proofs.waits_at.Reads as waits-at-reads
+use Rattle.by_bytes.proofs.queues.held_from.Statement.{statement}
+use Rattle.by_bytes.proofs.queues.held_from.Tie as tie
+use Rattle.by_bytes.proofs.queues.held_from.Reads as reads
+use Rattle.by_bytes.proofs.queues.held_from.Lts as lts
+use Rattle.by_bytes.proofs.queues.waits_at.Reads as waits-at-reads
 use Rattle.program_part.proofs.bytes.both.Reads as both-reads
 
 abbrev Inv-loop : tie.InvT-loop

@@ -6,10 +6,10 @@ use Rattle.matching.proofs.ValueLaws.{value-waits, waits}
 use Rattle.by_bytes.proofs.SameLaws.{nothing-last}
 use native.Mathlib.Omega.{arith}
 use borrow.Author.Needs.{needs}
-use Rattle.by_bytes.proofs.last_waiting.Statement.{statement}
-use Rattle.by_bytes.proofs.last_waiting.Tie as tie
-use Rattle.by_bytes.proofs.last_waiting.Reads as reads
-use Rattle.by_bytes.proofs.last_waiting.Lts as lts
+use Rattle.by_bytes.proofs.queues.last_waiting.Statement.{statement}
+use Rattle.by_bytes.proofs.queues.last_waiting.Tie as tie
+use Rattle.by_bytes.proofs.queues.last_waiting.Reads as reads
+use Rattle.by_bytes.proofs.queues.last_waiting.Lts as lts
 use Rattle.matching.proofs.waiting.Reads as waiting-reads
 
 -- src/same.rt:107:9

@@ -5,13 +5,13 @@ use native.Mathlib.Omega.{arith}
 use borrow.Author.Tests.{not-false, ltb-true, leb-true}
 use lib.Dec.{ltb, leb}
 use Rattle.program_part.proofs.ProgramLaws.{and-true}
-use Rattle.by_bytes.proofs.SameLaws.{Points, points-begin, points-next}
+use Rattle.by_bytes.proofs.PlacedLaws.{Points, points-begin, points-next}
 use borrow.Author.Needs.{needs}
-use Rattle.by_bytes.proofs.points_same.Statement.{statement}
-use Rattle.by_bytes.proofs.points_same.Tie as tie
-use Rattle.by_bytes.proofs.points_same.Reads as reads
-use Rattle.by_bytes.proofs.points_same.Lts as lts
-use Rattle.by_bytes.proofs.small.Reads as small-reads
+use Rattle.by_bytes.proofs.messages.points_same.Statement.{statement}
+use Rattle.by_bytes.proofs.messages.points_same.Tie as tie
+use Rattle.by_bytes.proofs.messages.points_same.Reads as reads
+use Rattle.by_bytes.proofs.messages.points_same.Lts as lts
+use Rattle.by_bytes.proofs.messages.small.Reads as small-reads
 use Rattle.matching.proofs.least.Reads as least-reads
 use Rattle.program_part.proofs.bytes.both.Reads as both-reads
 use Rattle.program_part.proofs.bytes.wide.Reads as wide-reads

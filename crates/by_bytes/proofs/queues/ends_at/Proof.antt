@@ -1,10 +1,10 @@
 use mathlib.Core.Path.{ap₂, _∙_}
 use mathlib.Core.Bool.{Bool, _&&_, not}
 use borrow.Author.Needs.{needs}
-use Rattle.by_bytes.proofs.ends_at.Statement.{statement}
-use Rattle.by_bytes.proofs.ends_at.Tie as tie
-use Rattle.by_bytes.proofs.ends_at.Reads as reads
-use Rattle.by_bytes.proofs.ends_at.Lts as lts
+use Rattle.by_bytes.proofs.queues.ends_at.Statement.{statement}
+use Rattle.by_bytes.proofs.queues.ends_at.Tie as tie
+use Rattle.by_bytes.proofs.queues.ends_at.Reads as reads
+use Rattle.by_bytes.proofs.queues.ends_at.Lts as lts
 use Rattle.program_part.proofs.bytes.both.Reads as both-reads
 use Rattle.program_part.proofs.record.is_kind.Reads as is-kind-reads
 

@@ -3,10 +3,10 @@ use Rattle.by_bytes.proofs.SameLaws.{not-cut, waits-is}
 use mathlib.Core.Path.{refl}
 use native.Mathlib.Omega.{arith}
 use borrow.Author.Needs.{needs}
-use Rattle.by_bytes.proofs.waits_at.Statement.{statement}
-use Rattle.by_bytes.proofs.waits_at.Tie as tie
-use Rattle.by_bytes.proofs.waits_at.Reads as reads
-use Rattle.by_bytes.proofs.waits_at.Lts as lts
+use Rattle.by_bytes.proofs.queues.waits_at.Statement.{statement}
+use Rattle.by_bytes.proofs.queues.waits_at.Tie as tie
+use Rattle.by_bytes.proofs.queues.waits_at.Reads as reads
+use Rattle.by_bytes.proofs.queues.waits_at.Lts as lts
 use Rattle.matching.proofs.word.Reads as word-reads
 use Rattle.program_part.proofs.bytes.cut.Reads as cut-reads
 

@@ -1,0 +1,181 @@
+// The 11s of an entry against the messages of a cube.
+ghost use mathlib.Core.Path.{_≡_};
+ghost use mathlib.Core.Bool.{true, false};
+ghost use mathlib.Core.List.{[], _∷_};
+ghost use Prim.Native.Nat.{_+_, _*_, _≤_, _<_, min};
+ghost use lib.ListN.{length};
+ghost use Rattle.program_part.specs.Bytes.{byte};
+ghost use Rattle.program_part.specs.Records.{messageAt};
+ghost use Rattle.whole_file.specs.declared.entry.Cube.{Cube as Cubes};
+ghost use Rattle.lists.specs.Matching.{messageMatches};
+ghost use Rattle.matching.specs.Relation.{relation};
+ghost use Rattle.matching.specs.Match.{channelMatches};
+ghost use Rattle.by_bytes.specs.Same.{Kinds, Stands, PointsSame, PointsOther};
+ghost use Rattle.by_bytes.specs.Against.{Against};
+use crate::Compared;
+use crate::not_same;
+use crate::told;
+use matching::least;
+use matching::lowest;
+use matching::values_related;
+use program_part::bytes::both;
+use program_part::bytes::wide;
+use program_part::program::Shape;
+use pws::Message;
+use whole_file::entry::Cube;
+
+// How many 11s follow the 10 at a place, up to n.
+pub(crate) fn messages_at(file: &[u8], at: usize, n: usize) -> usize
+    requires { ⌜ at + 16 + 7 * n ≤ length (now file) ⌝ }
+    ensures { λ r. ⌜ (r ≤ n) × Kinds (now (file .entry)) at r ⌝ }
+{
+    let mut m = 0;
+    let mut k = at + 9;
+    while both(m < n, file[k] == 17) {
+        m += 1;
+        k += 7;
+    }
+    m
+}
+
+fn pointers_at(file: &[u8], at: usize) -> [u8; 4]
+    requires { ⌜ at + 9 ≤ length (now file) ⌝ }
+    ensures { λ r. ⌜ r ≡ byte (now (file .entry)) (at + 5) ∷ byte (now (file .entry)) (at + 6) ∷ byte (now (file .entry)) (at + 7) ∷ byte (now (file .entry)) (at + 8) ∷ [] ⌝ }
+{
+    [file[at + 5], file[at + 6], file[at + 7], file[at + 8]]
+}
+
+fn small(x: u8) -> usize
+    ensures { λ r. ⌜ (r ≡ x) × (r < 256) ⌝ }
+{
+    x as usize
+}
+
+// Each pointer of the entry is at the message that stands for the one that the cube's is at.
+fn points_same(processes: usize, pointers: [u8; 4], own: [u8; 4], kept: [u8; 20], m: usize) -> bool
+    ensures { λ r. ⌜ (r ≡ true → PointsSame processes pointers own kept m) ⌝ }
+{
+    let n = least(processes, 4);
+    for p in 0..n {
+        let z = wide(pointers[p]);
+        if !both(0 < z, z <= least(m, 20)) {
+            return false;
+        }
+        if small(kept[z - 1]) + 1 != wide(own[p]) {
+            return false;
+        }
+    }
+    true
+}
+
+// Some process points at only one of message i of the entry and message j of the cube.
+fn points_other(processes: usize, pointers: [u8; 4], own: [u8; 4], i: usize, j: usize) -> bool
+    ensures { λ r. ⌜ (r ≡ true → PointsOther processes pointers own i j) ⌝ }
+{
+    let n = least(processes, 4);
+    for p in 0..n {
+        if wide(pointers[p]) == i {
+            if wide(own[p]) != j {
+                return true;
+            }
+        } else if wide(own[p]) == j {
+            return true;
+        }
+    }
+    false
+}
+
+// The 11 at a place has the label of a message, and values that are related to its own.
+fn meets(exact: bool, file: &[u8], k: usize, message: Message) -> bool
+    requires { ⌜ k + 7 ≤ length (now file) ⌝ }
+    ensures { λ r. ⌜ r ≡ messageMatches (relation exact) (messageAt (now (file .entry)) k) message ⌝ }
+{
+    if file[k + 1] != message.process {
+        return false;
+    }
+    if file[k + 2] != message.variable {
+        return false;
+    }
+    let values = [file[k + 3], file[k + 4], file[k + 5], file[k + 6]];
+    let own = message.snapshot;
+    values_related(exact, values, own)
+}
+
+// The i-th 11 of the entry can stand for a message of the cube, the j-th.
+fn stands_for(
+    exact: bool,
+    file: &[u8],
+    at: usize,
+    i: usize,
+    j: usize,
+    message: Message,
+    processes: usize,
+    pointers: [u8; 4],
+    own: [u8; 4],
+) -> bool
+    requires { ⌜ at + 9 + 7 * i ≤ length (now file) ⌝ }
+    requires { ⌜ i ≤ 20 ⌝ }
+    ensures { λ r. ⌜ (r ≡ true → (1 ≤ i) × (messageMatches (relation exact) (messageAt (now (file .entry)) (at + 2 + 7 * i)) message ≡ true)) ⌝ }
+    ensures { λ r. ⌜ (r ≡ false → 1 ≤ i → messageMatches (relation exact) (messageAt (now (file .entry)) (at + 2 + 7 * i)) message ≡ true → PointsOther processes pointers own i j) ⌝ }
+{
+    if i == 0 {
+        return false;
+    }
+    if !meets(exact, file, at + 2 + 7 * i, message) {
+        return false;
+    }
+    if points_other(processes, pointers, own, i, j) {
+        return false;
+    }
+    true
+}
+
+// The m 11s of the entry whose 10 stands at a place, newest first: each stands for the newest message of the cube that is left and that it can stand for. If one
+// is left over, the entry does not match. If none is, every message with a role has one that stands for it and the pointers agree, it does.
+pub(crate) fn channel_at(
+    exact: bool,
+    file: &[u8],
+    at: usize,
+    m: usize,
+    shape: Shape,
+    cube: Cube,
+    right: &[u64; 20],
+) -> Compared
+    requires { ⌜ at + 9 + 7 * m ≤ length (now file) ⌝ }
+    requires { ⌜ m ≤ 20 ⌝ }
+    ensures { λ r. ⌜ (r .same ≡ true → (e : Cubes) → Stands (now (file .entry)) at m e → Against shape cube (now (right .entry)) → (r .related ≡ true → e .count ≡ m → channelMatches shape exact e cube ≡ true) × (r .related ≡ false → channelMatches shape exact e cube ≡ false)) ⌝ }
+{
+    let pointers = pointers_at(file, at);
+    if lowest(shape, pointers) != 1 {
+        return not_same();
+    }
+    let own = cube.pointers;
+    let mut kept = [0u8; 20];
+    let mut all = true;
+    let mut i = m;
+    let mut j = least(cube.count, 20);
+    loop {
+        if j < i {
+            return told(false);
+        }
+        if j == 0 {
+            break;
+        }
+        let message = cube.messages[j - 1];
+        if stands_for(exact, file, at, i, j, message, shape.processes, pointers, own) {
+            j -= 1;
+            i -= 1;
+            kept[i] = j as u8;
+        } else {
+            j -= 1;
+            all = both(all, right[j] < 65536);
+        }
+    }
+    if !all {
+        return not_same();
+    }
+    if !points_same(shape.processes, pointers, own, kept, m) {
+        return not_same();
+    }
+    told(true)
+}

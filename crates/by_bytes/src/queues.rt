@@ -1,0 +1,127 @@
+// The 12s of an entry against the queues of a cube.
+ghost use mathlib.Core.Path.{_≡_};
+ghost use mathlib.Core.Bool.{true, _&&_, not};
+ghost use Prim.Native.Nat.{_+_, _*_, _-_, _≤_, _<_, min};
+ghost use lib.ListN.{length, getD};
+ghost use Rattle.program_part.specs.Records.{isKind};
+ghost use Rattle.whole_file.specs.Cube.{waitingOf, loadEntry};
+ghost use Rattle.matching.specs.Match.{queueRow};
+ghost use Rattle.pws.specs.Machine.{allBelow};
+ghost use Rattle.by_bytes.specs.Same.{Kinds, WaitsAt, HeldFrom};
+use crate::Compared;
+use crate::not_same;
+use crate::told;
+use matching::least;
+use matching::queue_matches;
+use matching::related;
+use matching::waiting;
+use matching::word;
+use program_part::bytes::both;
+use program_part::bytes::cut;
+use program_part::program::Shape;
+use program_part::record::is_kind;
+use whole_file::entry::Queue;
+
+// The 12 at a place is of the queue q.
+fn waits_at(file: &[u8], k: usize, q: usize) -> bool
+    requires { ⌜ q < 16 ⌝ }
+    ensures { λ r. ⌜ (r ≡ true → WaitsAt (now (file .entry)) k q) ⌝ }
+{
+    if cut(file, k, 3) {
+        return false;
+    }
+    word(file[k], file[k + 1], file[k + 2], 0) == 18 + 256 * (q / 4) + 65536 * (q % 4)
+}
+
+// The values of the 12s of one queue that stand one after another, and where these end.
+struct Held {
+    queue: Queue,
+    next: usize,
+}
+
+fn held_from(file: &[u8], k: usize, q: usize) -> Held
+    requires { ⌜ q < 16 ⌝ }
+    ensures { λ r. ⌜ HeldFrom (now (file .entry)) q k (r .queue) (r .next) ⌝ }
+{
+    let mut values = [0u8; 9];
+    let mut count = 0;
+    let mut next = k;
+    while both(count < 9, waits_at(file, next, q)) {
+        values[count] = file[next + 3];
+        count += 1;
+        next += 4;
+    }
+    let queue = Queue {
+        values: values,
+        count: count as u8,
+    };
+    Held {
+        queue: queue,
+        next: next,
+    }
+}
+
+// The newest waiting value; 0 where none waits.
+fn last_waiting(queue: Queue) -> u8
+    ensures { λ r. ⌜ r ≡ getD (waitingOf queue) (length (waitingOf queue) - 1) 0 ⌝ }
+{
+    let n = waiting(queue);
+    if n == 0 {
+        return 0;
+    }
+    queue.values[n - 1]
+}
+
+// No record of the entry stands there.
+fn ends_at(file: &[u8], k: usize) -> bool
+    ensures { λ r. ⌜ r ≡ (not (isKind (now (file .entry)) k 17) && not (isKind (now (file .entry)) k 18)) ⌝ }
+{
+    both(!is_kind(file, k, 17), !is_kind(file, k, 18))
+}
+
+// After m 11s the entry has 12s of these queues, where a value waits in them, in their order, and nothing else; and then whether they are related.
+pub(crate) fn queues_from(
+    exact: bool,
+    file: &[u8],
+    at: usize,
+    m: usize,
+    shape: Shape,
+    queues: [Queue; 16],
+) -> Compared
+    requires { ⌜ at + 9 + 7 * m ≤ length (now file) ⌝ }
+    requires { ⌜ m ≤ 20 ⌝ }
+    requires { ⌜ Kinds (now file) at m ⌝ }
+    ensures { λ r. ⌜ (r .same ≡ true → (loadEntry (now (file .entry)) at .count ≡ m) × (r .related ≡ allBelow (min (shape .processes) 4) (queueRow (shape .variables) exact (loadEntry (now (file .entry)) at .queues) queues))) ⌝ }
+{
+    let end = 4 * least(shape.processes, 4);
+    let variables = least(shape.variables, 4);
+    let mut k = at + 9 + 7 * m;
+    let mut waits = true;
+    for q in 0..end {
+        let queue = queues[q];
+        let w = waiting(queue);
+        if w == 0 {
+            continue;
+        }
+        if variables <= q % 4 {
+            return not_same();
+        }
+        if !waits_at(file, k, q) {
+            return not_same();
+        }
+        if waits_at(file, k + 4, q) {
+            let held = held_from(file, k, q);
+            let found = held.queue;
+            waits = both(waits, queue_matches(exact, found, queue));
+            k = held.next;
+            continue;
+        }
+        // one value: it is the newest that counts
+        waits = both(waits, related(exact, file[k + 3], last_waiting(queue)));
+        k += 4;
+    }
+    if !ends_at(file, k) {
+        return not_same();
+    }
+    told(waits)
+}
