@@ -21,13 +21,14 @@ use Rattle.whole_file.specs.declared.entry.Loaded.{Loaded}
 use Rattle.whole_file.specs.Tally.{queueAt}
 use Rattle.whole_file.specs.Cube.{noQueue, emptyQueue, waitingOf, pushed, loadsMessage, loadsWaiting, nothingLoaded, moreMessage, moreWaiting, loadFrom, loaded, loadEntry}
 use Rattle.whole_file.proofs.CubeLaws.{message-loads, load-message, load-waiting, load-ends, Loading, loading-begin, loading-message, loading-waiting, loading-ends}
+use Rattle.lists.specs.Values.{pairwise}
 use Rattle.lists.specs.Matching.{subsequence, queueMatches}
 use Rattle.matching.specs.Relation.{relation}
 use Rattle.matching.specs.Word.{Word}
 use Rattle.matching.specs.Match.{queueRow}
 use Rattle.matching.proofs.Below.{and-false, all-equal}
 use Rattle.matching.proofs.ValueLaws.{newest-at, same-bytes}
-use Rattle.by_bytes.specs.Same.{Kinds, Stands, WaitsAt, HeldFrom, none, more}
+use Rattle.by_bytes.specs.Same.{Kinds, Stands, WaitsAt, HeldFrom, none, more, Within}
 
 -- ---- tests
 
@@ -378,3 +379,23 @@ told-no q {x} {c} e d = e ∙ sym (ap (_&&_ q) d ∙ and-false q)
 
 pub told-yes : {q x c : Bool} → x ≡ q → c ≡ true → x ≡ q && c
 told-yes {q} {x} {c} e d = e ∙ sym (ap (_&&_ q) d ∙ and-right q)
+
+-- ---- an entry but for its pointers and older messages
+
+pub within-is : (f : List ℕ) (at : ℕ) (s : Shape) {m k : ℕ} {ls : List ℕ} {qs : List Queue} {xs : List ℕ} {x y z : Bool} → at < length f → m ≤ 20 → Kinds f at m → (m ≡ 0 → ⊥) → k ≡ at + 2 + 7 * m
+    → loadEntry f at .count ≡ m → z ≡ pairwise (relation true) (byte f (k + 3) ∷ byte f (k + 4) ∷ byte f (k + 5) ∷ byte f (k + 6) ∷ []) xs → z ≡ true
+    → y ≡ allBelow (min (s .processes) 4) (λ p. eqb (getD (byte f (at + 1) ∷ byte f (at + 2) ∷ byte f (at + 3) ∷ byte f (at + 4) ∷ []) p 0) (getD ls p 0)) → y ≡ true
+    → x ≡ allBelow (min (s .processes) 4) (queueRow (s .variables) true (loadEntry f at .queues) qs) → x ≡ true → Within f at s ls qs xs
+unfolding loadEntry
+within-is f at s {m} {k} {ls} {qs} {xs} inside few kinds one d n z ze y ye x xe =
+    let S = entry-stands f at m inside few kinds in
+    let a : loadEntry f at .count - 1 ≡ m - 1 = omega (arith, n) in
+    let b : at + 9 + 7 * (m - 1) ≡ k = omega (arith, one) in
+    record {
+      some = omega (arith, n, one);
+      few = S .most;
+      states = sym y ∙ ye;
+      queues = sym x ∙ xe;
+      newest = ap (λ (i : ℕ). pairwise (relation true) (getD (loadEntry f at .messages) i noMessage .snapshot) xs) a
+          ∙ ap (λ (u : Message). pairwise (relation true) (u .snapshot) xs) (S .message (m - 1) (omega (arith, one)) ∙ ap (messageAt f) b) ∙ sym z ∙ ze;
+    }

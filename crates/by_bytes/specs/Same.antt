@@ -6,13 +6,17 @@ use mathlib.Core.List.{List, [], _∷_}
 use lib.ListN.{length, getD}
 use lib.Dec.{eqb}
 use Rattle.pws.specs.declared.Message.{Message}
-use Rattle.pws.specs.Machine.{noMessage}
+use Rattle.pws.specs.Machine.{noMessage, allBelow}
+use Rattle.program_part.specs.declared.program.Shape.{Shape}
 use Rattle.program_part.specs.Bytes.{byte}
 use Rattle.program_part.specs.Records.{messageAt}
 use Rattle.whole_file.specs.declared.entry.Queue.{Queue}
 use Rattle.whole_file.specs.declared.entry.Cube.{Cube}
 use Rattle.whole_file.specs.Tally.{queueAt}
-use Rattle.whole_file.specs.Cube.{emptyQueue, loadsWaiting, pushed}
+use Rattle.whole_file.specs.Cube.{emptyQueue, loadsWaiting, pushed, loadEntry}
+use Rattle.lists.specs.Values.{pairwise}
+use Rattle.matching.specs.Relation.{relation}
+use Rattle.matching.specs.Match.{queueRow}
 
 -- ---- messages
 
@@ -47,3 +51,12 @@ pub record WaitsAt (f : List ℕ) (k q : ℕ) : Type 0 where
 pub data HeldFrom (f : List ℕ) (q k : ℕ) : Queue → ℕ → Type 0 where
   none : HeldFrom f q k emptyQueue k
   more : {u : Queue} {n : ℕ} → HeldFrom f q k u n → WaitsAt f n q → HeldFrom f q k (pushed u (byte f (n + 3))) (n + 4)
+
+-- ---- an entry but for its pointers and older messages
+
+pub record Within (f : List ℕ) (at : ℕ) (s : Shape) (ls : List ℕ) (qs : List Queue) (xs : List ℕ) : Type 0 where
+  pub some : 1 ≤ loadEntry f at .count
+  pub few : loadEntry f at .count ≤ 20
+  pub states : allBelow (min (s .processes) 4) (λ p. eqb (getD (loadEntry f at .states) p 0) (getD ls p 0)) ≡ true
+  pub queues : allBelow (min (s .processes) 4) (queueRow (s .variables) true (loadEntry f at .queues) qs) ≡ true
+  pub newest : pairwise (relation true) (getD (loadEntry f at .messages) (loadEntry f at .count - 1) noMessage .snapshot) xs ≡ true

@@ -3,6 +3,7 @@
 ghost use mathlib.Core.Path.{_≡_};
 ghost use mathlib.Core.Bool.{true, _&&_, not};
 ghost use Prim.Native.Nat.{min};
+ghost use Rattle.by_bytes.specs.Same.{Within};
 ghost use Rattle.whole_file.specs.Cube.{loadEntry};
 ghost use Rattle.matching.specs.Match.{channelMatches, queueRow};
 ghost use Rattle.pws.specs.Machine.{allBelow};
@@ -11,9 +12,12 @@ use crate::messages::channel_at;
 use crate::messages::messages_at;
 use crate::queues::queues_from;
 use matching::least;
+use matching::states_match;
+use matching::values_related;
 use program_part::bytes::cut;
 use program_part::program::Shape;
 use whole_file::entry::Cube;
+use whole_file::entry::Queue;
 
 mod messages;
 mod queues;
@@ -69,4 +73,36 @@ pub fn compare_at(
     }
     let queues = cube.queues;
     queues_from(exact, file, at, m, shape, queues)
+}
+
+// The entry whose 10 stands at a place has these local states, waiting values below those of these queues, and newest values for which these may stand. It is
+// told if it stands far enough from the end of the file and its 12s are of the queues in which a value waits, in their order.
+pub fn within_at(
+    file: &[u8],
+    at: usize,
+    shape: Shape,
+    states: [u8; 4],
+    queues: [Queue; 16],
+    values: [u8; 4],
+) -> Compared
+    ensures { λ r. ⌜ (r .same ≡ true → r .related ≡ true → Within (now (file .entry)) at shape states queues values) ⌝ }
+{
+    if cut(file, at, 155) {
+        return not_same();
+    }
+    let m = messages_at(file, at, 20);
+    if m == 0 {
+        return not_same();
+    }
+    let k = at + 2 + 7 * m;
+    let newest = [file[k + 3], file[k + 4], file[k + 5], file[k + 6]];
+    // most entries are told by their newest values
+    if !values_related(true, newest, values) {
+        return told(false);
+    }
+    let own = [file[at + 1], file[at + 2], file[at + 3], file[at + 4]];
+    if !states_match(shape.processes, own, states) {
+        return told(false);
+    }
+    queues_from(true, file, at, m, shape, queues)
 }

@@ -1,6 +1,6 @@
 -- The table of full families: what stands in it, and what is said of a cube that is found there.
 use Prim.Native.Nat.{ℕ, zero, suc, _+_, _-_, _*_, _/_, _<_, _≤_, min}
-use mathlib.Core.Path.{_≡_, refl, sym, ap, subst, subst₂, _∙_}
+use mathlib.Core.Path.{_≡_, refl, sym, ap, ap₂, subst, subst₂, _∙_}
 use mathlib.Core.Bool.{Bool, true}
 use mathlib.Core.List.{List}
 use native.Mathlib.Omega.{arith}
@@ -27,11 +27,12 @@ use Rattle.program_part.specs.Bytes.{byte, le32}
 use Rattle.program_part.specs.ProgramPart.{shapeOf}
 use Rattle.program_part.proofs.ByteLaws.{byte-past}
 use Rattle.whole_file.specs.declared.entry.Cube.{Cube}
-use Rattle.whole_file.specs.Cube.{noQueue, waitingOf, channelOf, configurationOf}
+use Rattle.whole_file.specs.Cube.{noQueue, waitingOf, channelOf, configurationOf, loadEntry}
 use Rattle.whole_file.proofs.CubeParts.{queue-of}
 use Rattle.by_number.specs.Again.{cubeAt, entriesOf}
 use Rattle.by_number.proofs.Tables.{table-length, table-number}
 use Rattle.matching.specs.Match.{queueRow}
+use Rattle.by_bytes.specs.Same.{Within}
 use Rattle.summary.specs.Slots.{word, putWord}
 use Rattle.summary.proofs.WordLaws.{word-same, word-other}
 use Rattle.families.specs.Family.{InFamily, FamilyHeld, Families, Recorded, newestValues}
@@ -81,6 +82,12 @@ module _ (s : Shape) (e c : Cube) (few : s .processes ≤ 4) (narrow : s .variab
             (row-yes p v m (all-yes (min (s .processes) 4) (queueRow (s .variables) true (e .queues) (c .queues)) (subst T (sym ye ∙ y) tt) p (omega arith))));
         newest = subst T (sym z) tt;
       }
+
+pub within-family : (s : Shape) (f : List ℕ) (at : ℕ) (c : Cube) → s .processes ≤ 4 → s .variables ≤ 4 → {vs : List ℕ} → vs ≡ newestValues c → (c .count ≡ 0 → ⊥) → c .count ≤ 20
+    → Within f at s (c .states) (c .queues) vs → InFamily (shapeOf s) (configurationOf (loadEntry f at)) (configurationOf c)
+within-family s f at c few narrow d a b w =
+    in-family-is s (loadEntry f at) c few narrow refl (w .states) refl (w .queues)
+    (ap₂ (pairwise fills) (sym (values-some (loadEntry f at) (w .some) (w .few) ∙ values-newest (loadEntry f at) (w .some) (w .few))) (sym (d ∙ values-newest c (omega arith) b)) ∙ w .newest)
 
 -- ---- words
 

@@ -11,9 +11,10 @@ ghost use Rattle.pws.specs.Entries.{entry};
 ghost use Rattle.lists.specs.Values.{fills, pairwise};
 ghost use Rattle.lists.specs.Cubes.{topmost};
 ghost use Rattle.program_part.specs.ProgramPart.{shapeOf};
-ghost use Rattle.whole_file.specs.Cube.{configurationOf};
+ghost use Rattle.whole_file.specs.Cube.{configurationOf, loadEntry};
 ghost use Rattle.by_number.specs.Again.{cubeAt};
 ghost use Rattle.families.specs.Family.{InFamily, FamilyHeld, Families, Recorded, newestValues};
+use by_bytes::within_at;
 use by_number::offset_at;
 use matching::least;
 use matching::queues_match;
@@ -65,45 +66,10 @@ fn newest_fits(entry: Cube, cube: Cube) -> bool
     values_related(true, newest_values(entry), newest_values(cube))
 }
 
-// The values of the newest of the 11s that follow the 10 at a place, and any if there is none. Of an entry as it stands in a file, these are its newest values.
-fn values_at(file: &[u8], at: usize) -> [u8; 4] {
-    let n = file.len();
-    let none = [255u8; 4];
-    if n <= at {
-        return none;
-    }
-    let room = n - at;
-    let mut last = 2;
-    for i in 0..20 {
-        let next = 9 + 7 * i;
-        if room < next + 7 {
-            break;
-        }
-        if file[at + next] != 17 {
-            break;
-        }
-        last = next;
-    }
-    if last == 2 {
-        return none;
-    }
-    [
-        file[at + last + 3],
-        file[at + last + 4],
-        file[at + last + 5],
-        file[at + last + 6],
-    ]
-}
-
-// The cube is in the family of entry k.
-fn in_family(file: &[u8], list: &[u8], shape: Shape, k: usize, cube: Cube) -> bool
-    ensures { λ r. ⌜ (r ≡ true → shape .processes ≤ 4 → shape .variables ≤ 4 → InFamily (shapeOf shape) (configurationOf (cubeAt (now (file .entry)) (now (list .entry)) k)) (configurationOf cube)) ⌝ }
+// The cube is in the family of the entry whose 10 stands at a place, which is built.
+fn in_built_family(file: &[u8], at: usize, shape: Shape, cube: Cube) -> bool
+    ensures { λ r. ⌜ (r ≡ true → shape .processes ≤ 4 → shape .variables ≤ 4 → InFamily (shapeOf shape) (configurationOf (loadEntry (now (file .entry)) at)) (configurationOf cube)) ⌝ }
 {
-    let at = offset_at(list, k);
-    // most families of a row that the cube is not in are told by their newest values
-    if !values_related(true, values_at(file, at), newest_values(cube)) {
-        return false;
-    }
     let entry = load_entry(file, at);
     let states = entry.states;
     let own = cube.states;
@@ -116,6 +82,29 @@ fn in_family(file: &[u8], list: &[u8], shape: Shape, k: usize, cube: Cube) -> bo
         return false;
     }
     newest_fits(entry, cube)
+}
+
+// The cube is in the family of entry k.
+fn in_family(file: &[u8], list: &[u8], shape: Shape, k: usize, cube: Cube) -> bool
+    ensures { λ r. ⌜ (r ≡ true → shape .processes ≤ 4 → shape .variables ≤ 4 → InFamily (shapeOf shape) (configurationOf (cubeAt (now (file .entry)) (now (list .entry)) k)) (configurationOf cube)) ⌝ }
+{
+    let n = cube.count;
+    if n == 0 {
+        return false;
+    }
+    if 20 < n {
+        return false;
+    }
+    let at = offset_at(list, k);
+    let states = cube.states;
+    let queues = cube.queues;
+    let values = newest_values(cube);
+    // most entries are told by their bytes
+    let compared = within_at(file, at, shape, states, queues, values);
+    if compared.same {
+        return compared.related;
+    }
+    in_built_family(file, at, shape, cube)
 }
 
 // ---- the table: words 0 to 1,023 are entries whose families are full, eight in a row for local states and empty queues that fall together;
