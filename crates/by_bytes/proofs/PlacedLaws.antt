@@ -1,5 +1,5 @@
 -- The messages of an entry against those of a cube, newest first, each as soon as it can.
-use Prim.Native.Nat.{ℕ, zero, suc, _+_, _*_, _-_, _<_, _≤_, min}
+use Prim.Native.Nat.{ℕ, zero, suc, _+_, _*_, _-_, _/_, _%_, _<_, _≤_, min}
 use mathlib.Core.Path.{_≡_, refl, sym, ap, ap₂, subst, subst₂, _∙_}
 use mathlib.Core.Bool.{Bool, true, false, _&&_}
 use mathlib.Core.List.{List, [], _∷_}
@@ -19,13 +19,15 @@ use Rattle.whole_file.specs.declared.entry.Cube.{Cube}
 use Rattle.lists.specs.Values.{pairwise}
 use Rattle.lists.specs.Matching.{messageMatches}
 use Rattle.matching.specs.Relation.{relation}
-use Rattle.matching.specs.Tags.{labelNumber, lowestBelow, lowestPointer}
+use Rattle.matching.specs.Tags.{labelNumber, tagsOf, lowestBelow, lowestPointer}
+use Rattle.matching.specs.Word.{Word}
+use Rattle.matching.proofs.ValueLaws.{same-bytes, same-four}
 use Rattle.matching.specs.Match.{channelMatches}
 use Rattle.matching.proofs.Below.{and-false}
 use Rattle.matching.proofs.TagLaws.{tag-is}
 use Rattle.matching.proofs.MarkLaws.{tags-at}
-use Rattle.by_bytes.specs.Same.{Kinds, Stands, PointsSame, PointsOther}
-use Rattle.by_bytes.specs.Against.{Sized, Against}
+use Rattle.by_bytes.specs.Same.{Cue, Cues, Kinds, Stands, PointsSame, PointsOther}
+use Rattle.by_bytes.specs.Against.{Against}
 use Rattle.by_bytes.proofs.TracedLaws.{maskIn, Traced, traced-matches}
 use Rattle.by_bytes.proofs.LeftLaws.{cannot-stand, Left, left-begin, left-keep, left-skip, left-over}
 
@@ -49,6 +51,89 @@ module _ (r : ℕ → ℕ → Bool) (a b : Message) where
   pub label-same : {x : Bool} → a .process ≡ b .process → a .variable ≡ b .variable → x ≡ pairwise r (a .snapshot) (b .snapshot) → x ≡ messageMatches r a b
   label-same d e h =
       h ∙ sym (ap₂ (λ (x y : Bool). (x && y) && pairwise r (a .snapshot) (b .snapshot)) (eq-eqb (a .process) (b .process) d) (eq-eqb (a .variable) (b .variable) e))
+
+-- a cue against the bytes of an 11
+module _ (exact : Bool) (f : List ℕ) (k : ℕ) {cue label rest : ℕ} (m : Message) {tag : ℕ} (K : Cue cue m tag)
+    (lw : Word (byte f (k + 1)) (byte f (k + 2)) 0 0 label) (rw : Word (byte f (k + 3)) (byte f (k + 4)) (byte f (k + 5)) (byte f (k + 6)) rest)
+  where
+    half : cue / 2 ≡ K .label + 65536 * K .rest
+    half = omega (arith, K .is, K .bit)
+
+    low : label < 65536
+    low = omega (arith, lw .is, lw .first, lw .second)
+
+    their-low : K .label < 65536
+    their-low = omega (arith, K .labels .is, K .labels .first, K .labels .second)
+
+    pub cue-same : label + 65536 * rest ≡ cue / 2 → true ≡ messageMatches (relation exact) (messageAt f k) m
+    cue-same e =
+        let a = same-bytes lw (K .labels) (omega (arith, half, low, their-low)) in
+        let b = same-bytes rw (K .snapshot) (omega (arith, half, low, their-low)) in
+        label-same (relation exact) (messageAt f k) m (a .first) (a .second) (same-four exact (messageAt f k .snapshot) (m .snapshot) refl (K .four) b)
+
+    pub cue-other : (label ≡ cue / 2 % 65536 → ⊥) → false ≡ messageMatches (relation exact) (messageAt f k) m
+    cue-other e = at (messageMatches (relation exact) (messageAt f k) m) refl
+      where
+        at : (b : Bool) → messageMatches (relation exact) (messageAt f k) m ≡ b → false ≡ b
+        at false q = refl
+        at true q =
+            let v = and-true (eqb (byte f (k + 1)) (m .process) && eqb (byte f (k + 2)) (m .variable)) (pairwise (relation exact) (messageAt f k .snapshot) (m .snapshot)) q in
+            let u = and-true (eqb (byte f (k + 1)) (m .process)) (eqb (byte f (k + 2)) (m .variable)) (v .0) in
+            let x = eqb-true (byte f (k + 1)) (m .process) (u .0) in
+            let y = eqb-true (byte f (k + 2)) (m .variable) (u .1) in
+            absurd (e (omega (arith, half, lw .is, K .labels .is, their-low, low)))
+
+    pub cue-values : {own : List ℕ} {r : Bool} → label ≡ cue / 2 % 65536 → own ≡ cue / 2 / 65536 % 256 ∷ cue / 2 / 65536 / 256 % 256 ∷ cue / 2 / 65536 / 65536 % 256 ∷ cue / 2 / 65536 / 16777216 % 256 ∷ []
+        → r ≡ pairwise (relation exact) (messageAt f k .snapshot) own → r ≡ messageMatches (relation exact) (messageAt f k) m
+    cue-values {own} {r} e o h =
+        let a = same-bytes lw (K .labels) (omega (arith, half, low, their-low)) in
+        label-same (relation exact) (messageAt f k) m (a .first) (a .second) (h ∙ ap (pairwise (relation exact) (messageAt f k .snapshot)) (o ∙ bytes ∙ sym (four (m .snapshot) (K .four))))
+      where
+        v : cue / 2 / 65536 ≡ K .rest
+        v = omega (arith, half, their-low)
+
+        cons : {a b c d e g h i : ℕ} → a ≡ e → b ≡ g → c ≡ h → d ≡ i → a ∷ b ∷ c ∷ d ∷ [] ≡ e ∷ g ∷ h ∷ i ∷ []
+        cons p q r s = ap₂ _∷_ p (ap₂ _∷_ q (ap₂ _∷_ r (ap (λ (x : ℕ). x ∷ []) s)))
+
+        W : Word (getD (m .snapshot) 0 0) (getD (m .snapshot) 1 0) (getD (m .snapshot) 2 0) (getD (m .snapshot) 3 0) (K .rest)
+        W = K .snapshot
+
+        bytes : cue / 2 / 65536 % 256 ∷ cue / 2 / 65536 / 256 % 256 ∷ cue / 2 / 65536 / 65536 % 256 ∷ cue / 2 / 65536 / 16777216 % 256 ∷ []
+            ≡ getD (m .snapshot) 0 0 ∷ getD (m .snapshot) 1 0 ∷ getD (m .snapshot) 2 0 ∷ getD (m .snapshot) 3 0 ∷ []
+        bytes = cons
+            (omega (arith, v, W .is, W .first, W .second, W .third, K .last))
+            (omega (arith, v, W .is, W .first, W .second, W .third, K .last))
+            (omega (arith, v, W .is, W .first, W .second, W .third, K .last))
+            (omega (arith, v, W .is, W .first, W .second, W .third, K .last))
+
+        four : (xs : List ℕ) → length xs ≡ 4 → xs ≡ getD xs 0 0 ∷ getD xs 1 0 ∷ getD xs 2 0 ∷ getD xs 3 0 ∷ []
+        four [] n = absurd (omega arith)
+        four (a ∷ []) n = absurd (omega arith)
+        four (a ∷ b ∷ []) n = absurd (omega arith)
+        four (a ∷ b ∷ c ∷ []) n = absurd (omega arith)
+        four (a ∷ b ∷ c ∷ d ∷ []) n = refl
+        four (a ∷ b ∷ c ∷ d ∷ e ∷ xs) n = absurd (omega arith)
+
+-- the cues of the first i messages
+pub record Cueing (ms : List Message) (tags cues : List ℕ) (n i : ℕ) : Type 0 where
+  pub most : i ≤ n
+  pub room : length cues ≡ 20
+  pub each : (j : ℕ) → j < i → Cue (getD cues j 0) (getD ms j noMessage) (getD tags j 0)
+
+pub cueing-begin : (ms : List Message) (tags : List ℕ) (n : ℕ) → Cueing ms tags (replicate 20 0) n 0
+cueing-begin ms tags n = record { most = omega arith; room = refl; each = λ j l. absurd (omega arith) }
+
+pub cueing-next : {ms : List Message} {tags cues : List ℕ} {n i r : ℕ} → Cueing ms tags cues n i → i < n → n ≤ 20 → Cue r (getD ms i noMessage) (getD tags i 0) → Cueing ms tags (set cues i r) n (i + 1)
+cueing-next {ms} {tags} {cues} {n} {i} {r} w l b K =
+    record {
+      most = omega arith;
+      room = length-set cues i r ∙ w .room;
+      each = λ j g. elim (ℕ-discrete j i) [
+        | yes d ↦ subst (λ (x : ℕ). Cue (getD (set cues i r) x 0) (getD ms x noMessage) (getD tags x 0)) (sym d)
+            (subst (λ (x : ℕ). Cue x (getD ms i noMessage) (getD tags i 0)) (sym (getD-set-same cues i r 0 (omega (arith, w .room)))) K)
+        | no d ↦ subst (λ (x : ℕ). Cue x (getD ms j noMessage) (getD tags j 0)) (sym (getD-set-other cues i j r 0 (λ q. omega arith))) (w .each j (omega arith))
+      ];
+    }
 
 pub one-points : {z w i j : ℕ} → z ≡ i → (w ≡ j → ⊥) → eqb z i ≡ eqb w j → ⊥
 one-points {z} {w} {i} {j} d e f = e (eqb-true w j (sym f ∙ eq-eqb z i d))
@@ -97,20 +182,23 @@ one-lowest (suc n) zs l = elim (decLe (getD zs n 0) 1) [
 
 -- ---- each 11 as soon as it can
 
--- the newest 11s, from the i-th on, stand for messages from the j-th on
-pub record Placed (exact : Bool) (f : List ℕ) (at m : ℕ) (s : Shape) (c : Cube) (tags : List ℕ) (kept : List ℕ) (all : Bool) (i j : ℕ) : Type 0 where
+-- the newest 11s, from the i-th on, stand for messages from the j-th on: what is known if the cues are those of the cube
+pub record Seen (exact : Bool) (f : List ℕ) (at m : ℕ) (s : Shape) (c : Cube) (few : s .processes ≤ 4) (kept : List ℕ) (all : Bool) (i j : ℕ) : Type 0 where
+  pub meets : (x : ℕ) → i ≤ x → x < m → messageMatches (relation exact) (messageAt f (at + 9 + 7 * x)) (getD (c .messages) (getD kept x 0) noMessage) ≡ true
+  pub covers : all ≡ true → (y : ℕ) → j ≤ y → y < min (c .count) 20 → 65536 ≤ getD (tagsOf s c) y 0 → (x : ℕ) × (i ≤ x) × (x < m) × (getD kept x 0 ≡ y)
+  pub left : (e : Cube) → Stands f at m e → (low : lowestPointer s (e .pointers) ≡ 1) → Left s few exact e c low i j
+
+pub record Placed (exact : Bool) (f : List ℕ) (at m : ℕ) (s : Shape) (c : Cube) (cues : List ℕ) (kept : List ℕ) (all : Bool) (i j : ℕ) : Type 0 where
   pub few : i ≤ m
   pub low : j ≤ min (c .count) 20
   pub room : length kept ≡ 20
   pub from : (x : ℕ) → i ≤ x → x < m → j ≤ getD kept x 0
   pub below : (x : ℕ) → i ≤ x → x < m → getD kept x 0 < c .count
   pub rises : (x y : ℕ) → i ≤ x → x < y → y < m → getD kept x 0 < getD kept y 0
-  pub meets : (x : ℕ) → i ≤ x → x < m → messageMatches (relation exact) (messageAt f (at + 9 + 7 * x)) (getD (c .messages) (getD kept x 0) noMessage) ≡ true
-  pub covers : all ≡ true → (y : ℕ) → j ≤ y → y < min (c .count) 20 → 65536 ≤ getD tags y 0 → (x : ℕ) × (i ≤ x) × (x < m) × (getD kept x 0 ≡ y)
-  pub left : (e : Cube) → Stands f at m e → (low : lowestPointer s (e .pointers) ≡ 1) → (z : Sized s c) → Left s (z .processes) exact e c low i j
+  pub seen : (A : Against s c cues) → Seen exact f at m s c (A .sized .processes) kept all i j
 
-pub placed-begin : (exact : Bool) (f : List ℕ) (at m : ℕ) (s : Shape) (c : Cube) (tags : List ℕ) {n : ℕ} → n ≡ min (c .count) 20 → Placed exact f at m s c tags (replicate 20 0) true m n
-placed-begin exact f at m s c tags {n} d =
+pub placed-begin : (exact : Bool) (f : List ℕ) (at m : ℕ) (s : Shape) (c : Cube) (cues : List ℕ) {n : ℕ} → n ≡ min (c .count) 20 → Placed exact f at m s c cues (replicate 20 0) true m n
+placed-begin exact f at m s c cues {n} d =
     record {
       few = omega arith;
       low = omega arith;
@@ -118,14 +206,16 @@ placed-begin exact f at m s c tags {n} d =
       from = λ x a b. absurd (omega arith);
       below = λ x a b. absurd (omega arith);
       rises = λ x y a b g. absurd (omega arith);
-      meets = λ x a b. absurd (omega arith);
-      covers = λ t y a b. absurd (omega arith);
-      left = λ e h low z.
-          let k : c .count ≡ n = omega (arith, z .messages) in
-          subst (Left s (z .processes) exact e c low m) k (left-begin s (z .processes) exact e c low (h .most) m (h .least));
+      seen = λ A. record {
+        meets = λ x a b. absurd (omega arith);
+        covers = λ t y a b. absurd (omega arith);
+        left = λ e h low.
+            let k : c .count ≡ n = omega (arith, A .sized .messages) in
+            subst (Left s (A .sized .processes) exact e c low m) k (left-begin s (A .sized .processes) exact e c low (h .most) m (h .least));
+      };
     }
 
-module _ {exact : Bool} {f : List ℕ} {at m : ℕ} {s : Shape} {c : Cube} {tags kept : List ℕ} {all : Bool} {i j : ℕ} (w : Placed exact f at m s c tags kept all (suc i) (suc j)) (short : m ≤ 20) where
+module _ {exact : Bool} {f : List ℕ} {at m : ℕ} {s : Shape} {c : Cube} {cues kept : List ℕ} {all : Bool} {i j : ℕ} (w : Placed exact f at m s c cues kept all (suc i) (suc j)) (short : m ≤ 20) where
   old : (x : ℕ) → suc i ≤ x → getD (set kept i j) x 0 ≡ getD kept x 0
   old x l = getD-set-other kept i x j 0 (λ f. omega arith)
 
@@ -135,7 +225,7 @@ module _ {exact : Bool} {f : List ℕ} {at m : ℕ} {s : Shape} {c : Cube} {tags
   at-new : (x : ℕ) → x ≡ i → getD (set kept i j) x 0 ≡ j
   at-new x d = ap (λ (k : ℕ). getD (set kept i j) k 0) d ∙ new
 
-  kept-next : messageMatches (relation exact) (messageAt f (at + 9 + 7 * i)) (getD (c .messages) j noMessage) ≡ true → Placed exact f at m s c tags (set kept i j) all i j
+  kept-next : (Against s c cues → messageMatches (relation exact) (messageAt f (at + 9 + 7 * i)) (getD (c .messages) j noMessage) ≡ true) → Placed exact f at m s c cues (set kept i j) all i j
   kept-next h =
       record {
         few = omega (arith, w .few);
@@ -147,22 +237,24 @@ module _ {exact : Bool} {f : List ℕ} {at m : ℕ} {s : Shape} {c : Cube} {tags
           | yes d ↦ omega (arith, at-new x d, old y (omega arith), w .from y (omega arith) g)
           | no d ↦ omega (arith, old x (omega arith), old y (omega arith), w .rises x y (omega arith) b g)
         ];
-        meets = λ x a b. elim (ℕ-discrete x i) [
-          | yes d ↦ subst₂ (λ (k l : ℕ). messageMatches (relation exact) (messageAt f (at + 9 + 7 * k)) (getD (c .messages) l noMessage) ≡ true) (sym d) (sym (at-new x d)) h
-          | no d ↦ subst (λ (l : ℕ). messageMatches (relation exact) (messageAt f (at + 9 + 7 * x)) (getD (c .messages) l noMessage) ≡ true) (sym (old x (omega arith))) (w .meets x (omega arith) b)
-        ];
-        covers = λ t y a b r. elim (ℕ-discrete y j) [
-          | yes d ↦ (i, omega arith, omega (arith, w .few), new ∙ sym d)
-          | no d ↦ let v = w .covers t y (omega arith) b r in (v .0, omega (arith, v .1), v .2, old (v .0) (v .1) ∙ v .3)
-        ];
-        left = λ e k low z. left-keep s (z .processes) exact e c low i j (omega (arith, w .few)) (omega (arith, w .low)) (w .left e k low z);
+        seen = λ A. record {
+          meets = λ x a b. elim (ℕ-discrete x i) [
+            | yes d ↦ subst₂ (λ (k l : ℕ). messageMatches (relation exact) (messageAt f (at + 9 + 7 * k)) (getD (c .messages) l noMessage) ≡ true) (sym d) (sym (at-new x d)) (h A)
+            | no d ↦ subst (λ (l : ℕ). messageMatches (relation exact) (messageAt f (at + 9 + 7 * x)) (getD (c .messages) l noMessage) ≡ true) (sym (old x (omega arith))) (w .seen A .meets x (omega arith) b)
+          ];
+          covers = λ t y a b r. elim (ℕ-discrete y j) [
+            | yes d ↦ (i, omega arith, omega (arith, w .few), new ∙ sym d)
+            | no d ↦ let v = w .seen A .covers t y (omega arith) b r in (v .0, omega (arith, v .1), v .2, old (v .0) (v .1) ∙ v .3)
+          ];
+          left = λ e k low. left-keep s (A .sized .processes) exact e c low i j (omega (arith, w .few)) (omega (arith, w .low)) (w .seen A .left e k low);
+        };
       }
 
-skipped-next : {exact : Bool} {f : List ℕ} {at m : ℕ} {s : Shape} {c : Cube} {tags kept : List ℕ} {all : Bool} {i j : ℕ} → Placed exact f at m s c tags kept all i (suc j) → m ≤ 20
+skipped-next : {exact : Bool} {f : List ℕ} {at m : ℕ} {s : Shape} {c : Cube} {cues kept : List ℕ} {all : Bool} {i j : ℕ} → Placed exact f at m s c cues kept all i (suc j) → m ≤ 20
     → (zs : List ℕ) → ((e : Cube) → Stands f at m e → e .pointers ≡ zs)
-    → ((k : ℕ) → i ≡ suc k → messageMatches (relation exact) (messageAt f (at + 9 + 7 * k)) (getD (c .messages) j noMessage) ≡ true → PointsOther (s .processes) zs (c .pointers) (suc k) (suc j))
-    → {more : Bool} → more ≡ all && ltb (getD tags j 0) 65536 → Placed exact f at m s c tags kept more i j
-skipped-next {exact} {f} {at} {m} {s} {c} {tags} {kept} {all} {i} {j} w short zs are h {more} d =
+    → (Against s c cues → (k : ℕ) → i ≡ suc k → messageMatches (relation exact) (messageAt f (at + 9 + 7 * k)) (getD (c .messages) j noMessage) ≡ true → PointsOther (s .processes) zs (c .pointers) (suc k) (suc j))
+    → {more : Bool} → (Against s c cues → more ≡ true → (all ≡ true) × (getD (tagsOf s c) j 0 < 65536)) → Placed exact f at m s c cues kept more i j
+skipped-next {exact} {f} {at} {m} {s} {c} {cues} {kept} {all} {i} {j} w short zs are h {more} d =
     record {
       few = w .few;
       low = omega (arith, w .low);
@@ -170,57 +262,71 @@ skipped-next {exact} {f} {at} {m} {s} {c} {tags} {kept} {all} {i} {j} w short zs
       from = λ x a b. omega (arith, w .from x a b);
       below = w .below;
       rises = w .rises;
-      meets = w .meets;
-      covers = λ t y a b r.
-          let v = and-true all (ltb (getD tags j 0) 65536) (sym d ∙ t) in
-          elim (ℕ-discrete y j) [
-            | yes q ↦ absurd (omega (arith, ap (λ (k : ℕ). getD tags k 0) q, ltb-true (getD tags j 0) 65536 (v .1)))
-            | no q ↦ w .covers (v .0) y (omega arith) b r
-          ];
-      left = λ e k low z.
-          left-skip s (z .processes) exact e c low i j (omega (arith, w .few)) (omega (arith, w .low))
-          (λ q x. cannot-stand exact s (z .processes) (z .variables) e c q j
-          (λ u. subst (λ (ps : List ℕ). PointsOther (s .processes) ps (c .pointers) (suc q) (suc j)) (sym (are e k))
-          (h q x (subst (λ (y : Message). messageMatches (relation exact) y (getD (c .messages) j noMessage) ≡ true) (k .message q (omega (arith, w .few))) u))))
-          (w .left e k low z);
+      seen = λ A. record {
+        meets = w .seen A .meets;
+        covers = λ t y a b r.
+            let v = d A t in
+            elim (ℕ-discrete y j) [
+              | yes q ↦ absurd (omega (arith, ap (λ (k : ℕ). getD (tagsOf s c) k 0) q, v .1))
+              | no q ↦ w .seen A .covers (v .0) y (omega arith) b r
+            ];
+        left = λ e k low.
+            left-skip s (A .sized .processes) exact e c low i j (omega (arith, w .few)) (omega (arith, w .low))
+            (λ q x. cannot-stand exact s (A .sized .processes) (A .sized .variables) e c q j
+            (λ u. subst (λ (ps : List ℕ). PointsOther (s .processes) ps (c .pointers) (suc q) (suc j)) (sym (are e k))
+            (h A q x (subst (λ (y : Message). messageMatches (relation exact) y (getD (c .messages) j noMessage) ≡ true) (k .message q (omega (arith, w .few))) u))))
+            (w .seen A .left e k low);
+      };
     }
 
-module _ {exact : Bool} {f : List ℕ} {at m : ℕ} {s : Shape} {c : Cube} {tags kept : List ℕ} {all : Bool} {i j : ℕ} (w : Placed exact f at m s c tags kept all i j) (short : m ≤ 20) where
-  pub placed-keep : {g h : ℕ} → 1 ≤ i → 1 ≤ j → messageMatches (relation exact) (messageAt f (at + 2 + 7 * i)) (getD (c .messages) (j - 1) noMessage) ≡ true → g ≡ i - 1 → h ≡ j - 1
-      → Placed exact f at m s c tags (set kept g h) all g h
-  placed-keep {g} {h} l k t x y =
+module _ {exact : Bool} {f : List ℕ} {at m : ℕ} {s : Shape} {c : Cube} {cues kept : List ℕ} {all : Bool} {i j : ℕ} (w : Placed exact f at m s c cues kept all i j) (short : m ≤ 20) where
+  cue-at : Against s c cues → {h : ℕ} → 1 ≤ j → h ≡ j - 1 → Cue (getD cues (j - 1) 0) (getD (c .messages) (j - 1) noMessage) (getD (tagsOf s c) (j - 1) 0)
+  cue-at A l y = A .are (j - 1) (omega (arith, w .low))
+
+  pub placed-keep : {g h cue : ℕ} → 1 ≤ i → 1 ≤ j → cue ≡ getD cues (j - 1) 0
+      → ((u : Message) → (tag : ℕ) → Cue cue u tag → messageMatches (relation exact) (messageAt f (at + 2 + 7 * i)) u ≡ true) → g ≡ i - 1 → h ≡ j - 1
+      → Placed exact f at m s c cues (set kept g h) all g h
+  placed-keep {g} {h} {cue} l k q t x y =
       let a : i ≡ suc g = omega arith in
       let b : j ≡ suc h = omega arith in
       let z : at + 2 + 7 * i ≡ at + 9 + 7 * g = omega arith in
-      kept-next (subst₂ (Placed exact f at m s c tags kept all) a b w) short
-      (subst₂ (λ (u v : ℕ). messageMatches (relation exact) (messageAt f u) (getD (c .messages) v noMessage) ≡ true) z (sym y) t)
+      kept-next (subst₂ (Placed exact f at m s c cues kept all) a b w) short
+      (λ A. subst₂ (λ (u v : ℕ). messageMatches (relation exact) (messageAt f u) (getD (c .messages) v noMessage) ≡ true) z (sym y)
+      (t (getD (c .messages) (j - 1) noMessage) (getD (tagsOf s c) (j - 1) 0) (subst (λ (r : ℕ). Cue r (getD (c .messages) (j - 1) noMessage) (getD (tagsOf s c) (j - 1) 0)) (sym q) (cue-at A k y))))
 
-  pub placed-skip : {h : ℕ} {zs : List ℕ} → 1 ≤ j → h ≡ j - 1 → ((e : Cube) → Stands f at m e → e .pointers ≡ zs)
-      → (1 ≤ i → messageMatches (relation exact) (messageAt f (at + 2 + 7 * i)) (getD (c .messages) (j - 1) noMessage) ≡ true → PointsOther (s .processes) zs (c .pointers) i j)
-      → {more : Bool} → more ≡ all && ltb (getD tags h 0) 65536 → Placed exact f at m s c tags kept more i h
-  placed-skip {h} {zs} l y are t d =
+  pub placed-skip : {h cue : ℕ} {zs : List ℕ} → 1 ≤ j → h ≡ j - 1 → cue ≡ getD cues (j - 1) 0 → ((e : Cube) → Stands f at m e → e .pointers ≡ zs)
+      → ((u : Message) → (tag : ℕ) → Cue cue u tag → 1 ≤ i → messageMatches (relation exact) (messageAt f (at + 2 + 7 * i)) u ≡ true → PointsOther (s .processes) zs (c .pointers) i j)
+      → {more : Bool} → more ≡ all && eqb (cue % 2) 0 → Placed exact f at m s c cues kept more i h
+  placed-skip {h} {cue} {zs} l y p are t d =
       let b : j ≡ suc h = omega arith in
-      skipped-next (subst (Placed exact f at m s c tags kept all i) b w) short zs are
-      (λ k q u.
+      let C : (A : Against s c cues) → Cue cue (getD (c .messages) h noMessage) (getD (tagsOf s c) h 0) =
+      λ A. subst (λ (r : ℕ). Cue r (getD (c .messages) h noMessage) (getD (tagsOf s c) h 0)) (sym p)
+      (subst (λ (k : ℕ). Cue (getD cues (j - 1) 0) (getD (c .messages) k noMessage) (getD (tagsOf s c) k 0)) (sym y) (cue-at A l y)) in
+      skipped-next (subst (Placed exact f at m s c cues kept all i) b w) short zs are
+      (λ A k q u.
       let z : at + 9 + 7 * k ≡ at + 2 + 7 * i = omega arith in
       subst₂ (PointsOther (s .processes) zs (c .pointers)) q b
-      (t (omega arith) (subst₂ (λ (a v : ℕ). messageMatches (relation exact) (messageAt f a) (getD (c .messages) v noMessage) ≡ true) z y u))) d
+      (t (getD (c .messages) h noMessage) (getD (tagsOf s c) h 0) (C A) (omega arith) (subst (λ (a : ℕ). messageMatches (relation exact) (messageAt f a) (getD (c .messages) h noMessage) ≡ true) z u)))
+      (λ A o.
+      let v = and-true all (eqb (cue % 2) 0) (sym d ∙ o) in
+      let K = C A in
+      (v .0, K .none (omega (arith, eqb-true (cue % 2) 0 (v .1), K .is, K .bit))))
 
-  pub placed-over : j < i → (e : Cube) → Stands f at m e → lowestPointer s (e .pointers) ≡ 1 → Sized s c → channelMatches s exact e c ≡ false
-  placed-over l e k low z = left-over s (z .processes) exact e c low i j (omega (arith, w .few)) (omega (arith, w .low)) l (w .left e k low z)
+  pub placed-over : j < i → (e : Cube) → Stands f at m e → lowestPointer s (e .pointers) ≡ 1 → Against s c cues → channelMatches s exact e c ≡ false
+  placed-over l e k low A = left-over s (A .sized .processes) exact e c low i j (omega (arith, w .few)) (omega (arith, w .low)) l (w .seen A .left e k low)
 
 -- every 11 stands for a message, and every message with a role has one
-module _ {exact : Bool} {f : List ℕ} {at m : ℕ} {s : Shape} {c : Cube} {tags kept : List ℕ} {all : Bool} {i j : ℕ} (w : Placed exact f at m s c tags kept all i j) (none-left : i ≡ 0) (through : j ≡ 0) (covered : all ≡ true)
-    (e : Cube) (k : Stands f at m e) (counted : e .count ≡ m) (low : lowestPointer s (e .pointers) ≡ 1) (points : PointsSame (s .processes) (e .pointers) (c .pointers) kept m) (A : Against s c tags)
+module _ {exact : Bool} {f : List ℕ} {at m : ℕ} {s : Shape} {c : Cube} {cues kept : List ℕ} {all : Bool} {i j : ℕ} (w : Placed exact f at m s c cues kept all i j) (none-left : i ≡ 0) (through : j ≡ 0) (covered : all ≡ true)
+    (e : Cube) (k : Stands f at m e) (counted : e .count ≡ m) (low : lowestPointer s (e .pointers) ≡ 1) (points : PointsSame (s .processes) (e .pointers) (c .pointers) kept m) (A : Against s c cues)
   where
-    tag-at : (y : ℕ) → y < c .count → getD tags y 0 ≡ 65536 * maskIn s c (suc y) + labelNumber (getD (c .messages) y noMessage)
+    tag-at : (y : ℕ) → y < c .count → getD (tagsOf s c) y 0 ≡ 65536 * maskIn s c (suc y) + labelNumber (getD (c .messages) y noMessage)
     tag-at y l =
         let z : suc y - 1 ≡ y = omega arith in
-        ap (λ (ts : List ℕ). getD ts y 0) (A .is) ∙ tags-at s c y l (omega (arith, A .sized .messages)) ∙ tag-is s (A .sized .processes) (A .sized .variables) c (A .sized .messages) (suc y)
+        tags-at s c y l (omega (arith, A .sized .messages)) ∙ tag-is s (A .sized .processes) (A .sized .variables) c (A .sized .messages) (suc y)
         ∙ ap (λ (u : ℕ). 65536 * maskIn s c (suc y) + labelNumber (getD (c .messages) u noMessage)) z
 
     meets-at : (x : ℕ) → x < m → messageMatches (relation exact) (getD (e .messages) x noMessage) (getD (c .messages) (getD kept x 0) noMessage) ≡ true
-    meets-at x l = subst (λ (u : Message). messageMatches (relation exact) u (getD (c .messages) (getD kept x 0) noMessage) ≡ true) (sym (k .message x l)) (w .meets x (omega arith) l)
+    meets-at x l = subst (λ (u : Message). messageMatches (relation exact) u (getD (c .messages) (getD kept x 0) noMessage) ≡ true) (sym (k .message x l)) (w .seen A .meets x (omega arith) l)
 
     first-kept : (x : ℕ) → x < m → lowestPointer s (c .pointers) ≤ suc (getD kept x 0)
     unfolding lowestPointer
@@ -253,7 +359,7 @@ module _ {exact : Bool} {f : List ℕ} {at m : ℕ} {s : Shape} {c : Cube} {tags
           upto = λ p l. omega (arith, points p (omega (arith, A .sized .processes)) .1);
           pointer = λ p l. points p (omega (arith, A .sized .processes)) .2;
           all = λ y l q.
-              let d = w .covers covered y (omega arith) (omega (arith, A .sized .messages)) (omega (arith, tag-at y l)) in
+              let d = w .seen A .covers covered y (omega arith) (omega (arith, A .sized .messages)) (omega (arith, tag-at y l)) in
               (d .0, omega (arith, d .2), d .3);
           lowest = low;
           first = λ x l. first-kept x (omega arith);

@@ -1,10 +1,10 @@
--- What an entry is matched against: a cube with the tags of its messages.
+-- What an entry is matched against: a cube with the cues of its messages.
 use Prim.Native.Nat.{ℕ, _≤_}
-use mathlib.Core.Path.{_≡_}
 use mathlib.Core.List.{List}
 use Rattle.program_part.specs.declared.program.Shape.{Shape}
 use Rattle.whole_file.specs.declared.entry.Cube.{Cube}
 use Rattle.matching.specs.Tags.{tagsOf}
+use Rattle.by_bytes.specs.Same.{Cues}
 
 -- the sizes that the code has room for
 pub record Sized (s : Shape) (c : Cube) : Type 0 where
@@ -12,7 +12,7 @@ pub record Sized (s : Shape) (c : Cube) : Type 0 where
   pub variables : s .variables ≤ 4
   pub messages : c .count ≤ 20
 
--- a cube with the tags of its messages
-pub record Against (s : Shape) (c : Cube) (tags : List ℕ) : Type 0 where
+-- a cube with the cues of its messages
+pub record Against (s : Shape) (c : Cube) (cues : List ℕ) : Type 0 where
   pub sized : Sized s c
-  pub is : tags ≡ tagsOf s c
+  pub are : Cues c (tagsOf s c) cues

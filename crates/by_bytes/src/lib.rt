@@ -19,8 +19,11 @@ use program_part::program::Shape;
 use whole_file::entry::Cube;
 use whole_file::entry::Queue;
 
+mod cues;
 mod messages;
 mod queues;
+
+pub use cues::cues_of;
 
 // The entry is told, and then whether it matches.
 pub struct Compared {
@@ -54,9 +57,9 @@ pub fn compare_at(
     at: usize,
     shape: Shape,
     cube: Cube,
-    right: &[u64; 20],
+    cues: &[usize; 20],
 ) -> Compared
-    ensures { λ r. ⌜ (r .same ≡ true → Against shape cube (now (right .entry)) → r .related ≡ (allBelow (min (shape .processes) 4) (queueRow (shape .variables) exact (loadEntry (now (file .entry)) at .queues) (cube .queues)) && channelMatches shape exact (loadEntry (now (file .entry)) at) cube)) ⌝ }
+    ensures { λ r. ⌜ (r .same ≡ true → Against shape cube (now (cues .entry)) → r .related ≡ (allBelow (min (shape .processes) 4) (queueRow (shape .variables) exact (loadEntry (now (file .entry)) at .queues) (cube .queues)) && channelMatches shape exact (loadEntry (now (file .entry)) at) cube)) ⌝ }
 {
     // one more than the cube has is enough to tell
     let n = least(cube.count, 19) + 1;
@@ -64,7 +67,7 @@ pub fn compare_at(
         return not_same();
     }
     let m = messages_at(file, at, n);
-    let sent = channel_at(exact, file, at, m, shape, cube, right);
+    let sent = channel_at(exact, file, at, m, shape, cube, cues);
     if !sent.same {
         return not_same();
     }

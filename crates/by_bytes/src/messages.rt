@@ -2,26 +2,29 @@
 ghost use mathlib.Core.Path.{_≡_};
 ghost use mathlib.Core.Bool.{true, false};
 ghost use mathlib.Core.List.{[], _∷_};
-ghost use Prim.Native.Nat.{_+_, _*_, _≤_, _<_, min};
+ghost use Prim.Native.Nat.{ℕ, _+_, _*_, _≤_, _<_, min};
 ghost use lib.ListN.{length};
 ghost use Rattle.program_part.specs.Bytes.{byte};
 ghost use Rattle.program_part.specs.Records.{messageAt};
+ghost use Rattle.pws.specs.declared.Message.{Message as Messages};
 ghost use Rattle.whole_file.specs.declared.entry.Cube.{Cube as Cubes};
 ghost use Rattle.lists.specs.Matching.{messageMatches};
 ghost use Rattle.matching.specs.Relation.{relation};
 ghost use Rattle.matching.specs.Match.{channelMatches};
-ghost use Rattle.by_bytes.specs.Same.{Kinds, Stands, PointsSame, PointsOther};
+ghost use Rattle.by_bytes.specs.Same.{Cue, Kinds, Stands, PointsSame, PointsOther};
 ghost use Rattle.by_bytes.specs.Against.{Against};
 use crate::Compared;
+use crate::cues::bytes_of;
+use crate::cues::joined;
 use crate::not_same;
 use crate::told;
 use matching::least;
 use matching::lowest;
 use matching::values_related;
+use matching::word;
 use program_part::bytes::both;
 use program_part::bytes::wide;
 use program_part::program::Shape;
-use pws::Message;
 use whole_file::entry::Cube;
 
 // How many 11s follow the 10 at a place, up to n.
@@ -85,43 +88,47 @@ fn points_other(processes: usize, pointers: [u8; 4], own: [u8; 4], i: usize, j: 
     false
 }
 
-// The 11 at a place has the label of a message, and values that are related to its own.
-fn meets(exact: bool, file: &[u8], k: usize, message: Message) -> bool
+// The 11 at a place has the label of the message that a cue tells, and values that are related to its own.
+fn meets(exact: bool, file: &[u8], k: usize, cue: usize) -> bool
     requires { ⌜ k + 7 ≤ length (now file) ⌝ }
-    ensures { λ r. ⌜ r ≡ messageMatches (relation exact) (messageAt (now (file .entry)) k) message ⌝ }
+    ensures { λ r. ⌜ ((m : Messages) → (tag : ℕ) → Cue cue m tag → r ≡ messageMatches (relation exact) (messageAt (now (file .entry)) k) m) ⌝ }
 {
-    if file[k + 1] != message.process {
-        return false;
+    let label = word(file[k + 1], file[k + 2], 0, 0);
+    let rest = joined(file[k + 3], file[k + 4], file[k + 5], file[k + 6]);
+    let other = cue / 2;
+    // most often they are the same, and one comparison says so
+    if label + 65536 * rest == other {
+        return true;
     }
-    if file[k + 2] != message.variable {
+    if label != other % 65536 {
         return false;
     }
     let values = [file[k + 3], file[k + 4], file[k + 5], file[k + 6]];
-    let own = message.snapshot;
-    values_related(exact, values, own)
+    values_related(exact, values, bytes_of(other / 65536))
 }
 
-// The i-th 11 of the entry can stand for a message of the cube, the j-th.
+// The i-th 11 of the entry can stand for the j-th message of the cube, which a cue tells.
 fn stands_for(
     exact: bool,
     file: &[u8],
     at: usize,
     i: usize,
     j: usize,
-    message: Message,
+    cue: usize,
     processes: usize,
     pointers: [u8; 4],
     own: [u8; 4],
 ) -> bool
     requires { ⌜ at + 9 + 7 * i ≤ length (now file) ⌝ }
     requires { ⌜ i ≤ 20 ⌝ }
-    ensures { λ r. ⌜ (r ≡ true → (1 ≤ i) × (messageMatches (relation exact) (messageAt (now (file .entry)) (at + 2 + 7 * i)) message ≡ true)) ⌝ }
-    ensures { λ r. ⌜ (r ≡ false → 1 ≤ i → messageMatches (relation exact) (messageAt (now (file .entry)) (at + 2 + 7 * i)) message ≡ true → PointsOther processes pointers own i j) ⌝ }
+    ensures { λ r. ⌜ (r ≡ true → 1 ≤ i) ⌝ }
+    ensures { λ r. ⌜ ((m : Messages) → (tag : ℕ) → Cue cue m tag → r ≡ true → messageMatches (relation exact) (messageAt (now (file .entry)) (at + 2 + 7 * i)) m ≡ true) ⌝ }
+    ensures { λ r. ⌜ ((m : Messages) → (tag : ℕ) → Cue cue m tag → r ≡ false → 1 ≤ i → messageMatches (relation exact) (messageAt (now (file .entry)) (at + 2 + 7 * i)) m ≡ true → PointsOther processes pointers own i j) ⌝ }
 {
     if i == 0 {
         return false;
     }
-    if !meets(exact, file, at + 2 + 7 * i, message) {
+    if !meets(exact, file, at + 2 + 7 * i, cue) {
         return false;
     }
     if points_other(processes, pointers, own, i, j) {
@@ -139,11 +146,11 @@ pub(crate) fn channel_at(
     m: usize,
     shape: Shape,
     cube: Cube,
-    right: &[u64; 20],
+    cues: &[usize; 20],
 ) -> Compared
     requires { ⌜ at + 9 + 7 * m ≤ length (now file) ⌝ }
     requires { ⌜ m ≤ 20 ⌝ }
-    ensures { λ r. ⌜ (r .same ≡ true → (e : Cubes) → Stands (now (file .entry)) at m e → Against shape cube (now (right .entry)) → (r .related ≡ true → e .count ≡ m → channelMatches shape exact e cube ≡ true) × (r .related ≡ false → channelMatches shape exact e cube ≡ false)) ⌝ }
+    ensures { λ r. ⌜ (r .same ≡ true → (e : Cubes) → Stands (now (file .entry)) at m e → Against shape cube (now (cues .entry)) → (r .related ≡ true → e .count ≡ m → channelMatches shape exact e cube ≡ true) × (r .related ≡ false → channelMatches shape exact e cube ≡ false)) ⌝ }
 {
     let pointers = pointers_at(file, at);
     if lowest(shape, pointers) != 1 {
@@ -161,20 +168,21 @@ pub(crate) fn channel_at(
         if j == 0 {
             break;
         }
-        let message = cube.messages[j - 1];
-        if stands_for(exact, file, at, i, j, message, shape.processes, pointers, own) {
+        let cue = cues[j - 1];
+        if stands_for(exact, file, at, i, j, cue, shape.processes, pointers, own) {
             j -= 1;
             i -= 1;
             kept[i] = j as u8;
         } else {
             j -= 1;
-            all = both(all, right[j] < 65536);
+            all = both(all, cue % 2 == 0);
         }
     }
     if !all {
         return not_same();
     }
-    if !points_same(shape.processes, pointers, own, kept, m) {
+    let theirs = cube.pointers;
+    if !points_same(shape.processes, pointers, theirs, kept, m) {
         return not_same();
     }
     told(true)

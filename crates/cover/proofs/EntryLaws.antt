@@ -21,7 +21,7 @@ use Rattle.matching.specs.Relation.{relation}
 use Rattle.matching.specs.Tags.{tagsOf}
 use Rattle.matching.specs.Match.{Sizes, Suits, queueRow, channelMatches}
 use Rattle.matching.proofs.MatchLaws.{states-fail, queues-unlike, channel-left}
-use Rattle.by_bytes.specs.Against.{Against}
+use Rattle.by_bytes.specs.Against.{Sized, Against}
 use Rattle.by_bytes.proofs.SameLaws.{entry-stands}
 
 -- ---- an entry has room for twenty messages
@@ -51,19 +51,19 @@ module _ (exact : Bool) (s : Shape) (f : List ℕ) (at : ℕ) (c : Cube) where
       → false ≡ rest (loadEntry f at)
   queues-differ {entry} z g h = sym (ap (λ (y : Bool). y && channelMatches s exact entry c) (sym g ∙ h)) ∙ ap rest z
 
-  pub channel-decides : {entry : Cube} {left right : List ℕ} {x r : Bool} → Against s c right → entry ≡ loadEntry f at
-      → x ≡ allBelow (min (s .processes) 4) (queueRow (s .variables) exact (entry .queues) (c .queues)) → x ≡ true → left ≡ tagsOf s entry
+  pub channel-decides : {entry : Cube} {left right : List ℕ} {x r : Bool} → Sized s c → entry ≡ loadEntry f at
+      → x ≡ allBelow (min (s .processes) 4) (queueRow (s .variables) exact (entry .queues) (c .queues)) → x ≡ true → left ≡ tagsOf s entry → right ≡ tagsOf s c
       → (Suits s entry left c right → r ≡ channelMatches s exact entry c) → r ≡ rest (loadEntry f at)
-  channel-decides {entry} A z g h t v =
+  channel-decides {entry} Z z g h t u v =
       v (record {
         sizes = record {
-          processes = A .sized .processes;
-          variables = A .sized .variables;
+          processes = Z .processes;
+          variables = Z .variables;
           left = subst (λ (k : Cube). k .count ≤ 20) (sym z) (load-few f at);
-          right = A .sized .messages;
+          right = Z .messages;
         };
         leftTags = t;
-        rightTags = A .is;
+        rightTags = u;
       })
       ∙ sym (ap (λ (y : Bool). y && channelMatches s exact entry c) (sym g ∙ h)) ∙ ap rest z
 

@@ -33,6 +33,7 @@ use Rattle.cover.specs.declared.place.Place.the-variants.{Whole, Waiting
 use Rattle.cover.specs.Places.{partOf, isWhole, isFree, proper, fillings, NoneFree}
 use Rattle.cover.specs.Search.{Covered, by-entry, by-parts, Plain, Searchable, Tried, Uncovered, Unmet, Stuck}
 use Rattle.by_bytes.specs.Against.{Sized, Against}
+use Rattle.by_bytes.specs.Same.{Cues}
 use Rattle.cover.proofs.PlaceLaws.{true-not-false}
 use Rattle.cover.proofs.EntryLaws.{load-few}
 use Rattle.cover.proofs.PartLaws.{part-count}
@@ -121,17 +122,17 @@ module _ {f list sum : List ℕ} {n : ℕ} {s : Shape} {c : Cube} (Z : Searchabl
 
 -- ---- a place to split at
 
-module _ (f list sum : List ℕ) (n : ℕ) (s : Shape) (c : Cube) (tags : List ℕ) (number : ℕ) where
+module _ (f list sum : List ℕ) (n : ℕ) (s : Shape) (c : Cube) (cues : List ℕ) (number : ℕ) where
   pub record Choosing (a : Place) (met : Bool) (w : Walk) : Type 0 where
     pub within : Within f list sum n s (c .states) number w
     pub proper : proper s c a ≡ true
-    pub unmet : met ≡ false → Against s c tags
+    pub unmet : met ≡ false → Against s c cues
         → Walked f list sum n s (c .states) number (λ k. matches (shapeOf s) alike (configurationOf (cubeAt f list k)) (configurationOf c) ≡ false) w
 
   pub choosing-begin : {w : Walk} → Onward f list sum n s (c .states) number n (headLink sum (homeOf number n)) false w → Choosing Whole false w
   choosing-begin O = record { within = within f list sum n s (c .states) number O; proper = refl; unmet = λ e A. walked-begin f list sum n s (c .states) number O }
 
-  pub choosing-next : {a b : Place} {met now : Bool} {w v : Walk} → Choosing a met w → Tried f list s c tags a met (w .entry - 1) b now
+  pub choosing-next : {a b : Place} {met now : Bool} {w v : Walk} → Choosing a met w → Tried f list s c cues a met (w .entry - 1) b now
       → Onward f list sum n s (c .states) number (min (w .below) n) (w .link) (w .led) v → Choosing b now v
   choosing-next C Y O =
       record {
@@ -140,23 +141,28 @@ module _ (f list sum : List ℕ) (n : ℕ) (s : Shape) (c : Cube) (tags : List �
         unmet = λ e A. walked-next f list sum n s (c .states) number (C .unmet (Y .before e) A) (Y .unmet e A) (onward-within f list sum n s (c .states) number (C .within) O);
       }
 
-  pub choosing-end : {a : Place} {met : Bool} {w : Walk} → Choosing a met w → w .entry ≡ 0 → met ≡ false → Unmet f list sum n s c tags number
+  pub choosing-end : {a : Place} {met : Bool} {w : Walk} → Choosing a met w → w .entry ≡ 0 → met ≡ false → Unmet f list sum n s c cues number
   choosing-end C z e A = walked-end f list sum n s (c .states) number (C .unmet e A) z
+
+-- ---- the cues of a cube
+
+pub cued : (s : Shape) (c : Cube) (cues : List ℕ) {tags : List ℕ} → tags ≡ tagsOf s c → Cues c tags cues → Cues c (tagsOf s c) cues
+cued s c cues t h = subst (λ (ts : List ℕ). Cues c ts cues) t h
 
 -- ---- the entries for a cube
 
-module _ (f list sum : List ℕ) (n : ℕ) (s : Shape) (c : Cube) (tags : List ℕ) (number : ℕ) where
+module _ (f list sum : List ℕ) (n : ℕ) (s : Shape) (c : Cube) (cues : List ℕ) (number : ℕ) where
   -- the entries walked over do not cover it
   pub record Scanning (w : Walk) : Type 0 where
     pub within : Within f list sum n s (c .states) number w
-    pub none : Against s c tags
+    pub none : Against s c cues
         → Walked f list sum n s (c .states) number (λ k. matches (shapeOf s) fills (configurationOf (cubeAt f list k)) (configurationOf c) ≡ false) w
 
   pub scanning-begin : {w : Walk} → Onward f list sum n s (c .states) number n (headLink sum (homeOf number n)) false w → Scanning w
   scanning-begin O = record { within = within f list sum n s (c .states) number O; none = λ A. walked-begin f list sum n s (c .states) number O }
 
   module _ {w : Walk} (W : Scanning w) where
-    pub scanning-next : {v : Walk} → (Against s c tags → matches (shapeOf s) fills (configurationOf (cubeAt f list (w .entry - 1))) (configurationOf c) ≡ false)
+    pub scanning-next : {v : Walk} → (Against s c cues → matches (shapeOf s) fills (configurationOf (cubeAt f list (w .entry - 1))) (configurationOf c) ≡ false)
         → Onward f list sum n s (c .states) number (min (w .below) n) (w .link) (w .led) v → Scanning v
     scanning-next d O =
         record {
@@ -165,22 +171,22 @@ module _ (f list sum : List ℕ) (n : ℕ) (s : Shape) (c : Cube) (tags : List �
         }
 
     -- this one does
-    pub scanning-covered : w .entry ≢ 0 → (Against s c tags → matches (shapeOf s) fills (configurationOf (cubeAt f list (w .entry - 1))) (configurationOf c) ≡ true)
-        → Against s c tags → Covered f list n s c
+    pub scanning-covered : w .entry ≢ 0 → (Against s c cues → matches (shapeOf s) fills (configurationOf (cubeAt f list (w .entry - 1))) (configurationOf c) ≡ true)
+        → Against s c cues → Covered f list n s c
     scanning-covered d g A = by-entry (w .entry - 1) (let u = W .within .exists in omega (arith, d)) (g A)
 
-    pub scanning-end : w .entry ≡ 0 → Uncovered f list sum n s c tags number
+    pub scanning-end : w .entry ≡ 0 → Uncovered f list sum n s c cues number
     scanning-end z A = walked-end f list sum n s (c .states) number (W .none A) z
 
-  module _ (t : tags ≡ tagsOf s c) where
-    against : Sized s c → Against s c tags
-    against Z = record { sized = Z; is = t }
+  module _ (t : Cues c (tagsOf s c) cues) where
+    against : Sized s c → Against s c cues
+    against Z = record { sized = Z; are = t }
 
-    pub cube-covered : (Against s c tags → Covered f list n s c) → Sized s c → Covered f list n s c
+    pub cube-covered : (Against s c cues → Covered f list n s c) → Sized s c → Covered f list n s c
     cube-covered g Z = g (against Z)
 
     -- none covers it, and it can't be split
-    pub cube-out : number ≡ numberOf s c → Uncovered f list sum n s c tags number → Stuck f list sum n s c tags number → Searchable f list sum n s c
+    pub cube-out : number ≡ numberOf s c → Uncovered f list sum n s c cues number → Stuck f list sum n s c cues number → Searchable f list sum n s c
         → held (shapeOf s) (entriesOf f list n) (configurationOf c) ≡ false
     cube-out m g q Z =
         let A = against (sized Z) in
@@ -234,36 +240,36 @@ module _ (f list sum : List ℕ) (n : ℕ) (s : Shape) (c : Cube) (a : Place) wh
   -- ---- the entries for one of them
 
   -- the parts before it are covered, and the entries walked over do not cover this one
-  pub record Parting (part : Cube) (tags : List ℕ) (number x : ℕ) (w : Walk) : Type 0 where
+  pub record Parting (part : Cube) (cues : List ℕ) (number x : ℕ) (w : Walk) : Type 0 where
     pub parts : Parts x
     pub one : x < fillings s a
     pub is : part ≡ partOf c a x
-    pub tagged : tags ≡ tagsOf s part
+    pub cued : Cues part (tagsOf s part) cues
     pub numbered : number ≡ numberOf s part
-    pub scanning : Scanning f list sum n s part tags number w
+    pub scanning : Scanning f list sum n s part cues number w
 
-  pub parting-begin : {part : Cube} {tags : List ℕ} {number x : ℕ} {w : Walk} → Parts x → x < fillings s a → part ≡ partOf c a x → tags ≡ tagsOf s part
-      → (tags ≡ tagsOf s part → number ≡ numberOf s part) → Onward f list sum n s (part .states) number n (headLink sum (homeOf number n)) false w → Parting part tags number x w
-  parting-begin {part} {tags} {number} p l e t m O =
-      record { parts = p; one = l; is = e; tagged = t; numbered = m t; scanning = scanning-begin f list sum n s part tags number O }
+  pub parting-begin : {part : Cube} {cues : List ℕ} {number x : ℕ} {w : Walk} → Parts x → x < fillings s a → part ≡ partOf c a x → Cues part (tagsOf s part) cues → number ≡ numberOf s part
+      → Onward f list sum n s (part .states) number n (headLink sum (homeOf number n)) false w → Parting part cues number x w
+  parting-begin {part} {cues} {number} p l e t m O =
+      record { parts = p; one = l; is = e; cued = t; numbered = m; scanning = scanning-begin f list sum n s part cues number O }
 
-  module _ {part : Cube} {tags : List ℕ} {number x : ℕ} {w : Walk} (W : Parting part tags number x w) where
-    pub parting-next : {v : Walk} → (Against s part tags → matches (shapeOf s) fills (configurationOf (cubeAt f list (w .entry - 1))) (configurationOf part) ≡ false)
-        → Onward f list sum n s (part .states) number (min (w .below) n) (w .link) (w .led) v → Parting part tags number x v
+  module _ {part : Cube} {cues : List ℕ} {number x : ℕ} {w : Walk} (W : Parting part cues number x w) where
+    pub parting-next : {v : Walk} → (Against s part cues → matches (shapeOf s) fills (configurationOf (cubeAt f list (w .entry - 1))) (configurationOf part) ≡ false)
+        → Onward f list sum n s (part .states) number (min (w .below) n) (w .link) (w .led) v → Parting part cues number x v
     parting-next d O =
         record {
           parts = W .parts;
           one = W .one;
           is = W .is;
-          tagged = W .tagged;
+          cued = W .cued;
           numbered = W .numbered;
-          scanning = scanning-next f list sum n s part tags number (W .scanning) d O;
+          scanning = scanning-next f list sum n s part cues number (W .scanning) d O;
         }
 
     -- an entry covers it
-    pub parting-covered : w .entry ≢ 0 → (Against s part tags → matches (shapeOf s) fills (configurationOf (cubeAt f list (w .entry - 1))) (configurationOf part) ≡ true) → Parts (x + 1)
+    pub parting-covered : w .entry ≢ 0 → (Against s part cues → matches (shapeOf s) fills (configurationOf (cubeAt f list (w .entry - 1))) (configurationOf part) ≡ true) → Parts (x + 1)
     parting-covered d g =
-        parts-next (W .is) (W .one) (W .parts) (λ Z. scanning-covered f list sum n s part tags number (W .scanning) d g (record { sized = Z; is = W .tagged }))
+        parts-next (W .is) (W .one) (W .parts) (λ Z. scanning-covered f list sum n s part cues number (W .scanning) d g (record { sized = Z; are = W .cued }))
 
     -- its own parts cover it
     pub parting-held : {h : Bool} → (Sized s part → h ≡ true → Covered f list n s part) → h ≡ true → Parts (x + 1)
@@ -271,10 +277,10 @@ module _ (f list sum : List ℕ) (n : ℕ) (s : Shape) (c : Cube) (a : Place) wh
 
     module _ (sixteen : length (c .queues) ≡ 16) (twenty : length (c .messages) ≡ 20) (ok : proper s c a ≡ true) (Z : Searchable f list sum n s c) where
       -- none covers it, and it can't be split
-      pub parting-stuck : w .entry ≡ 0 → Stuck f list sum n s part tags number → held (shapeOf s) (entriesOf f list n) (configurationOf c) ≡ false
+      pub parting-stuck : w .entry ≡ 0 → Stuck f list sum n s part cues number → held (shapeOf s) (entriesOf f list n) (configurationOf c) ≡ false
       parting-stuck z q =
           part-out (W .is) (W .one) sixteen twenty ok Z
-          (cube-out f list sum n s part tags number (W .tagged) (W .numbered) (scanning-end f list sum n s part tags number (W .scanning) z) q)
+          (cube-out f list sum n s part cues number (W .cued) (W .numbered) (scanning-end f list sum n s part cues number (W .scanning) z) q)
 
       pub parting-outside : {h : Bool} → (Searchable f list sum n s part → h ≡ false → held (shapeOf s) (entriesOf f list n) (configurationOf part) ≡ false) → h ≡ false
           → held (shapeOf s) (entriesOf f list n) (configurationOf c) ≡ false

@@ -50,15 +50,15 @@ pub record Searchable (f list sum : List ℕ) (n : ℕ) (s : Shape) (c : Cube) :
 -- ---- parts of a search
 
 -- after entry i was tried: if it may meet the cube, some entry is met; a place to split at stays one
-pub record Tried (f list : List ℕ) (s : Shape) (c : Cube) (tags : List ℕ) (place : Place) (met : Bool) (i : ℕ) (next : Place) (now : Bool) : Type 0 where
+pub record Tried (f list : List ℕ) (s : Shape) (c : Cube) (cues : List ℕ) (place : Place) (met : Bool) (i : ℕ) (next : Place) (now : Bool) : Type 0 where
   pub before : now ≡ false → met ≡ false
-  pub unmet : now ≡ false → Against s c tags → matches (shapeOf s) alike (configurationOf (cubeAt f list i)) (configurationOf c) ≡ false
+  pub unmet : now ≡ false → Against s c cues → matches (shapeOf s) alike (configurationOf (cubeAt f list i)) (configurationOf c) ≡ false
   pub kept : proper s c place ≡ true → proper s c next ≡ true
 
 -- no entry that is walked over is so related to the cube
 abbrev pub Unrelated : (ℕ → ℕ → Bool) → List ℕ → List ℕ → List ℕ → ℕ → Shape → Cube → List ℕ → ℕ → Type 0
-Unrelated r f list sum n s c tags number =
-    Against s c tags → (k : ℕ) → Left f list sum n s (c .states) number n (headLink sum (homeOf number n)) false k
+Unrelated r f list sum n s c cues number =
+    Against s c cues → (k : ℕ) → Left f list sum n s (c .states) number n (headLink sum (homeOf number n)) false k
     → matches (shapeOf s) r (configurationOf (cubeAt f list k)) (configurationOf c) ≡ false
 
 -- none covers it
@@ -71,4 +71,4 @@ Unmet = Unrelated alike
 
 -- and so it can't be held, or it has no free value
 abbrev pub Stuck : List ℕ → List ℕ → List ℕ → ℕ → Shape → Cube → List ℕ → ℕ → Type 0
-Stuck f list sum n s c tags number = Unmet f list sum n s c tags number ⊎ NoneFree s c
+Stuck f list sum n s c cues number = Unmet f list sum n s c cues number ⊎ NoneFree s c

@@ -11,7 +11,7 @@ ghost use Rattle.by_number.specs.Again.{cubeAt};
 ghost use Rattle.matching.specs.Relation.{relation};
 ghost use Rattle.matching.specs.Match.{queueRow, channelMatches};
 ghost use Rattle.pws.specs.Machine.{allBelow};
-ghost use Rattle.by_bytes.specs.Against.{Against};
+ghost use Rattle.by_bytes.specs.Against.{Sized, Against};
 use by_bytes::compare_at;
 use by_number::offset_at;
 use matching::channel_matches;
@@ -40,16 +40,9 @@ fn states_at(file: &[u8], at: usize) -> [u8; 4]
     ]
 }
 
-// The entry whose 10 stands at a place, built, against a cube with its tags, but for its local states.
-fn built_matches(
-    exact: bool,
-    file: &[u8],
-    at: usize,
-    shape: Shape,
-    cube: Cube,
-    right: &[u64; 20],
-) -> bool
-    ensures { λ r. ⌜ (Against shape cube (now (right .entry)) → r ≡ (allBelow (min (shape .processes) 4) (queueRow (shape .variables) exact (loadEntry (now (file .entry)) at .queues) (cube .queues)) && channelMatches shape exact (loadEntry (now (file .entry)) at) cube)) ⌝ }
+// The entry whose 10 stands at a place, built, against a cube, but for its local states.
+fn built_matches(exact: bool, file: &[u8], at: usize, shape: Shape, cube: Cube) -> bool
+    ensures { λ r. ⌜ (Sized shape cube → r ≡ (allBelow (min (shape .processes) 4) (queueRow (shape .variables) exact (loadEntry (now (file .entry)) at .queues) (cube .queues)) && channelMatches shape exact (loadEntry (now (file .entry)) at) cube)) ⌝ }
 {
     let entry = load_entry(file, at);
     let before = entry.queues;
@@ -58,11 +51,11 @@ fn built_matches(
         return false;
     }
     let left = tags_of(shape, entry);
-    let tags = *right;
-    channel_matches(exact, shape, entry, left, cube, tags)
+    let right = tags_of(shape, cube);
+    channel_matches(exact, shape, entry, left, cube, right)
 }
 
-// Entry i against a cube with its tags: exactly, it covers the cube; else it may meet it.
+// Entry i against a cube with its cues: exactly, it covers the cube; else it may meet it.
 pub(crate) fn matches_at(
     exact: bool,
     file: &[u8],
@@ -70,9 +63,9 @@ pub(crate) fn matches_at(
     i: usize,
     shape: Shape,
     cube: Cube,
-    right: &[u64; 20],
+    cues: &[usize; 20],
 ) -> bool
-    ensures { λ r. ⌜ (Against shape cube (now (right .entry)) → r ≡ matches (shapeOf shape) (relation exact) (configurationOf (cubeAt (now (file .entry)) (now (list .entry)) i)) (configurationOf cube)) ⌝ }
+    ensures { λ r. ⌜ (Against shape cube (now (cues .entry)) → r ≡ matches (shapeOf shape) (relation exact) (configurationOf (cubeAt (now (file .entry)) (now (list .entry)) i)) (configurationOf cube)) ⌝ }
 {
     let at = offset_at(list, i);
     // entries of other states are told apart by four bytes
@@ -82,9 +75,9 @@ pub(crate) fn matches_at(
         return false;
     }
     // most entries that a walk leads to are told by their bytes
-    let compared = compare_at(exact, file, at, shape, cube, right);
+    let compared = compare_at(exact, file, at, shape, cube, cues);
     if compared.same {
         return compared.related;
     }
-    built_matches(exact, file, at, shape, cube, right)
+    built_matches(exact, file, at, shape, cube)
 }

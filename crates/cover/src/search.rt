@@ -10,6 +10,7 @@ ghost use Rattle.by_number.specs.Again.{entriesOf};
 ghost use Rattle.cover.specs.Places.{proper};
 ghost use Rattle.cover.specs.Search.{Covered, Searchable};
 ghost use Rattle.by_bytes.specs.Against.{Sized};
+use by_bytes::cues_of;
 use crate::entry::matches_at;
 use crate::place::Place;
 use crate::place::fillings;
@@ -52,11 +53,12 @@ fn parts_held(
         let part = part_of(cube, place, x as u8);
         let right = tags_of(shape, part);
         let number = number_of(shape, part, right);
+        let cues = cues_of(part, right);
         let states = part.states;
         let mut walk = walk_from(file, list, sum, n, shape, states, number);
         while walk.entry != 0 {
             let i = walk.entry - 1;
-            if matches_at(true, file, list, i, shape, part, &right) {
+            if matches_at(true, file, list, i, shape, part, &cues) {
                 continue 'fillings;
             }
             let next = onward(
@@ -73,7 +75,7 @@ fn parts_held(
             );
             walk = next;
         }
-        let further = place_for(file, list, sum, n, shape, part, &right, number);
+        let further = place_for(file, list, sum, n, shape, part, &cues, number);
         if is_whole(further) {
             return false;
         }
@@ -93,11 +95,12 @@ pub fn search(file: &[u8], list: &[u8], sum: &[u8], n: usize, shape: Shape, cube
     let sizes = rooms(cube);
     let right = tags_of(shape, cube);
     let number = number_of(shape, cube, right);
+    let cues = cues_of(cube, right);
     let states = cube.states;
     let mut walk = walk_from(file, list, sum, n, shape, states, number);
     while walk.entry != 0 {
         let i = walk.entry - 1;
-        if matches_at(true, file, list, i, shape, cube, &right) {
+        if matches_at(true, file, list, i, shape, cube, &cues) {
             return true;
         }
         let next = onward(
@@ -114,7 +117,7 @@ pub fn search(file: &[u8], list: &[u8], sum: &[u8], n: usize, shape: Shape, cube
         );
         walk = next;
     }
-    let place = place_for(file, list, sum, n, shape, cube, &right, number);
+    let place = place_for(file, list, sum, n, shape, cube, &cues, number);
     if is_whole(place) {
         return false;
     }

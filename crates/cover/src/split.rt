@@ -60,18 +60,11 @@ fn with_gaps(split: Split, shape: Shape, cube: Cube, gaps: Gaps) -> Split
     }
 }
 
-fn gaps_at(
-    file: &[u8],
-    list: &[u8],
-    i: usize,
-    shape: Shape,
-    cube: Cube,
-    right: &[u64; 20],
-) -> Gaps {
+fn gaps_at(file: &[u8], list: &[u8], i: usize, shape: Shape, cube: Cube) -> Gaps {
     let entry = entry_at(file, list, i);
     let left = tags_of(shape, entry);
-    let tags = *right;
-    gaps_between(shape, entry, left, cube, tags)
+    let right = tags_of(shape, cube);
+    gaps_between(shape, entry, left, cube, right)
 }
 
 // With one entry more, if it may meet the cube.
@@ -82,14 +75,14 @@ fn with_entry(
     i: usize,
     shape: Shape,
     cube: Cube,
-    right: &[u64; 20],
+    cues: &[usize; 20],
 ) -> Split
-    ensures { λ r. ⌜ Tried (now (file .entry)) (now (list .entry)) shape cube (now (right .entry)) (split .place) (split .met) i (r .place) (r .met) ⌝ }
+    ensures { λ r. ⌜ Tried (now (file .entry)) (now (list .entry)) shape cube (now (cues .entry)) (split .place) (split .met) i (r .place) (r .met) ⌝ }
 {
-    if !matches_at(false, file, list, i, shape, cube, right) {
+    if !matches_at(false, file, list, i, shape, cube, cues) {
         return split;
     }
-    let gaps = gaps_at(file, list, i, shape, cube, right);
+    let gaps = gaps_at(file, list, i, shape, cube);
     with_gaps(split, shape, cube, gaps)
 }
 
@@ -101,11 +94,11 @@ fn best_split(
     n: usize,
     shape: Shape,
     cube: Cube,
-    right: &[u64; 20],
+    cues: &[usize; 20],
     number: u64,
 ) -> Split
     ensures { λ r. ⌜ proper shape cube (r .place) ≡ true ⌝ }
-    ensures { λ r. ⌜ (r .met ≡ false → Unmet (now (file .entry)) (now (list .entry)) (now (sum .entry)) n shape cube (now (right .entry)) number) ⌝ }
+    ensures { λ r. ⌜ (r .met ≡ false → Unmet (now (file .entry)) (now (list .entry)) (now (sum .entry)) n shape cube (now (cues .entry)) number) ⌝ }
 {
     let states = cube.states;
     let mut split = Split {
@@ -116,7 +109,7 @@ fn best_split(
     let mut walk = walk_from(file, list, sum, n, shape, states, number);
     while walk.entry != 0 {
         let i = walk.entry - 1;
-        let more = with_entry(split, file, list, i, shape, cube, right);
+        let more = with_entry(split, file, list, i, shape, cube, cues);
         split = more;
         // one gap is the fewest: no other entry is looked at
         if both(split.met, split.count <= 1) {
@@ -147,13 +140,13 @@ pub(crate) fn place_for(
     n: usize,
     shape: Shape,
     cube: Cube,
-    right: &[u64; 20],
+    cues: &[usize; 20],
     number: u64,
 ) -> Place
     ensures { λ r. ⌜ proper shape cube r ≡ true ⌝ }
-    ensures { λ r. ⌜ (isWhole r ≡ true → Stuck (now (file .entry)) (now (list .entry)) (now (sum .entry)) n shape cube (now (right .entry)) number) ⌝ }
+    ensures { λ r. ⌜ (isWhole r ≡ true → Stuck (now (file .entry)) (now (list .entry)) (now (sum .entry)) n shape cube (now (cues .entry)) number) ⌝ }
 {
-    let split = best_split(file, list, sum, n, shape, cube, right, number);
+    let split = best_split(file, list, sum, n, shape, cube, cues, number);
     let place = split.place;
     if !split.met {
         return Place::Whole;

@@ -1,41 +1,68 @@
-use Rattle.program_part.specs.Records.{messageAt}
-use Rattle.matching.specs.Relation.{relation}
-use Rattle.by_bytes.proofs.PlacedLaws.{process-other, variable-other, label-same}
+use Prim.Native.Nat.{_+_, _<_}
+use native.Mathlib.Omega.{arith}
+use Rattle.program_part.specs.Bytes.{byte}
+use Rattle.by_bytes.proofs.PlacedLaws.{cue-same, cue-other, cue-values}
 use borrow.Author.Needs.{needs}
 use Rattle.by_bytes.proofs.messages.meets.Statement.{statement}
 use Rattle.by_bytes.proofs.messages.meets.Tie as tie
 
 pub meets-spec : {M : Type 1} → statement M
 meets-spec = tie.close (tie.spec
+    -- add-word
+    (λ c. search needs)
+    -- shared-slice-read-word
+    (λ c. search needs)
+    -- add-word-2
+    (λ c. search needs)
+    -- shared-slice-read-word-2
+    (λ c. search needs)
+    -- word-requires
+    (λ c κs. tt)
+    -- add-joined
+    (λ c. search needs)
+    -- shared-slice-read-joined
+    (λ c. search needs)
+    -- add-joined-2
+    (λ c. search needs)
+    -- shared-slice-read-joined-2
+    (λ c. search needs)
+    -- add-joined-3
+    (λ c. search needs)
+    -- shared-slice-read-joined-3
+    (λ c. search needs)
+    -- add-joined-4
+    (λ c. search needs)
+    -- shared-slice-read-joined-4
+    (λ c. search needs)
+    -- joined-requires
+    (λ c κs. tt)
+    -- mul-if1
+    (λ c. omega (arith, c .before .before .before .before .before .word .ensures .1 .is, c .before .before .before .before .before .word .ensures .1 .first, c .before .before .before .before .before .word .ensures .1 .second, c .joined .ensures .0 .is, c .joined .ensures .0 .first, c .joined .ensures .0 .second, c .joined .ensures .0 .third, c .joined .ensures .1))
     -- add-if1
-    (λ c. search needs)
-    -- shared-slice-read-if1
-    (λ c. search needs)
+    (λ c. omega (arith, c .before .before .before .before .before .word .ensures .1 .is, c .before .before .before .before .before .word .ensures .1 .first, c .before .before .before .before .before .word .ensures .1 .second, c .joined .ensures .0 .is, c .joined .ensures .0 .first, c .joined .ensures .0 .second, c .joined .ensures .0 .third, c .joined .ensures .1))
     -- returns
-    (λ c. process-other (relation (c .before .before .before .before .args .exact)) (messageAt (c .before .before .before .before .args .file .now) (c .before .before .before .before .args .k)) (c .before .before .before .before .args .message) (c .if1 .taken))
-    -- add-if2
-    (λ c. search needs)
-    -- shared-slice-read-if2
-    (λ c. search needs)
+    (λ c. λ m tag K. cue-same (c .before .before .before .before .before .before .before .before .before .before .args .exact) (c .before .before .before .before .before .before .before .before .before .before .args .file .now) (c .before .before .before .before .before .before .before .before .before .before .args .k) m K (c .before .before .before .before .before .before .word .ensures .1) (c .before .joined .ensures .0) (c .if1 .taken))
     -- returns-2
-    (λ c. variable-other (relation (c .before .before .before .before .before .before .before .args .exact)) (messageAt (c .before .before .before .before .before .before .before .args .file .now) (c .before .before .before .before .before .before .before .args .k)) (c .before .before .before .before .before .before .before .args .message) (c .if2 .taken))
-    -- add-t7
+    (λ c. λ m tag K. cue-other (c .before .before .before .before .before .before .before .before .before .before .before .args .exact) (c .before .before .before .before .before .before .before .before .before .before .before .args .file .now) (c .before .before .before .before .before .before .before .before .before .before .before .args .k) m K (c .before .before .before .before .before .before .before .word .ensures .1) (c .before .before .joined .ensures .0) (c .if2 .taken))
+    -- add-t12
     (λ c. search needs)
-    -- shared-slice-read-t9
+    -- shared-slice-read-t22
     (λ c. search needs)
-    -- add-t13
+    -- add-t20
     (λ c. search needs)
-    -- shared-slice-read-t15
+    -- shared-slice-read-t14
     (λ c. search needs)
-    -- add-t16
+    -- add-t9
     (λ c. search needs)
-    -- shared-slice-read-t18
+    -- shared-slice-read-t19
     (λ c. search needs)
-    -- add-t19
+    -- add-t17
     (λ c. search needs)
-    -- shared-slice-read-t21
+    -- shared-slice-read-t11
     (λ c. search needs)
+    -- bytes-of-requires
+    (λ c κs. tt)
     -- values-related-requires
     (λ c κs. tt)
     -- returns-3
-    (λ c. label-same (relation (c .before .before .before .before .before .before .before .before .before .before .before .before .before .args .exact)) (messageAt (c .before .before .before .before .before .before .before .before .before .before .before .before .before .args .file .now) (c .before .before .before .before .before .before .before .before .before .before .before .before .before .args .k)) (c .before .before .before .before .before .before .before .before .before .before .before .before .before .args .message) (c .before .before .before .before .before .before .before .before .before .if1 .left) (c .before .before .before .before .before .before .if2 .left) (c .values-related .ensures)))
+    (λ c. λ m tag K. cue-values (c .before .before .before .before .before .before .before .before .before .before .before .before .before .before .before .before .before .args .exact) (c .before .before .before .before .before .before .before .before .before .before .before .before .before .before .before .before .before .args .file .now) (c .before .before .before .before .before .before .before .before .before .before .before .before .before .before .before .before .before .args .k) m K (c .before .before .before .before .before .before .before .before .before .before .before .before .before .word .ensures .1) (c .before .before .before .before .before .before .before .before .joined .ensures .0) (c .before .before .before .before .before .before .if2 .left) (c .before .bytes-of .ensures) (c .values-related .ensures)))

@@ -10,7 +10,7 @@ use Rattle.by_bytes.proofs.messages.stands_for.Tie as tie
 pub stands-for-spec : {M : Type 1} → statement M
 stands-for-spec = tie.close (tie.spec
     -- returns
-    (λ c. (λ t. absurd (false≢true t), λ t l. absurd (omega (arith, c .if1 .taken))))
+    (λ c. (λ t. absurd (false≢true t), (λ m tag K t. absurd (false≢true t), λ m tag K t l. absurd (omega (arith, c .if1 .taken)))))
     -- add-meets
     (λ c. omega (arith, c .before .before .pre .0))
     -- mul-meets
@@ -20,10 +20,10 @@ stands-for-spec = tie.close (tie.spec
     -- meets-requires
     (λ c κs. omega (arith, c .before .before .pre .0, c .if1 .left))
     -- returns-2
-    (λ c. (λ t. absurd (false≢true t), λ t l m. absurd (false≢true (sym (not-true (c .before .meets .result) (c .if2 .taken)) ∙ c .before .meets .ensures ∙ m))))
+    (λ c. (λ t. absurd (false≢true t), (λ m tag K t. absurd (false≢true t), λ m tag K t l q. absurd (false≢true (sym (not-true (c .before .meets .result) (c .if2 .taken)) ∙ c .before .meets .ensures m tag K ∙ q)))))
     -- points-other-requires
     (λ c κs. tt)
     -- returns-3
-    (λ c. (λ t. absurd (false≢true t), λ t l m. c .before .points-other .ensures (c .if3 .taken)))
+    (λ c. (λ t. absurd (false≢true t), (λ m tag K t. absurd (false≢true t), λ m tag K t l q. c .before .points-other .ensures (c .if3 .taken))))
     -- returns-4
-    (λ c. (λ t. (omega (arith, c .before .before .before .before .if1 .left), sym (c .before .before .before .meets .ensures) ∙ not-false (c .before .before .before .meets .result) (c .before .before .if2 .left)), λ t. absurd (false≢true (sym t)))))
+    (λ c. (λ t. omega (arith, c .before .before .before .before .if1 .left), (λ m tag K t. sym (c .before .before .before .meets .ensures m tag K) ∙ not-false (c .before .before .before .meets .result) (c .before .before .if2 .left), λ m tag K t. absurd (false≢true (sym t))))))

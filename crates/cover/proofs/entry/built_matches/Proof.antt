@@ -21,11 +21,14 @@ queues-match-requires c κs = search needs
 
 -- src/entry.rt:58:9
 returns : tie.Need-returns
-returns c = λ A. queues-differ (c .before .before .before .before .before .before .args .exact) (c .before .before .before .before .before .before .args .shape) (c .before .before .before .before .before .before .args .file .now) (c .before .before .before .before .before .before .args .at) (c .before .before .before .before .before .before .args .cube) (c .before .before .before .before .load-entry .ensures) (c .before .queues-match .ensures) (not-true (c .before .queues-match .result) (c .if1 .taken))
+returns c = λ Z. queues-differ (c .before .before .before .before .before .before .args .exact) (c .before .before .before .before .before .before .args .shape) (c .before .before .before .before .before .before .args .file .now) (c .before .before .before .before .before .before .args .at) (c .before .before .before .before .before .before .args .cube) (c .before .before .before .before .load-entry .ensures) (c .before .queues-match .ensures) (not-true (c .before .queues-match .result) (c .if1 .taken))
 
 -- src/entry.rt:60:9
 tags-of-requires : tie.Need-tags-of-requires
 tags-of-requires c κs = search needs
+
+tags-of-requires-2 : tie.Need-tags-of-requires-2
+tags-of-requires-2 c κs = tt
 
 -- src/entry.rt:62:5
 channel-matches-requires : tie.Need-channel-matches-requires
@@ -33,7 +36,7 @@ channel-matches-requires c κs = search needs
 
 -- src/entry.rt:44:1
 returns-2 : tie.Need-returns-2
-returns-2 c = λ A. channel-decides (c .before .before .before .before .before .before .before .before .before .args .exact) (c .before .before .before .before .before .before .before .before .before .args .shape) (c .before .before .before .before .before .before .before .before .before .args .file .now) (c .before .before .before .before .before .before .before .before .before .args .at) (c .before .before .before .before .before .before .before .before .before .args .cube) A (c .before .before .before .before .before .before .before .load-entry .ensures) (c .before .before .before .before .queues-match .ensures) (not-false (c .before .before .before .before .queues-match .result) (c .before .before .before .if1 .left)) (c .before .before .tags-of .ensures) (c .channel-matches .ensures)
+returns-2 c = λ Z. channel-decides (c .before .before .before .before .before .before .before .before .before .args .exact) (c .before .before .before .before .before .before .before .before .before .args .shape) (c .before .before .before .before .before .before .before .before .before .args .file .now) (c .before .before .before .before .before .before .before .before .before .args .at) (c .before .before .before .before .before .before .before .before .before .args .cube) Z (c .before .before .before .before .before .before .before .load-entry .ensures) (c .before .before .before .before .queues-match .ensures) (not-false (c .before .before .before .before .queues-match .result) (c .before .before .before .if1 .left)) (c .before .before .tags-of .ensures) (c .before .tags-of2 .ensures) (c .channel-matches .ensures)
 
 pub built-matches-spec : {M : Type 1} → statement M
 built-matches-spec =
@@ -43,5 +46,6 @@ built-matches-spec =
     queues-match-requires
     returns
     tags-of-requires
+    tags-of-requires-2
     channel-matches-requires
     returns-2)

@@ -26,7 +26,7 @@ states-match-requires c κs = search needs
 
 -- src/entry.rt:82:9
 returns : tie.Need-returns
-returns c = λ A. states-differ (c .before .before .before .before .before .before .before .args .exact) (c .before .before .before .before .before .before .before .args .shape) (c .before .before .before .before .before .before .before .args .file .now) (c .before .before .before .before .before .before .before .args .list .now) (c .before .before .before .before .before .before .before .args .i) (c .before .before .before .before .offset-at .result) (c .before .before .before .before .before .before .before .args .cube) (c .before .before .before .before .before .before .before .args .right .now) A (c .before .before .before .before .offset-at .ensures) (c .before .before .before .states-at .ensures) (c .before .states-match .ensures) (not-true (c .before .states-match .result) (c .if1 .taken))
+returns c = λ A. states-differ (c .before .before .before .before .before .before .before .args .exact) (c .before .before .before .before .before .before .before .args .shape) (c .before .before .before .before .before .before .before .args .file .now) (c .before .before .before .before .before .before .before .args .list .now) (c .before .before .before .before .before .before .before .args .i) (c .before .before .before .before .offset-at .result) (c .before .before .before .before .before .before .before .args .cube) (c .before .before .before .before .before .before .before .args .cues .now) A (c .before .before .before .before .offset-at .ensures) (c .before .before .before .states-at .ensures) (c .before .states-match .ensures) (not-true (c .before .states-match .result) (c .if1 .taken))
 
 -- src/entry.rt:85:9
 compare-at-requires : tie.Need-compare-at-requires
@@ -34,7 +34,7 @@ compare-at-requires c κs = search needs
 
 -- src/entry.rt:87:9
 returns-2 : tie.Need-returns-2
-returns-2 c = λ A. rest-decides (c .before .before .before .before .before .before .before .before .before .args .exact) (c .before .before .before .before .before .before .before .before .before .args .shape) (c .before .before .before .before .before .before .before .before .before .args .file .now) (c .before .before .before .before .before .before .before .before .before .args .list .now) (c .before .before .before .before .before .before .before .before .before .args .i) (c .before .before .before .before .before .before .offset-at .result) (c .before .before .before .before .before .before .before .before .before .args .cube) (c .before .before .before .before .before .before .before .before .before .args .right .now) A (c .before .before .before .before .before .before .offset-at .ensures) (c .before .before .before .before .before .states-at .ensures) (c .before .before .before .states-match .ensures) (not-false (c .before .before .before .states-match .result) (c .before .before .if1 .left)) (c .before .compare-at .ensures (c .if2 .taken) A)
+returns-2 c = λ A. rest-decides (c .before .before .before .before .before .before .before .before .before .args .exact) (c .before .before .before .before .before .before .before .before .before .args .shape) (c .before .before .before .before .before .before .before .before .before .args .file .now) (c .before .before .before .before .before .before .before .before .before .args .list .now) (c .before .before .before .before .before .before .before .before .before .args .i) (c .before .before .before .before .before .before .offset-at .result) (c .before .before .before .before .before .before .before .before .before .args .cube) (c .before .before .before .before .before .before .before .before .before .args .cues .now) A (c .before .before .before .before .before .before .offset-at .ensures) (c .before .before .before .before .before .states-at .ensures) (c .before .before .before .states-match .ensures) (not-false (c .before .before .before .states-match .result) (c .before .before .if1 .left)) (c .before .compare-at .ensures (c .if2 .taken) A)
 
 -- src/entry.rt:89:5
 built-matches-requires : tie.Need-built-matches-requires
@@ -42,7 +42,7 @@ built-matches-requires c κs = search needs
 
 -- src/entry.rt:66:1
 returns-3 : tie.Need-returns-3
-returns-3 c = λ A. rest-decides (c .before .before .before .before .before .before .before .before .before .before .args .exact) (c .before .before .before .before .before .before .before .before .before .before .args .shape) (c .before .before .before .before .before .before .before .before .before .before .args .file .now) (c .before .before .before .before .before .before .before .before .before .before .args .list .now) (c .before .before .before .before .before .before .before .before .before .before .args .i) (c .before .before .before .before .before .before .before .offset-at .result) (c .before .before .before .before .before .before .before .before .before .before .args .cube) (c .before .before .before .before .before .before .before .before .before .before .args .right .now) A (c .before .before .before .before .before .before .before .offset-at .ensures) (c .before .before .before .before .before .before .states-at .ensures) (c .before .before .before .before .states-match .ensures) (not-false (c .before .before .before .before .states-match .result) (c .before .before .before .if1 .left)) (c .built-matches .ensures A)
+returns-3 c = λ A. rest-decides (c .before .before .before .before .before .before .before .before .before .before .args .exact) (c .before .before .before .before .before .before .before .before .before .before .args .shape) (c .before .before .before .before .before .before .before .before .before .before .args .file .now) (c .before .before .before .before .before .before .before .before .before .before .args .list .now) (c .before .before .before .before .before .before .before .before .before .before .args .i) (c .before .before .before .before .before .before .before .offset-at .result) (c .before .before .before .before .before .before .before .before .before .before .args .cube) (c .before .before .before .before .before .before .before .before .before .before .args .cues .now) A (c .before .before .before .before .before .before .before .offset-at .ensures) (c .before .before .before .before .before .before .states-at .ensures) (c .before .before .before .before .states-match .ensures) (not-false (c .before .before .before .before .states-match .result) (c .before .before .before .if1 .left)) (c .built-matches .ensures (A .sized))
 
 pub matches-at-spec : {M : Type 1} → statement M
 matches-at-spec =

@@ -1,4 +1,4 @@
-use Rattle.cover.proofs.SearchLaws.{Parts, Parting, far, far-less, parts-begin, parts-done, parting-begin, parting-next, parting-covered, parting-stuck, parting-held, parting-outside}
+use Rattle.cover.proofs.SearchLaws.{cued, Parts, Parting, far, far-less, parts-begin, parts-done, parting-begin, parting-next, parting-covered, parting-stuck, parting-held, parting-outside}
 use Rattle.cover.proofs.PartLaws.{part-less}
 use Rattle.cover.proofs.PlaceLaws.{fillings-few, true-not-false}
 use Rattle.cover.specs.Places.{weight}
@@ -22,6 +22,7 @@ use Rattle.cover.proofs.search.rooms.Reads as rooms-reads
 use Rattle.cover.proofs.split.place_for.Reads as place-for-reads
 use Rattle.matching.proofs.number_of.Reads as number-of-reads
 use Rattle.matching.proofs.tags_of.Reads as tags-of-reads
+use Rattle.by_bytes.proofs.cues_of.Reads as cues-of-reads
 use Rattle.summary.proofs.onward.Reads as onward-reads
 use Rattle.summary.proofs.walk_from.Reads as walk-from-reads
 use Rattle.cover.proofs.search.+parts_held.{statement}
@@ -39,10 +40,10 @@ parts-held-below t =
     and 3 parts-held-kinds.ps (falls 3 parts-held-kinds.ps _<_ μ-parts-held t) parts-held.Pre
 
 abbrev parts-held-Inv-loop : parts-held-lts.InvT-loop
-parts-held-Inv-loop file list sum n shape cube place sizes m x₀ part right number states walk₀ x walk = Parting file list sum n shape cube place part right number x walk × (x ≡ x₀)
+parts-held-Inv-loop file list sum n shape cube place sizes m x₀ part number cues states walk₀ x walk = Parting file list sum n shape cube place part cues number x walk × (x ≡ x₀)
 
 abbrev parts-held-μ-loop : parts-held-lts.MeasureT-loop
-parts-held-μ-loop file list sum n shape cube place sizes m x₀ part right number states walk₀ x walk = far walk
+parts-held-μ-loop file list sum n shape cube place sizes m x₀ part number cues states walk₀ x walk = far walk
 
 abbrev parts-held-Inv-fillings : parts-held-lts.InvT-fillings
 parts-held-Inv-fillings file list sum n shape cube place sizes m x₀ x = Parts file list sum n shape cube place x
@@ -62,6 +63,8 @@ parts-held-rooms-requires : (t : ℕ) → parts-held-lts.Need-rooms-requires (
   tags-of-reads.Learnt,
   number-of-reads.Asked,
   number-of-reads.Learnt,
+  cues-of-reads.Asked,
+  cues-of-reads.Learnt,
   walk-from-reads.Asked,
   walk-from-reads.Learnt,
   matches-at-reads.Asked,
@@ -95,6 +98,8 @@ parts-held-fillings-requires : (t : ℕ) → parts-held-lts.Need-fillings-requir
   tags-of-reads.Learnt,
   number-of-reads.Asked,
   number-of-reads.Learnt,
+  cues-of-reads.Asked,
+  cues-of-reads.Learnt,
   walk-from-reads.Asked,
   walk-from-reads.Learnt,
   matches-at-reads.Asked,
@@ -128,6 +133,8 @@ parts-held-fillings-holds : (t : ℕ) → parts-held-lts.Need-fillings-holds (
   tags-of-reads.Learnt,
   number-of-reads.Asked,
   number-of-reads.Learnt,
+  cues-of-reads.Asked,
+  cues-of-reads.Learnt,
   walk-from-reads.Asked,
   walk-from-reads.Learnt,
   matches-at-reads.Asked,
@@ -161,6 +168,8 @@ parts-held-cast-part-of : (t : ℕ) → parts-held-lts.Need-cast-part-of (
   tags-of-reads.Learnt,
   number-of-reads.Asked,
   number-of-reads.Learnt,
+  cues-of-reads.Asked,
+  cues-of-reads.Learnt,
   walk-from-reads.Asked,
   walk-from-reads.Learnt,
   matches-at-reads.Asked,
@@ -194,6 +203,8 @@ parts-held-part-of-requires : (t : ℕ) → parts-held-lts.Need-part-of-requires
   tags-of-reads.Learnt,
   number-of-reads.Asked,
   number-of-reads.Learnt,
+  cues-of-reads.Asked,
+  cues-of-reads.Learnt,
   walk-from-reads.Asked,
   walk-from-reads.Learnt,
   matches-at-reads.Asked,
@@ -227,6 +238,8 @@ parts-held-tags-of-requires : (t : ℕ) → parts-held-lts.Need-tags-of-requires
   tags-of-reads.Learnt,
   number-of-reads.Asked,
   number-of-reads.Learnt,
+  cues-of-reads.Asked,
+  cues-of-reads.Learnt,
   walk-from-reads.Asked,
   walk-from-reads.Learnt,
   matches-at-reads.Asked,
@@ -260,6 +273,8 @@ parts-held-number-of-requires : (t : ℕ) → parts-held-lts.Need-number-of-requ
   tags-of-reads.Learnt,
   number-of-reads.Asked,
   number-of-reads.Learnt,
+  cues-of-reads.Asked,
+  cues-of-reads.Learnt,
   walk-from-reads.Asked,
   walk-from-reads.Learnt,
   matches-at-reads.Asked,
@@ -281,6 +296,41 @@ parts-held-number-of-requires : (t : ℕ) → parts-held-lts.Need-number-of-requ
     parts-held-μ-fillings
 parts-held-number-of-requires t c κs = search needs
 
+-- src/search.rt:116:13
+parts-held-cues-of-requires : (t : ℕ) → parts-held-lts.Need-cues-of-requires (
+  rooms-reads.Asked,
+  rooms-reads.Learnt,
+  fillings-reads.Asked,
+  fillings-reads.Learnt,
+  part-of-reads.Asked,
+  part-of-reads.Learnt,
+  tags-of-reads.Asked,
+  tags-of-reads.Learnt,
+  number-of-reads.Asked,
+  number-of-reads.Learnt,
+  cues-of-reads.Asked,
+  cues-of-reads.Learnt,
+  walk-from-reads.Asked,
+  walk-from-reads.Learnt,
+  matches-at-reads.Asked,
+  matches-at-reads.Learnt,
+  onward-reads.Asked,
+  onward-reads.Learnt,
+  place-for-reads.Asked,
+  place-for-reads.Learnt,
+  is-whole-reads.Asked,
+  is-whole-reads.Learnt,
+  parts-held-below t,
+  parts-held.Post,
+)
+    (parts-held-at t)
+    parts-held.Post
+    parts-held-Inv-loop
+    parts-held-μ-loop
+    parts-held-Inv-fillings
+    parts-held-μ-fillings
+parts-held-cues-of-requires t c κs = search needs
+
 -- src/search.rt:118:13
 parts-held-walk-from-requires : (t : ℕ) → parts-held-lts.Need-walk-from-requires (
   rooms-reads.Asked,
@@ -293,6 +343,8 @@ parts-held-walk-from-requires : (t : ℕ) → parts-held-lts.Need-walk-from-requ
   tags-of-reads.Learnt,
   number-of-reads.Asked,
   number-of-reads.Learnt,
+  cues-of-reads.Asked,
+  cues-of-reads.Learnt,
   walk-from-reads.Asked,
   walk-from-reads.Learnt,
   matches-at-reads.Asked,
@@ -326,6 +378,8 @@ parts-held-loop-holds : (t : ℕ) → parts-held-lts.Need-loop-holds (
   tags-of-reads.Learnt,
   number-of-reads.Asked,
   number-of-reads.Learnt,
+  cues-of-reads.Asked,
+  cues-of-reads.Learnt,
   walk-from-reads.Asked,
   walk-from-reads.Learnt,
   matches-at-reads.Asked,
@@ -345,7 +399,7 @@ parts-held-loop-holds : (t : ℕ) → parts-held-lts.Need-loop-holds (
     parts-held-μ-loop
     parts-held-Inv-fillings
     parts-held-μ-fillings
-parts-held-loop-holds t c = (parting-begin (c .before .before .before .before .before .before .before .before .before .before .before .before .args .file .now) (c .before .before .before .before .before .before .before .before .before .before .before .before .args .list .now) (c .before .before .before .before .before .before .before .before .before .before .before .before .args .sum .now) (c .before .before .before .before .before .before .before .before .before .before .before .before .args .n) (c .before .before .before .before .before .before .before .before .before .before .before .before .args .shape) (c .before .before .before .before .before .before .before .before .before .before .before .before .args .cube) (c .before .before .before .before .before .before .before .before .before .before .before .before .args .place) (c .before .before .before .before .before .before .fillings .inv) (omega (arith, c .before .before .before .before .before .fillings-test .taken, c .before .before .before .before .before .before .before .fillings2 .ensures)) (c .before .before .before .before .part-of .ensures) (c .before .before .before .tags-of .ensures) (c .before .before .number-of .ensures) (c .walk-from .ensures), refl)
+parts-held-loop-holds t c = (parting-begin (c .before .before .before .before .before .before .before .before .before .before .before .before .before .args .file .now) (c .before .before .before .before .before .before .before .before .before .before .before .before .before .args .list .now) (c .before .before .before .before .before .before .before .before .before .before .before .before .before .args .sum .now) (c .before .before .before .before .before .before .before .before .before .before .before .before .before .args .n) (c .before .before .before .before .before .before .before .before .before .before .before .before .before .args .shape) (c .before .before .before .before .before .before .before .before .before .before .before .before .before .args .cube) (c .before .before .before .before .before .before .before .before .before .before .before .before .before .args .place) (c .before .before .before .before .before .before .before .fillings .inv) (omega (arith, c .before .before .before .before .before .before .fillings-test .taken, c .before .before .before .before .before .before .before .before .fillings2 .ensures)) (c .before .before .before .before .before .part-of .ensures) (cued (c .before .before .before .before .before .before .before .before .before .before .before .before .before .args .shape) (c .before .before .before .before .before .part-of .result) (c .before .before .cues-of .result) (c .before .before .before .before .tags-of .ensures) (c .before .before .cues-of .ensures)) (c .before .before .before .number-of .ensures (c .before .before .before .before .tags-of .ensures)) (c .walk-from .ensures), refl)
 
 -- src/search.rt:120:21
 parts-held-sub-i : (t : ℕ) → parts-held-lts.Need-sub-i (
@@ -359,6 +413,8 @@ parts-held-sub-i : (t : ℕ) → parts-held-lts.Need-sub-i (
   tags-of-reads.Learnt,
   number-of-reads.Asked,
   number-of-reads.Learnt,
+  cues-of-reads.Asked,
+  cues-of-reads.Learnt,
   walk-from-reads.Asked,
   walk-from-reads.Learnt,
   matches-at-reads.Asked,
@@ -392,6 +448,8 @@ parts-held-matches-at-requires : (t : ℕ) → parts-held-lts.Need-matches-at-re
   tags-of-reads.Learnt,
   number-of-reads.Asked,
   number-of-reads.Learnt,
+  cues-of-reads.Asked,
+  cues-of-reads.Learnt,
   walk-from-reads.Asked,
   walk-from-reads.Learnt,
   matches-at-reads.Asked,
@@ -425,6 +483,8 @@ parts-held-add-x : (t : ℕ) → parts-held-lts.Need-add-x (
   tags-of-reads.Learnt,
   number-of-reads.Asked,
   number-of-reads.Learnt,
+  cues-of-reads.Asked,
+  cues-of-reads.Learnt,
   walk-from-reads.Asked,
   walk-from-reads.Learnt,
   matches-at-reads.Asked,
@@ -444,7 +504,7 @@ parts-held-add-x : (t : ℕ) → parts-held-lts.Need-add-x (
     parts-held-μ-loop
     parts-held-Inv-fillings
     parts-held-μ-fillings
-parts-held-add-x t c = omega (arith, fillings-few (c .before .before .before .before .before .before .before .before .before .before .before .before .before .before .before .before .before .before .before .args .shape) (c .before .before .before .before .before .before .before .before .before .before .before .before .before .before .before .before .before .before .before .args .place), c .before .before .before .before .before .before .loop .inv .0 .one)
+parts-held-add-x t c = omega (arith, fillings-few (c .before .before .before .before .before .before .before .before .before .before .before .before .before .before .before .before .before .before .before .before .args .shape) (c .before .before .before .before .before .before .before .before .before .before .before .before .before .before .before .before .before .before .before .before .args .place), c .before .before .before .before .before .before .loop .inv .0 .one)
 
 -- src/search.rt:113:5
 parts-held-fillings-less : (t : ℕ) → parts-held-lts.Need-fillings-less (
@@ -458,6 +518,8 @@ parts-held-fillings-less : (t : ℕ) → parts-held-lts.Need-fillings-less (
   tags-of-reads.Learnt,
   number-of-reads.Asked,
   number-of-reads.Learnt,
+  cues-of-reads.Asked,
+  cues-of-reads.Learnt,
   walk-from-reads.Asked,
   walk-from-reads.Learnt,
   matches-at-reads.Asked,
@@ -477,7 +539,7 @@ parts-held-fillings-less : (t : ℕ) → parts-held-lts.Need-fillings-less (
     parts-held-μ-loop
     parts-held-Inv-fillings
     parts-held-μ-fillings
-parts-held-fillings-less t c = omega (arith, c .before .before .before .before .before .before .loop .inv .0 .one, c .before .before .before .before .before .before .loop .inv .1, c .before .before .before .before .before .before .before .before .before .before .before .before .before .before .fillings2 .ensures)
+parts-held-fillings-less t c = omega (arith, c .before .before .before .before .before .before .loop .inv .0 .one, c .before .before .before .before .before .before .loop .inv .1, c .before .before .before .before .before .before .before .before .before .before .before .before .before .before .before .fillings2 .ensures)
 
 -- src/search.rt:113:5
 parts-held-fillings-again : (t : ℕ) → parts-held-lts.Need-fillings-again (
@@ -491,6 +553,8 @@ parts-held-fillings-again : (t : ℕ) → parts-held-lts.Need-fillings-again (
   tags-of-reads.Learnt,
   number-of-reads.Asked,
   number-of-reads.Learnt,
+  cues-of-reads.Asked,
+  cues-of-reads.Learnt,
   walk-from-reads.Asked,
   walk-from-reads.Learnt,
   matches-at-reads.Asked,
@@ -510,7 +574,7 @@ parts-held-fillings-again : (t : ℕ) → parts-held-lts.Need-fillings-again (
     parts-held-μ-loop
     parts-held-Inv-fillings
     parts-held-μ-fillings
-parts-held-fillings-again t c = parting-covered (c .before .before .before .before .before .before .before .before .before .before .before .before .before .before .before .before .before .before .before .args .file .now) (c .before .before .before .before .before .before .before .before .before .before .before .before .before .before .before .before .before .before .before .args .list .now) (c .before .before .before .before .before .before .before .before .before .before .before .before .before .before .before .before .before .before .before .args .sum .now) (c .before .before .before .before .before .before .before .before .before .before .before .before .before .before .before .before .before .before .before .args .n) (c .before .before .before .before .before .before .before .before .before .before .before .before .before .before .before .before .before .before .before .args .shape) (c .before .before .before .before .before .before .before .before .before .before .before .before .before .before .before .before .before .before .before .args .cube) (c .before .before .before .before .before .before .before .before .before .before .before .before .before .before .before .before .before .before .before .args .place) (c .before .before .before .before .before .before .loop .inv .0) (c .before .before .before .before .if1 .taken) (λ A. sym (c .before .matches-at .ensures A) ∙ c .if2 .taken)
+parts-held-fillings-again t c = parting-covered (c .before .before .before .before .before .before .before .before .before .before .before .before .before .before .before .before .before .before .before .before .args .file .now) (c .before .before .before .before .before .before .before .before .before .before .before .before .before .before .before .before .before .before .before .before .args .list .now) (c .before .before .before .before .before .before .before .before .before .before .before .before .before .before .before .before .before .before .before .before .args .sum .now) (c .before .before .before .before .before .before .before .before .before .before .before .before .before .before .before .before .before .before .before .before .args .n) (c .before .before .before .before .before .before .before .before .before .before .before .before .before .before .before .before .before .before .before .before .args .shape) (c .before .before .before .before .before .before .before .before .before .before .before .before .before .before .before .before .before .before .before .before .args .cube) (c .before .before .before .before .before .before .before .before .before .before .before .before .before .before .before .before .before .before .before .before .args .place) (c .before .before .before .before .before .before .loop .inv .0) (c .before .before .before .before .if1 .taken) (λ A. sym (c .before .matches-at .ensures A) ∙ c .if2 .taken)
 
 -- src/search.rt:124:17
 parts-held-onward-requires : (t : ℕ) → parts-held-lts.Need-onward-requires (
@@ -524,6 +588,8 @@ parts-held-onward-requires : (t : ℕ) → parts-held-lts.Need-onward-requires (
   tags-of-reads.Learnt,
   number-of-reads.Asked,
   number-of-reads.Learnt,
+  cues-of-reads.Asked,
+  cues-of-reads.Learnt,
   walk-from-reads.Asked,
   walk-from-reads.Learnt,
   matches-at-reads.Asked,
@@ -557,6 +623,8 @@ parts-held-loop-less : (t : ℕ) → parts-held-lts.Need-loop-less (
   tags-of-reads.Learnt,
   number-of-reads.Asked,
   number-of-reads.Learnt,
+  cues-of-reads.Asked,
+  cues-of-reads.Learnt,
   walk-from-reads.Asked,
   walk-from-reads.Learnt,
   matches-at-reads.Asked,
@@ -590,6 +658,8 @@ parts-held-loop-again : (t : ℕ) → parts-held-lts.Need-loop-again (
   tags-of-reads.Learnt,
   number-of-reads.Asked,
   number-of-reads.Learnt,
+  cues-of-reads.Asked,
+  cues-of-reads.Learnt,
   walk-from-reads.Asked,
   walk-from-reads.Learnt,
   matches-at-reads.Asked,
@@ -609,7 +679,7 @@ parts-held-loop-again : (t : ℕ) → parts-held-lts.Need-loop-again (
     parts-held-μ-loop
     parts-held-Inv-fillings
     parts-held-μ-fillings
-parts-held-loop-again t c = (parting-next (c .before .before .before .before .before .before .before .before .before .before .before .before .before .before .before .before .before .before .before .before .args .file .now) (c .before .before .before .before .before .before .before .before .before .before .before .before .before .before .before .before .before .before .before .before .args .list .now) (c .before .before .before .before .before .before .before .before .before .before .before .before .before .before .before .before .before .before .before .before .args .sum .now) (c .before .before .before .before .before .before .before .before .before .before .before .before .before .before .before .before .before .before .before .before .args .n) (c .before .before .before .before .before .before .before .before .before .before .before .before .before .before .before .before .before .before .before .before .args .shape) (c .before .before .before .before .before .before .before .before .before .before .before .before .before .before .before .before .before .before .before .before .args .cube) (c .before .before .before .before .before .before .before .before .before .before .before .before .before .before .before .before .before .before .before .before .args .place) (c .before .before .before .before .before .before .before .loop .inv .0) (λ A. sym (c .before .before .matches-at .ensures A) ∙ c .before .if2 .left) (c .onward .ensures), c .before .before .before .before .before .before .before .loop .inv .1)
+parts-held-loop-again t c = (parting-next (c .before .before .before .before .before .before .before .before .before .before .before .before .before .before .before .before .before .before .before .before .before .args .file .now) (c .before .before .before .before .before .before .before .before .before .before .before .before .before .before .before .before .before .before .before .before .before .args .list .now) (c .before .before .before .before .before .before .before .before .before .before .before .before .before .before .before .before .before .before .before .before .before .args .sum .now) (c .before .before .before .before .before .before .before .before .before .before .before .before .before .before .before .before .before .before .before .before .before .args .n) (c .before .before .before .before .before .before .before .before .before .before .before .before .before .before .before .before .before .before .before .before .before .args .shape) (c .before .before .before .before .before .before .before .before .before .before .before .before .before .before .before .before .before .before .before .before .before .args .cube) (c .before .before .before .before .before .before .before .before .before .before .before .before .before .before .before .before .before .before .before .before .before .args .place) (c .before .before .before .before .before .before .before .loop .inv .0) (λ A. sym (c .before .before .matches-at .ensures A) ∙ c .before .if2 .left) (c .onward .ensures), c .before .before .before .before .before .before .before .loop .inv .1)
 
 -- src/search.rt:138:13
 parts-held-place-for-requires : (t : ℕ) → parts-held-lts.Need-place-for-requires (
@@ -623,6 +693,8 @@ parts-held-place-for-requires : (t : ℕ) → parts-held-lts.Need-place-for-requ
   tags-of-reads.Learnt,
   number-of-reads.Asked,
   number-of-reads.Learnt,
+  cues-of-reads.Asked,
+  cues-of-reads.Learnt,
   walk-from-reads.Asked,
   walk-from-reads.Learnt,
   matches-at-reads.Asked,
@@ -656,6 +728,8 @@ parts-held-is-whole-requires : (t : ℕ) → parts-held-lts.Need-is-whole-requir
   tags-of-reads.Learnt,
   number-of-reads.Asked,
   number-of-reads.Learnt,
+  cues-of-reads.Asked,
+  cues-of-reads.Learnt,
   walk-from-reads.Asked,
   walk-from-reads.Learnt,
   matches-at-reads.Asked,
@@ -689,6 +763,8 @@ parts-held-returns : (t : ℕ) → parts-held-lts.Need-returns (
   tags-of-reads.Learnt,
   number-of-reads.Asked,
   number-of-reads.Learnt,
+  cues-of-reads.Asked,
+  cues-of-reads.Learnt,
   walk-from-reads.Asked,
   walk-from-reads.Learnt,
   matches-at-reads.Asked,
@@ -708,7 +784,7 @@ parts-held-returns : (t : ℕ) → parts-held-lts.Need-returns (
     parts-held-μ-loop
     parts-held-Inv-fillings
     parts-held-μ-fillings
-parts-held-returns t c = ((λ Z e. absurd (true-not-false (sym e))), (λ Z e. parting-stuck (c .before .before .before .before .before .before .before .before .before .before .before .before .before .before .before .before .before .before .before .args .file .now) (c .before .before .before .before .before .before .before .before .before .before .before .before .before .before .before .before .before .before .before .args .list .now) (c .before .before .before .before .before .before .before .before .before .before .before .before .before .before .before .before .before .before .before .args .sum .now) (c .before .before .before .before .before .before .before .before .before .before .before .before .before .before .before .before .before .before .before .args .n) (c .before .before .before .before .before .before .before .before .before .before .before .before .before .before .before .before .before .before .before .args .shape) (c .before .before .before .before .before .before .before .before .before .before .before .before .before .before .before .before .before .before .before .args .cube) (c .before .before .before .before .before .before .before .before .before .before .before .before .before .before .before .before .before .before .before .args .place) (c .before .before .before .before .before .before .loop .inv .0) (c .before .before .before .before .before .before .before .before .before .before .before .before .before .before .before .rooms .ensures .0) (c .before .before .before .before .before .before .before .before .before .before .before .before .before .before .before .rooms .ensures .1) (c .before .before .before .before .before .before .before .before .before .before .before .before .before .before .before .before .before .before .before .pre .1) Z (c .before .before .before .before .if1 .left) (c .before .before .place-for .ensures .1 (sym (c .before .is-whole .ensures) ∙ c .if3 .taken))))
+parts-held-returns t c = ((λ Z e. absurd (true-not-false (sym e))), (λ Z e. parting-stuck (c .before .before .before .before .before .before .before .before .before .before .before .before .before .before .before .before .before .before .before .before .args .file .now) (c .before .before .before .before .before .before .before .before .before .before .before .before .before .before .before .before .before .before .before .before .args .list .now) (c .before .before .before .before .before .before .before .before .before .before .before .before .before .before .before .before .before .before .before .before .args .sum .now) (c .before .before .before .before .before .before .before .before .before .before .before .before .before .before .before .before .before .before .before .before .args .n) (c .before .before .before .before .before .before .before .before .before .before .before .before .before .before .before .before .before .before .before .before .args .shape) (c .before .before .before .before .before .before .before .before .before .before .before .before .before .before .before .before .before .before .before .before .args .cube) (c .before .before .before .before .before .before .before .before .before .before .before .before .before .before .before .before .before .before .before .before .args .place) (c .before .before .before .before .before .before .loop .inv .0) (c .before .before .before .before .before .before .before .before .before .before .before .before .before .before .before .before .rooms .ensures .0) (c .before .before .before .before .before .before .before .before .before .before .before .before .before .before .before .before .rooms .ensures .1) (c .before .before .before .before .before .before .before .before .before .before .before .before .before .before .before .before .before .before .before .before .pre .1) Z (c .before .before .before .before .if1 .left) (c .before .before .place-for .ensures .1 (sym (c .before .is-whole .ensures) ∙ c .if3 .taken))))
 
 -- src/search.rt:142:13
 parts-held-parts-held-requires : (t : ℕ) → parts-held-lts.Need-parts-held-requires (
@@ -722,6 +798,8 @@ parts-held-parts-held-requires : (t : ℕ) → parts-held-lts.Need-parts-held-re
   tags-of-reads.Learnt,
   number-of-reads.Asked,
   number-of-reads.Learnt,
+  cues-of-reads.Asked,
+  cues-of-reads.Learnt,
   walk-from-reads.Asked,
   walk-from-reads.Learnt,
   matches-at-reads.Asked,
@@ -741,7 +819,7 @@ parts-held-parts-held-requires : (t : ℕ) → parts-held-lts.Need-parts-held-re
     parts-held-μ-loop
     parts-held-Inv-fillings
     parts-held-μ-fillings
-parts-held-parts-held-requires t c κs = let l = c .before .before .before .before .before .before .loop .inv .0 .one in (subst (λ (k : Cube). weight k (c .before .before .place-for .result) < t) (sym (c .before .before .before .before .before .before .loop .inv .0 .is)) (let y = part-less (c .before .before .before .before .before .before .before .before .before .before .before .before .before .before .before .before .before .before .before .args .shape) (c .before .before .before .before .before .before .before .before .before .before .before .before .before .before .before .before .before .before .before .args .cube) (c .before .before .before .before .before .before .before .before .before .before .before .before .before .before .before .rooms .ensures .0) (c .before .before .before .before .before .before .before .before .before .before .before .before .before .before .before .rooms .ensures .1) (c .before .before .before .before .before .before .before .before .before .before .before .before .before .before .before .before .before .before .before .args .place) (c .before .before .before .before .before .before .before .before .before .before .before .before .before .before .before .before .before .before .before .pre .1) (c .before .before .before .before .before .before .loop .x) (omega (arith, fillings-few (c .before .before .before .before .before .before .before .before .before .before .before .before .before .before .before .before .before .before .before .args .shape) (c .before .before .before .before .before .before .before .before .before .before .before .before .before .before .before .before .before .before .before .args .place), l)) (c .before .before .place-for .result) (sym (c .before .is-whole .ensures) ∙ c .if3 .left) in omega (arith, y, c .before .before .before .before .before .before .before .before .before .before .before .before .before .before .before .before .before .before .before .pre .0)), c .before .before .place-for .ensures .0)
+parts-held-parts-held-requires t c κs = let l = c .before .before .before .before .before .before .loop .inv .0 .one in (subst (λ (k : Cube). weight k (c .before .before .place-for .result) < t) (sym (c .before .before .before .before .before .before .loop .inv .0 .is)) (let y = part-less (c .before .before .before .before .before .before .before .before .before .before .before .before .before .before .before .before .before .before .before .before .args .shape) (c .before .before .before .before .before .before .before .before .before .before .before .before .before .before .before .before .before .before .before .before .args .cube) (c .before .before .before .before .before .before .before .before .before .before .before .before .before .before .before .before .rooms .ensures .0) (c .before .before .before .before .before .before .before .before .before .before .before .before .before .before .before .before .rooms .ensures .1) (c .before .before .before .before .before .before .before .before .before .before .before .before .before .before .before .before .before .before .before .before .args .place) (c .before .before .before .before .before .before .before .before .before .before .before .before .before .before .before .before .before .before .before .before .pre .1) (c .before .before .before .before .before .before .loop .x) (omega (arith, fillings-few (c .before .before .before .before .before .before .before .before .before .before .before .before .before .before .before .before .before .before .before .before .args .shape) (c .before .before .before .before .before .before .before .before .before .before .before .before .before .before .before .before .before .before .before .before .args .place), l)) (c .before .before .place-for .result) (sym (c .before .is-whole .ensures) ∙ c .if3 .left) in omega (arith, y, c .before .before .before .before .before .before .before .before .before .before .before .before .before .before .before .before .before .before .before .before .pre .0)), c .before .before .place-for .ensures .0)
 
 -- src/search.rt:143:13
 parts-held-returns-2 : (t : ℕ) → parts-held-lts.Need-returns-2 (
@@ -755,6 +833,8 @@ parts-held-returns-2 : (t : ℕ) → parts-held-lts.Need-returns-2 (
   tags-of-reads.Learnt,
   number-of-reads.Asked,
   number-of-reads.Learnt,
+  cues-of-reads.Asked,
+  cues-of-reads.Learnt,
   walk-from-reads.Asked,
   walk-from-reads.Learnt,
   matches-at-reads.Asked,
@@ -774,7 +854,7 @@ parts-held-returns-2 : (t : ℕ) → parts-held-lts.Need-returns-2 (
     parts-held-μ-loop
     parts-held-Inv-fillings
     parts-held-μ-fillings
-parts-held-returns-2 t c = ((λ Z e. absurd (true-not-false (sym e))), (λ Z e. parting-outside (c .before .before .before .before .before .before .before .before .before .before .before .before .before .before .before .before .before .before .before .before .before .args .file .now) (c .before .before .before .before .before .before .before .before .before .before .before .before .before .before .before .before .before .before .before .before .before .args .list .now) (c .before .before .before .before .before .before .before .before .before .before .before .before .before .before .before .before .before .before .before .before .before .args .sum .now) (c .before .before .before .before .before .before .before .before .before .before .before .before .before .before .before .before .before .before .before .before .before .args .n) (c .before .before .before .before .before .before .before .before .before .before .before .before .before .before .before .before .before .before .before .before .before .args .shape) (c .before .before .before .before .before .before .before .before .before .before .before .before .before .before .before .before .before .before .before .before .before .args .cube) (c .before .before .before .before .before .before .before .before .before .before .before .before .before .before .before .before .before .before .before .before .before .args .place) (c .before .before .before .before .before .before .before .before .loop .inv .0) (c .before .before .before .before .before .before .before .before .before .before .before .before .before .before .before .before .before .rooms .ensures .0) (c .before .before .before .before .before .before .before .before .before .before .before .before .before .before .before .before .before .rooms .ensures .1) (c .before .before .before .before .before .before .before .before .before .before .before .before .before .before .before .before .before .before .before .before .before .pre .1) Z (c .before .parts-held .ensures .1) (not-true (c .before .parts-held .result) (c .if4 .taken))))
+parts-held-returns-2 t c = ((λ Z e. absurd (true-not-false (sym e))), (λ Z e. parting-outside (c .before .before .before .before .before .before .before .before .before .before .before .before .before .before .before .before .before .before .before .before .before .before .args .file .now) (c .before .before .before .before .before .before .before .before .before .before .before .before .before .before .before .before .before .before .before .before .before .before .args .list .now) (c .before .before .before .before .before .before .before .before .before .before .before .before .before .before .before .before .before .before .before .before .before .before .args .sum .now) (c .before .before .before .before .before .before .before .before .before .before .before .before .before .before .before .before .before .before .before .before .before .before .args .n) (c .before .before .before .before .before .before .before .before .before .before .before .before .before .before .before .before .before .before .before .before .before .before .args .shape) (c .before .before .before .before .before .before .before .before .before .before .before .before .before .before .before .before .before .before .before .before .before .before .args .cube) (c .before .before .before .before .before .before .before .before .before .before .before .before .before .before .before .before .before .before .before .before .before .before .args .place) (c .before .before .before .before .before .before .before .before .loop .inv .0) (c .before .before .before .before .before .before .before .before .before .before .before .before .before .before .before .before .before .before .rooms .ensures .0) (c .before .before .before .before .before .before .before .before .before .before .before .before .before .before .before .before .before .before .rooms .ensures .1) (c .before .before .before .before .before .before .before .before .before .before .before .before .before .before .before .before .before .before .before .before .before .before .pre .1) Z (c .before .parts-held .ensures .1) (not-true (c .before .parts-held .result) (c .if4 .taken))))
 
 -- src/search.rt:113:20
 parts-held-add-x-2 : (t : ℕ) → parts-held-lts.Need-add-x-2 (
@@ -788,6 +868,8 @@ parts-held-add-x-2 : (t : ℕ) → parts-held-lts.Need-add-x-2 (
   tags-of-reads.Learnt,
   number-of-reads.Asked,
   number-of-reads.Learnt,
+  cues-of-reads.Asked,
+  cues-of-reads.Learnt,
   walk-from-reads.Asked,
   walk-from-reads.Learnt,
   matches-at-reads.Asked,
@@ -807,7 +889,7 @@ parts-held-add-x-2 : (t : ℕ) → parts-held-lts.Need-add-x-2 (
     parts-held-μ-loop
     parts-held-Inv-fillings
     parts-held-μ-fillings
-parts-held-add-x-2 t c = omega (arith, fillings-few (c .before .before .before .before .before .before .before .before .before .before .before .before .before .before .before .before .before .before .before .before .before .args .shape) (c .before .before .before .before .before .before .before .before .before .before .before .before .before .before .before .before .before .before .before .before .before .args .place), c .before .before .before .before .before .before .before .before .loop .inv .0 .one)
+parts-held-add-x-2 t c = omega (arith, fillings-few (c .before .before .before .before .before .before .before .before .before .before .before .before .before .before .before .before .before .before .before .before .before .before .args .shape) (c .before .before .before .before .before .before .before .before .before .before .before .before .before .before .before .before .before .before .before .before .before .before .args .place), c .before .before .before .before .before .before .before .before .loop .inv .0 .one)
 
 -- src/search.rt:113:5
 parts-held-fillings-less-2 : (t : ℕ) → parts-held-lts.Need-fillings-less-2 (
@@ -821,6 +903,8 @@ parts-held-fillings-less-2 : (t : ℕ) → parts-held-lts.Need-fillings-less-2 (
   tags-of-reads.Learnt,
   number-of-reads.Asked,
   number-of-reads.Learnt,
+  cues-of-reads.Asked,
+  cues-of-reads.Learnt,
   walk-from-reads.Asked,
   walk-from-reads.Learnt,
   matches-at-reads.Asked,
@@ -840,7 +924,7 @@ parts-held-fillings-less-2 : (t : ℕ) → parts-held-lts.Need-fillings-less-2 (
     parts-held-μ-loop
     parts-held-Inv-fillings
     parts-held-μ-fillings
-parts-held-fillings-less-2 t c = omega (arith, c .before .before .before .before .before .before .before .before .loop .inv .0 .one, c .before .before .before .before .before .before .before .before .loop .inv .1, c .before .before .before .before .before .before .before .before .before .before .before .before .before .before .before .before .fillings2 .ensures)
+parts-held-fillings-less-2 t c = omega (arith, c .before .before .before .before .before .before .before .before .loop .inv .0 .one, c .before .before .before .before .before .before .before .before .loop .inv .1, c .before .before .before .before .before .before .before .before .before .before .before .before .before .before .before .before .before .fillings2 .ensures)
 
 -- src/search.rt:113:5
 parts-held-fillings-again-2 : (t : ℕ) → parts-held-lts.Need-fillings-again-2 (
@@ -854,6 +938,8 @@ parts-held-fillings-again-2 : (t : ℕ) → parts-held-lts.Need-fillings-again-2
   tags-of-reads.Learnt,
   number-of-reads.Asked,
   number-of-reads.Learnt,
+  cues-of-reads.Asked,
+  cues-of-reads.Learnt,
   walk-from-reads.Asked,
   walk-from-reads.Learnt,
   matches-at-reads.Asked,
@@ -873,7 +959,7 @@ parts-held-fillings-again-2 : (t : ℕ) → parts-held-lts.Need-fillings-again-2
     parts-held-μ-loop
     parts-held-Inv-fillings
     parts-held-μ-fillings
-parts-held-fillings-again-2 t c = parting-held (c .before .before .before .before .before .before .before .before .before .before .before .before .before .before .before .before .before .before .before .before .before .args .file .now) (c .before .before .before .before .before .before .before .before .before .before .before .before .before .before .before .before .before .before .before .before .before .args .list .now) (c .before .before .before .before .before .before .before .before .before .before .before .before .before .before .before .before .before .before .before .before .before .args .sum .now) (c .before .before .before .before .before .before .before .before .before .before .before .before .before .before .before .before .before .before .before .before .before .args .n) (c .before .before .before .before .before .before .before .before .before .before .before .before .before .before .before .before .before .before .before .before .before .args .shape) (c .before .before .before .before .before .before .before .before .before .before .before .before .before .before .before .before .before .before .before .before .before .args .cube) (c .before .before .before .before .before .before .before .before .before .before .before .before .before .before .before .before .before .before .before .before .before .args .place) (c .before .before .before .before .before .before .before .before .loop .inv .0) (c .before .parts-held .ensures .0) (not-false (c .before .parts-held .result) (c .if4 .left))
+parts-held-fillings-again-2 t c = parting-held (c .before .before .before .before .before .before .before .before .before .before .before .before .before .before .before .before .before .before .before .before .before .before .args .file .now) (c .before .before .before .before .before .before .before .before .before .before .before .before .before .before .before .before .before .before .before .before .before .before .args .list .now) (c .before .before .before .before .before .before .before .before .before .before .before .before .before .before .before .before .before .before .before .before .before .before .args .sum .now) (c .before .before .before .before .before .before .before .before .before .before .before .before .before .before .before .before .before .before .before .before .before .before .args .n) (c .before .before .before .before .before .before .before .before .before .before .before .before .before .before .before .before .before .before .before .before .before .before .args .shape) (c .before .before .before .before .before .before .before .before .before .before .before .before .before .before .before .before .before .before .before .before .before .before .args .cube) (c .before .before .before .before .before .before .before .before .before .before .before .before .before .before .before .before .before .before .before .before .before .before .args .place) (c .before .before .before .before .before .before .before .before .loop .inv .0) (c .before .parts-held .ensures .0) (not-false (c .before .parts-held .result) (c .if4 .left))
 
 -- src/search.rt:98:1
 parts-held-returns-3 : (t : ℕ) → parts-held-lts.Need-returns-3 (
@@ -887,6 +973,8 @@ parts-held-returns-3 : (t : ℕ) → parts-held-lts.Need-returns-3 (
   tags-of-reads.Learnt,
   number-of-reads.Asked,
   number-of-reads.Learnt,
+  cues-of-reads.Asked,
+  cues-of-reads.Learnt,
   walk-from-reads.Asked,
   walk-from-reads.Learnt,
   matches-at-reads.Asked,
@@ -920,6 +1008,8 @@ pub +parts-held-spec : {M : Type 1} → statement M
   tags-of-reads.Learnt,
   number-of-reads.Asked,
   number-of-reads.Learnt,
+  cues-of-reads.Asked,
+  cues-of-reads.Learnt,
   walk-from-reads.Asked,
   walk-from-reads.Learnt,
   matches-at-reads.Asked,
@@ -946,6 +1036,7 @@ pub +parts-held-spec : {M : Type 1} → statement M
     (parts-held-part-of-requires t)
     (parts-held-tags-of-requires t)
     (parts-held-number-of-requires t)
+    (parts-held-cues-of-requires t)
     (parts-held-walk-from-requires t)
     (parts-held-loop-holds t)
     (parts-held-sub-i t)

@@ -26,7 +26,7 @@ walk-from-requires c κs = search needs
 
 -- src/split.rt:108:5
 loop-holds : tie.Need-loop-holds Inv-loop μ-loop
-loop-holds c = choosing-begin (c .before .before .before .before .before .args .file .now) (c .before .before .before .before .before .args .list .now) (c .before .before .before .before .before .args .sum .now) (c .before .before .before .before .before .args .n) (c .before .before .before .before .before .args .shape) (c .before .before .before .before .before .args .cube) (c .before .before .before .before .before .args .right .now) (c .before .before .before .before .before .args .number) (c .walk-from .ensures)
+loop-holds c = choosing-begin (c .before .before .before .before .before .args .file .now) (c .before .before .before .before .before .args .list .now) (c .before .before .before .before .before .args .sum .now) (c .before .before .before .before .before .args .n) (c .before .before .before .before .before .args .shape) (c .before .before .before .before .before .args .cube) (c .before .before .before .before .before .args .cues .now) (c .before .before .before .before .before .args .number) (c .walk-from .ensures)
 
 -- src/split.rt:109:17
 sub-i : tie.Need-sub-i Inv-loop μ-loop
@@ -53,11 +53,11 @@ loop-less c = far-less (c .before .before .before .before .before .before .befor
 
 -- src/split.rt:108:5
 loop-again : tie.Need-loop-again Inv-loop μ-loop
-loop-again c = choosing-next (c .before .before .before .before .before .before .before .before .before .before .before .before .before .before .args .file .now) (c .before .before .before .before .before .before .before .before .before .before .before .before .before .before .args .list .now) (c .before .before .before .before .before .before .before .before .before .before .before .before .before .before .args .sum .now) (c .before .before .before .before .before .before .before .before .before .before .before .before .before .before .args .n) (c .before .before .before .before .before .before .before .before .before .before .before .before .before .before .args .shape) (c .before .before .before .before .before .before .before .before .before .before .before .before .before .before .args .cube) (c .before .before .before .before .before .before .before .before .before .before .before .before .before .before .args .right .now) (c .before .before .before .before .before .before .before .before .before .before .before .before .before .before .args .number) (c .before .before .before .before .before .before .before .before .loop .inv) (c .before .before .before .before .with-entry .ensures) (c .onward .ensures)
+loop-again c = choosing-next (c .before .before .before .before .before .before .before .before .before .before .before .before .before .before .args .file .now) (c .before .before .before .before .before .before .before .before .before .before .before .before .before .before .args .list .now) (c .before .before .before .before .before .before .before .before .before .before .before .before .before .before .args .sum .now) (c .before .before .before .before .before .before .before .before .before .before .before .before .before .before .args .n) (c .before .before .before .before .before .before .before .before .before .before .before .before .before .before .args .shape) (c .before .before .before .before .before .before .before .before .before .before .before .before .before .before .args .cube) (c .before .before .before .before .before .before .before .before .before .before .before .before .before .before .args .cues .now) (c .before .before .before .before .before .before .before .before .before .before .before .before .before .before .args .number) (c .before .before .before .before .before .before .before .before .loop .inv) (c .before .before .before .before .with-entry .ensures) (c .onward .ensures)
 
 -- src/split.rt:88:1
 returns-2 : tie.Need-returns-2 Inv-loop μ-loop
-returns-2 c = (c .before .before .loop .inv .proper, λ e. choosing-end (c .before .before .before .before .before .before .before .before .args .file .now) (c .before .before .before .before .before .before .before .before .args .list .now) (c .before .before .before .before .before .before .before .before .args .sum .now) (c .before .before .before .before .before .before .before .before .args .n) (c .before .before .before .before .before .before .before .before .args .shape) (c .before .before .before .before .before .before .before .before .args .cube) (c .before .before .before .before .before .before .before .before .args .right .now) (c .before .before .before .before .before .before .before .before .args .number) (c .before .before .loop .inv) (c .if1 .left) e)
+returns-2 c = (c .before .before .loop .inv .proper, λ e. choosing-end (c .before .before .before .before .before .before .before .before .args .file .now) (c .before .before .before .before .before .before .before .before .args .list .now) (c .before .before .before .before .before .before .before .before .args .sum .now) (c .before .before .before .before .before .before .before .before .args .n) (c .before .before .before .before .before .before .before .before .args .shape) (c .before .before .before .before .before .before .before .before .args .cube) (c .before .before .before .before .before .before .before .before .args .cues .now) (c .before .before .before .before .before .before .before .before .args .number) (c .before .before .loop .inv) (c .if1 .left) e)
 
 pub best-split-spec : {M : Type 1} → statement M
 best-split-spec =

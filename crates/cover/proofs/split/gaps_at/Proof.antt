@@ -16,6 +16,9 @@ entry-at-requires c κs = search needs
 tags-of-requires : tie.Need-tags-of-requires
 tags-of-requires c κs = search needs
 
+tags-of-requires-2 : tie.Need-tags-of-requires-2
+tags-of-requires-2 c κs = tt
+
 -- src/split.rt:65:5
 gaps-between-requires : tie.Need-gaps-between-requires
 gaps-between-requires c κs = search needs
@@ -26,4 +29,4 @@ returns c = search needs
 
 pub gaps-at-spec : {M : Type 1} → statement M
 gaps-at-spec =
-    tie.close (tie.spec entry-at-requires tags-of-requires gaps-between-requires returns)
+    tie.close (tie.spec entry-at-requires tags-of-requires tags-of-requires-2 gaps-between-requires returns)
