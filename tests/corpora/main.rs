@@ -190,7 +190,7 @@ impl Judges {
         self.compare(what, file, area, answer, program_too);
     }
 
-    /// Judges a list as it is and shuffled; gives its file.
+    /// Judges a list as it is and shuffled, every other one with the records of each entry mingled too; gives its file.
     fn in_any_order(
         &mut self,
         what: &str,
@@ -205,7 +205,12 @@ impl Judges {
         self.compare(what, &file, area, answer, program_too);
         let mut entries = entries.to_vec();
         r.shuffle(&mut entries);
-        let shuffled = writing::list_file(program, &entries);
+        let mut shuffled = writing::list_file(program, &[]);
+        let mingles = r.below(2) == 0;
+        for entry in &entries {
+            let records = writing::entry(program, entry);
+            shuffled.extend(if mingles { mingled(&records, r) } else { records });
+        }
         let of_shuffled = judge(&shuffled, area);
         if !same_in_any_order(answer.verdict, of_shuffled.verdict) {
             self.fail(what, "the separate judge of the list shuffled", &answer.to_string(), &of_shuffled.to_string(), &shuffled, area);
@@ -227,6 +232,31 @@ impl Judges {
         }
         (self.failed > 0) as i32
     }
+}
+
+/// The records of an entry in an order chosen by chance: messages, and the values of each queue, stay in theirs.
+fn mingled(entry: &[u8], r: &mut Random) -> Vec<u8> {
+    let (head, mut rest) = entry.split_at(9);
+    let mut rows: Vec<(Vec<u8>, Vec<&[u8]>)> = Vec::new();
+    while !rest.is_empty() {
+        let message = rest[0] == 0x11;
+        let (record, left) = rest.split_at(if message { 7 } else { 4 });
+        let key = if message { vec![0x11] } else { record[..3].to_vec() };
+        match rows.iter_mut().find(|row| row.0 == key) {
+            Some(row) => row.1.push(record),
+            None => rows.push((key, vec![record])),
+        }
+        rest = left;
+    }
+    let mut out = head.to_vec();
+    while !rows.is_empty() {
+        let row = r.below(rows.len());
+        out.extend(rows[row].1.remove(0));
+        if rows[row].1.is_empty() {
+            rows.remove(row);
+        }
+    }
+    out
 }
 
 /// The syntax of tests/cases: bytes, names, repetition.
