@@ -33,9 +33,9 @@ use Rattle.by_bytes.proofs.LeftLaws.{cannot-stand, Left, left-begin, le
 
 -- ---- tests
 
-pub kinds-next : (f : List ℕ) (at : ℕ) {m k : ℕ} → Kinds f at m → k ≡ at + 9 + 7 * m → byte f k ≡ 17 → Kinds f at (m + 1)
-kinds-next f at {m} {k} h d b i l = elim (ℕ-discrete i m) [
-  | yes e ↦ let z : at + 9 + 7 * i ≡ k = omega arith in ap (byte f) z ∙ b
+pub kinds-next : (f : List ℕ) (back : ℕ) {m k : ℕ} → Kinds f back m → k ≡ back + 7 + 7 * m → byte f k ≡ 17 → Kinds f back (m + 1)
+kinds-next f back {m} {k} h d b i l = elim (ℕ-discrete i m) [
+  | yes e ↦ let z : back + 7 + 7 * i ≡ k = omega arith in ap (byte f) z ∙ b
   | no e ↦ h i (omega arith)
 ]
 
@@ -183,22 +183,22 @@ one-lowest (suc n) zs l = elim (decLe (getD zs n 0) 1) [
 -- ---- each 11 as soon as it can
 
 -- the newest 11s, from the i-th on, stand for messages from the j-th on: what is known if the cues are those of the cube
-pub record Seen (exact : Bool) (f : List ℕ) (at m : ℕ) (s : Shape) (c : Cube) (few : s .processes ≤ 4) (kept : List ℕ) (all : Bool) (i j : ℕ) : Type 0 where
-  pub meets : (x : ℕ) → i ≤ x → x < m → messageMatches (relation exact) (messageAt f (at + 9 + 7 * x)) (getD (c .messages) (getD kept x 0) noMessage) ≡ true
+pub record Seen (exact : Bool) (f : List ℕ) (at back m : ℕ) (s : Shape) (c : Cube) (few : s .processes ≤ 4) (kept : List ℕ) (all : Bool) (i j : ℕ) : Type 0 where
+  pub meets : (x : ℕ) → i ≤ x → x < m → messageMatches (relation exact) (messageAt f (back + 7 + 7 * x)) (getD (c .messages) (getD kept x 0) noMessage) ≡ true
   pub covers : all ≡ true → (y : ℕ) → j ≤ y → y < min (c .count) 20 → 65536 ≤ getD (tagsOf s c) y 0 → (x : ℕ) × (i ≤ x) × (x < m) × (getD kept x 0 ≡ y)
-  pub left : (e : Cube) → Stands f at m e → (low : lowestPointer s (e .pointers) ≡ 1) → Left s few exact e c low i j
+  pub left : (e : Cube) → Stands f at back m e → (low : lowestPointer s (e .pointers) ≡ 1) → Left s few exact e c low i j
 
-pub record Placed (exact : Bool) (f : List ℕ) (at m : ℕ) (s : Shape) (c : Cube) (cues : List ℕ) (kept : List ℕ) (all : Bool) (i j : ℕ) : Type 0 where
+pub record Placed (exact : Bool) (f : List ℕ) (at back m : ℕ) (s : Shape) (c : Cube) (cues : List ℕ) (kept : List ℕ) (all : Bool) (i j : ℕ) : Type 0 where
   pub few : i ≤ m
   pub low : j ≤ min (c .count) 20
   pub room : length kept ≡ 20
   pub from : (x : ℕ) → i ≤ x → x < m → j ≤ getD kept x 0
   pub below : (x : ℕ) → i ≤ x → x < m → getD kept x 0 < c .count
   pub rises : (x y : ℕ) → i ≤ x → x < y → y < m → getD kept x 0 < getD kept y 0
-  pub seen : (A : Against s c cues) → Seen exact f at m s c (A .sized .processes) kept all i j
+  pub seen : (A : Against s c cues) → Seen exact f at back m s c (A .sized .processes) kept all i j
 
-pub placed-begin : (exact : Bool) (f : List ℕ) (at m : ℕ) (s : Shape) (c : Cube) (cues : List ℕ) {n : ℕ} → n ≡ min (c .count) 20 → Placed exact f at m s c cues (replicate 20 0) true m n
-placed-begin exact f at m s c cues {n} d =
+pub placed-begin : (exact : Bool) (f : List ℕ) (at back m : ℕ) (s : Shape) (c : Cube) (cues : List ℕ) {n : ℕ} → n ≡ min (c .count) 20 → Placed exact f at back m s c cues (replicate 20 0) true m n
+placed-begin exact f at back m s c cues {n} d =
     record {
       few = omega arith;
       low = omega arith;
@@ -215,7 +215,7 @@ placed-begin exact f at m s c cues {n} d =
       };
     }
 
-module _ {exact : Bool} {f : List ℕ} {at m : ℕ} {s : Shape} {c : Cube} {cues kept : List ℕ} {all : Bool} {i j : ℕ} (w : Placed exact f at m s c cues kept all (suc i) (suc j)) (short : m ≤ 20) where
+module _ {exact : Bool} {f : List ℕ} {at back m : ℕ} {s : Shape} {c : Cube} {cues kept : List ℕ} {all : Bool} {i j : ℕ} (w : Placed exact f at back m s c cues kept all (suc i) (suc j)) (short : m ≤ 20) where
   old : (x : ℕ) → suc i ≤ x → getD (set kept i j) x 0 ≡ getD kept x 0
   old x l = getD-set-other kept i x j 0 (λ f. omega arith)
 
@@ -225,7 +225,7 @@ module _ {exact : Bool} {f : List ℕ} {at m : ℕ} {s : Shape} {c : Cube} {cues
   at-new : (x : ℕ) → x ≡ i → getD (set kept i j) x 0 ≡ j
   at-new x d = ap (λ (k : ℕ). getD (set kept i j) k 0) d ∙ new
 
-  kept-next : (Against s c cues → messageMatches (relation exact) (messageAt f (at + 9 + 7 * i)) (getD (c .messages) j noMessage) ≡ true) → Placed exact f at m s c cues (set kept i j) all i j
+  kept-next : (Against s c cues → messageMatches (relation exact) (messageAt f (back + 7 + 7 * i)) (getD (c .messages) j noMessage) ≡ true) → Placed exact f at back m s c cues (set kept i j) all i j
   kept-next h =
       record {
         few = omega (arith, w .few);
@@ -239,8 +239,8 @@ module _ {exact : Bool} {f : List ℕ} {at m : ℕ} {s : Shape} {c : Cube} {cues
         ];
         seen = λ A. record {
           meets = λ x a b. elim (ℕ-discrete x i) [
-            | yes d ↦ subst₂ (λ (k l : ℕ). messageMatches (relation exact) (messageAt f (at + 9 + 7 * k)) (getD (c .messages) l noMessage) ≡ true) (sym d) (sym (at-new x d)) (h A)
-            | no d ↦ subst (λ (l : ℕ). messageMatches (relation exact) (messageAt f (at + 9 + 7 * x)) (getD (c .messages) l noMessage) ≡ true) (sym (old x (omega arith))) (w .seen A .meets x (omega arith) b)
+            | yes d ↦ subst₂ (λ (k l : ℕ). messageMatches (relation exact) (messageAt f (back + 7 + 7 * k)) (getD (c .messages) l noMessage) ≡ true) (sym d) (sym (at-new x d)) (h A)
+            | no d ↦ subst (λ (l : ℕ). messageMatches (relation exact) (messageAt f (back + 7 + 7 * x)) (getD (c .messages) l noMessage) ≡ true) (sym (old x (omega arith))) (w .seen A .meets x (omega arith) b)
           ];
           covers = λ t y a b r. elim (ℕ-discrete y j) [
             | yes d ↦ (i, omega arith, omega (arith, w .few), new ∙ sym d)
@@ -250,11 +250,11 @@ module _ {exact : Bool} {f : List ℕ} {at m : ℕ} {s : Shape} {c : Cube} {cues
         };
       }
 
-skipped-next : {exact : Bool} {f : List ℕ} {at m : ℕ} {s : Shape} {c : Cube} {cues kept : List ℕ} {all : Bool} {i j : ℕ} → Placed exact f at m s c cues kept all i (suc j) → m ≤ 20
-    → (zs : List ℕ) → ((e : Cube) → Stands f at m e → e .pointers ≡ zs)
-    → (Against s c cues → (k : ℕ) → i ≡ suc k → messageMatches (relation exact) (messageAt f (at + 9 + 7 * k)) (getD (c .messages) j noMessage) ≡ true → PointsOther (s .processes) zs (c .pointers) (suc k) (suc j))
-    → {more : Bool} → (Against s c cues → more ≡ true → (all ≡ true) × (getD (tagsOf s c) j 0 < 65536)) → Placed exact f at m s c cues kept more i j
-skipped-next {exact} {f} {at} {m} {s} {c} {cues} {kept} {all} {i} {j} w short zs are h {more} d =
+skipped-next : {exact : Bool} {f : List ℕ} {at back m : ℕ} {s : Shape} {c : Cube} {cues kept : List ℕ} {all : Bool} {i j : ℕ} → Placed exact f at back m s c cues kept all i (suc j) → m ≤ 20
+    → (zs : List ℕ) → ((e : Cube) → Stands f at back m e → e .pointers ≡ zs)
+    → (Against s c cues → (k : ℕ) → i ≡ suc k → messageMatches (relation exact) (messageAt f (back + 7 + 7 * k)) (getD (c .messages) j noMessage) ≡ true → PointsOther (s .processes) zs (c .pointers) (suc k) (suc j))
+    → {more : Bool} → (Against s c cues → more ≡ true → (all ≡ true) × (getD (tagsOf s c) j 0 < 65536)) → Placed exact f at back m s c cues kept more i j
+skipped-next {exact} {f} {at} {back} {m} {s} {c} {cues} {kept} {all} {i} {j} w short zs are h {more} d =
     record {
       few = w .few;
       low = omega (arith, w .low);
@@ -279,32 +279,32 @@ skipped-next {exact} {f} {at} {m} {s} {c} {cues} {kept} {all} {i} {j} w short zs
       };
     }
 
-module _ {exact : Bool} {f : List ℕ} {at m : ℕ} {s : Shape} {c : Cube} {cues kept : List ℕ} {all : Bool} {i j : ℕ} (w : Placed exact f at m s c cues kept all i j) (short : m ≤ 20) where
+module _ {exact : Bool} {f : List ℕ} {at back m : ℕ} {s : Shape} {c : Cube} {cues kept : List ℕ} {all : Bool} {i j : ℕ} (w : Placed exact f at back m s c cues kept all i j) (short : m ≤ 20) where
   cue-at : Against s c cues → {h : ℕ} → 1 ≤ j → h ≡ j - 1 → Cue (getD cues (j - 1) 0) (getD (c .messages) (j - 1) noMessage) (getD (tagsOf s c) (j - 1) 0)
   cue-at A l y = A .are (j - 1) (omega (arith, w .low))
 
   pub placed-keep : {g h cue : ℕ} → 1 ≤ i → 1 ≤ j → cue ≡ getD cues (j - 1) 0
-      → ((u : Message) → (tag : ℕ) → Cue cue u tag → messageMatches (relation exact) (messageAt f (at + 2 + 7 * i)) u ≡ true) → g ≡ i - 1 → h ≡ j - 1
-      → Placed exact f at m s c cues (set kept g h) all g h
+      → ((u : Message) → (tag : ℕ) → Cue cue u tag → messageMatches (relation exact) (messageAt f (back + 7 * i)) u ≡ true) → g ≡ i - 1 → h ≡ j - 1
+      → Placed exact f at back m s c cues (set kept g h) all g h
   placed-keep {g} {h} {cue} l k q t x y =
       let a : i ≡ suc g = omega arith in
       let b : j ≡ suc h = omega arith in
-      let z : at + 2 + 7 * i ≡ at + 9 + 7 * g = omega arith in
-      kept-next (subst₂ (Placed exact f at m s c cues kept all) a b w) short
+      let z : back + 7 * i ≡ back + 7 + 7 * g = omega arith in
+      kept-next (subst₂ (Placed exact f at back m s c cues kept all) a b w) short
       (λ A. subst₂ (λ (u v : ℕ). messageMatches (relation exact) (messageAt f u) (getD (c .messages) v noMessage) ≡ true) z (sym y)
       (t (getD (c .messages) (j - 1) noMessage) (getD (tagsOf s c) (j - 1) 0) (subst (λ (r : ℕ). Cue r (getD (c .messages) (j - 1) noMessage) (getD (tagsOf s c) (j - 1) 0)) (sym q) (cue-at A k y))))
 
-  pub placed-skip : {h cue : ℕ} {zs : List ℕ} → 1 ≤ j → h ≡ j - 1 → cue ≡ getD cues (j - 1) 0 → ((e : Cube) → Stands f at m e → e .pointers ≡ zs)
-      → ((u : Message) → (tag : ℕ) → Cue cue u tag → 1 ≤ i → messageMatches (relation exact) (messageAt f (at + 2 + 7 * i)) u ≡ true → PointsOther (s .processes) zs (c .pointers) i j)
-      → {more : Bool} → more ≡ all && eqb (cue % 2) 0 → Placed exact f at m s c cues kept more i h
+  pub placed-skip : {h cue : ℕ} {zs : List ℕ} → 1 ≤ j → h ≡ j - 1 → cue ≡ getD cues (j - 1) 0 → ((e : Cube) → Stands f at back m e → e .pointers ≡ zs)
+      → ((u : Message) → (tag : ℕ) → Cue cue u tag → 1 ≤ i → messageMatches (relation exact) (messageAt f (back + 7 * i)) u ≡ true → PointsOther (s .processes) zs (c .pointers) i j)
+      → {more : Bool} → more ≡ all && eqb (cue % 2) 0 → Placed exact f at back m s c cues kept more i h
   placed-skip {h} {cue} {zs} l y p are t d =
       let b : j ≡ suc h = omega arith in
       let C : (A : Against s c cues) → Cue cue (getD (c .messages) h noMessage) (getD (tagsOf s c) h 0) =
       λ A. subst (λ (r : ℕ). Cue r (getD (c .messages) h noMessage) (getD (tagsOf s c) h 0)) (sym p)
       (subst (λ (k : ℕ). Cue (getD cues (j - 1) 0) (getD (c .messages) k noMessage) (getD (tagsOf s c) k 0)) (sym y) (cue-at A l y)) in
-      skipped-next (subst (Placed exact f at m s c cues kept all i) b w) short zs are
+      skipped-next (subst (Placed exact f at back m s c cues kept all i) b w) short zs are
       (λ A k q u.
-      let z : at + 9 + 7 * k ≡ at + 2 + 7 * i = omega arith in
+      let z : back + 7 + 7 * k ≡ back + 7 * i = omega arith in
       subst₂ (PointsOther (s .processes) zs (c .pointers)) q b
       (t (getD (c .messages) h noMessage) (getD (tagsOf s c) h 0) (C A) (omega arith) (subst (λ (a : ℕ). messageMatches (relation exact) (messageAt f a) (getD (c .messages) h noMessage) ≡ true) z u)))
       (λ A o.
@@ -312,12 +312,12 @@ module _ {exact : Bool} {f : List ℕ} {at m : ℕ} {s : Shape} {c : Cube} {cues
       let K = C A in
       (v .0, K .none (omega (arith, eqb-true (cue % 2) 0 (v .1), K .is, K .bit))))
 
-  pub placed-over : j < i → (e : Cube) → Stands f at m e → lowestPointer s (e .pointers) ≡ 1 → Against s c cues → channelMatches s exact e c ≡ false
+  pub placed-over : j < i → (e : Cube) → Stands f at back m e → lowestPointer s (e .pointers) ≡ 1 → Against s c cues → channelMatches s exact e c ≡ false
   placed-over l e k low A = left-over s (A .sized .processes) exact e c low i j (omega (arith, w .few)) (omega (arith, w .low)) l (w .seen A .left e k low)
 
 -- every 11 stands for a message, and every message with a role has one
-module _ {exact : Bool} {f : List ℕ} {at m : ℕ} {s : Shape} {c : Cube} {cues kept : List ℕ} {all : Bool} {i j : ℕ} (w : Placed exact f at m s c cues kept all i j) (none-left : i ≡ 0) (through : j ≡ 0) (covered : all ≡ true)
-    (e : Cube) (k : Stands f at m e) (counted : e .count ≡ m) (low : lowestPointer s (e .pointers) ≡ 1) (points : PointsSame (s .processes) (e .pointers) (c .pointers) kept m) (A : Against s c cues)
+module _ {exact : Bool} {f : List ℕ} {at back m : ℕ} {s : Shape} {c : Cube} {cues kept : List ℕ} {all : Bool} {i j : ℕ} (w : Placed exact f at back m s c cues kept all i j) (none-left : i ≡ 0) (through : j ≡ 0) (covered : all ≡ true)
+    (e : Cube) (k : Stands f at back m e) (counted : e .count ≡ m) (low : lowestPointer s (e .pointers) ≡ 1) (points : PointsSame (s .processes) (e .pointers) (c .pointers) kept m) (A : Against s c cues)
   where
     tag-at : (y : ℕ) → y < c .count → getD (tagsOf s c) y 0 ≡ 65536 * maskIn s c (suc y) + labelNumber (getD (c .messages) y noMessage)
     tag-at y l =

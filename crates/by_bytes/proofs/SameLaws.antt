@@ -28,7 +28,7 @@ use Rattle.matching.specs.Word.{Word}
 use Rattle.matching.specs.Match.{queueRow}
 use Rattle.matching.proofs.Below.{and-false, all-equal}
 use Rattle.matching.proofs.ValueLaws.{newest-at, same-bytes}
-use Rattle.by_bytes.specs.Same.{Kinds, Stands, WaitsAt, HeldFrom, none, more, Within}
+use Rattle.by_bytes.specs.Same.{Leads, leads-none, leads-more, Kinds, Stands, WaitsAt, HeldFrom, none, more, Took, took-none, took-more, Within}
 
 -- ---- tests
 
@@ -50,47 +50,54 @@ not-cut f k n e g = omega (arith, leb-false (length f - k) n (sym e ∙ g))
 
 -- ---- what the 11s load
 
-abbrev pub sentLoaded : List ℕ → ℕ → ℕ → Loaded
-sentLoaded f start zero = nothingLoaded
-sentLoaded f start (suc m) = moreMessage f (start + 7 * m) (sentLoaded f start m)
+-- after what was loaded before
+abbrev pub sentOn : Loaded → List ℕ → ℕ → ℕ → Loaded
+sentOn base f back zero = base
+sentOn base f back (suc m) = moreMessage f (back + 7 + 7 * m) (sentOn base f back m)
 
-sent-count : (f : List ℕ) (start m : ℕ) → sentLoaded f start m .count ≡ m
-sent-count f start zero = refl
-sent-count f start (suc m) = omega (arith, sent-count f start m)
+module _ (base : Loaded) (f : List ℕ) (back : ℕ) where
+  sent-queues : (m : ℕ) → sentOn base f back m .queues ≡ base .queues
+  sent-queues zero = refl
+  sent-queues (suc m) = sent-queues m
 
-sent-queues : (f : List ℕ) (start m : ℕ) → sentLoaded f start m .queues ≡ replicate 16 emptyQueue
-sent-queues f start zero = refl
-sent-queues f start (suc m) = sent-queues f start m
+  sent-length : length (base .messages) ≡ 20 → (m : ℕ) → length (sentOn base f back m .messages) ≡ 20
+  sent-length n zero = n
+  sent-length n (suc m) = length-set (sentOn base f back m .messages) (sentOn base f back m .count) (messageAt f (back + 7 + 7 * m)) ∙ sent-length n m
 
-sent-length : (f : List ℕ) (start m : ℕ) → length (sentLoaded f start m .messages) ≡ 20
-sent-length f start zero = refl
-sent-length f start (suc m) = length-set (sentLoaded f start m .messages) (sentLoaded f start m .count) (messageAt f (start + 7 * m)) ∙ sent-length f start m
+  module _ (none-yet : base .count ≡ 0) where
+    sent-count : (m : ℕ) → sentOn base f back m .count ≡ m
+    sent-count zero = none-yet
+    sent-count (suc m) = omega (arith, sent-count m)
 
-sent-message : (f : List ℕ) (start m i : ℕ) → m ≤ 20 → i < m → getD (sentLoaded f start m .messages) i noMessage ≡ messageAt f (start + 7 * i)
-sent-message f start zero i a l = absurd (omega arith)
-sent-message f start (suc m) i a l = elim (ℕ-discrete i m) [
-  | yes d ↦
-      let z : i ≡ sentLoaded f start m .count = omega (arith, sent-count f start m) in
-      ap (λ (x : ℕ). getD (set (sentLoaded f start m .messages) (sentLoaded f start m .count) (messageAt f (start + 7 * m))) x noMessage) z
-      ∙ getD-set-same (sentLoaded f start m .messages) (sentLoaded f start m .count) (messageAt f (start + 7 * m)) noMessage (omega (arith, sent-count f start m, sent-length f start m))
-      ∙ ap (λ (x : ℕ). messageAt f (start + 7 * x)) (sym d)
-  | no d ↦
-      getD-set-other (sentLoaded f start m .messages) (sentLoaded f start m .count) i (messageAt f (start + 7 * m)) noMessage (λ q. omega (arith, sent-count f start m))
-      ∙ sent-message f start m i (omega arith) (omega arith)
-]
+    sent-message : length (base .messages) ≡ 20 → (m i : ℕ) → m ≤ 20 → i < m → getD (sentOn base f back m .messages) i noMessage ≡ messageAt f (back + 7 + 7 * i)
+    sent-message n zero i a l = absurd (omega arith)
+    sent-message n (suc m) i a l = elim (ℕ-discrete i m) [
+      | yes d ↦
+          let z : i ≡ sentOn base f back m .count = omega (arith, sent-count m) in
+          ap (λ (x : ℕ). getD (set (sentOn base f back m .messages) (sentOn base f back m .count) (messageAt f (back + 7 + 7 * m))) x noMessage) z
+          ∙ getD-set-same (sentOn base f back m .messages) (sentOn base f back m .count) (messageAt f (back + 7 + 7 * m)) noMessage (omega (arith, sent-count m, sent-length n m))
+          ∙ ap (λ (x : ℕ). messageAt f (back + 7 + 7 * x)) (sym d)
+      | no d ↦
+          getD-set-other (sentOn base f back m .messages) (sentOn base f back m .count) i (messageAt f (back + 7 + 7 * m)) noMessage (λ q. omega (arith, sent-count m))
+          ∙ sent-message n m i (omega arith) (omega arith)
+    ]
 
-sent-loading : (f : List ℕ) (at m : ℕ) → at < length f → m ≤ 20 → Kinds f at m → Loading f at (sentLoaded f (at + 9) m) (at + 9 + 7 * m)
-unfolding loadsMessage isKind
-sent-loading f at zero l a h = let z : at + 9 ≡ at + 9 + 7 * 0 = omega arith in subst (Loading f at nothingLoaded) z (loading-begin f at l)
-sent-loading f at (suc m) l a h =
-    let z : at + 9 + 7 * m + 7 ≡ at + 9 + 7 * suc m = omega arith in
-    subst (Loading f at (sentLoaded f (at + 9) (suc m))) z
-    (loading-message (sent-loading f at m l (omega arith) (λ i k. h i (omega arith))) yes-loads)
-  where
-    yes-loads : loadsMessage f (at + 9 + 7 * m) (sentLoaded f (at + 9) m .count) ≡ true
-    yes-loads = ap₂ _&&_ (eq-eqb (byte f (at + 9 + 7 * m)) 17 (h m (omega arith))) (lt-ltb (sentLoaded f (at + 9) m .count) 20 (omega (arith, sent-count f (at + 9) m)))
+    sent-loading : {at : ℕ} → Loading f at base (back + 7) → (m : ℕ) → m ≤ 20 → Kinds f back m → Loading f at (sentOn base f back m) (back + 7 + 7 * m)
+    unfolding loadsMessage isKind
+    sent-loading {at} L zero a h = subst (Loading f at base) {x = back + 7} {y = back + 7 + 7 * 0} (omega arith) L
+    sent-loading {at} L (suc m) a h =
+        let z : back + 7 + 7 * m + 7 ≡ back + 7 + 7 * suc m = omega arith in
+        subst (Loading f at (sentOn base f back (suc m))) z
+        (loading-message (sent-loading L m (omega arith) (λ i k. h i (omega arith))) yes-loads)
+      where
+        yes-loads : loadsMessage f (back + 7 + 7 * m) (sentOn base f back m .count) ≡ true
+        yes-loads = ap₂ _&&_ (eq-eqb (byte f (back + 7 + 7 * m)) 17 (h m (omega arith))) (lt-ltb (sentOn base f back m .count) 20 (omega (arith, sent-count m)))
 
 -- ---- the 12s
+
+pub waits-loads : (f : List ℕ) (k : ℕ) {x r : Bool} → x ≡ ltb (byte f (k + 1)) 4 && ltb (byte f (k + 2)) 4 → r ≡ eqb (byte f k) 18 && x → r ≡ true → loadsWaiting f k ≡ true
+unfolding loadsWaiting isKind
+waits-loads f k e d t = ap (_&&_ (eqb (byte f k) 18)) (sym e) ∙ sym d ∙ t
 
 -- the 12 at a place is of the queue q
 pub waits-is : (f : List ℕ) (k : ℕ) {q w : ℕ} {x r : Bool} → q < 16 → x ≡ cut f k 3 → x ≡ false → Word (byte f k) (byte f (k + 1)) (byte f (k + 2)) 0 w
@@ -110,17 +117,15 @@ pub push-one : (values : List ℕ) (count x : ℕ) → count < 9 → pushed (rec
 unfolding pushed
 push-one values count x l = rw (lt-leb 9 count l) refl
 
-abbrev okay : Bool → Loaded → List Queue → ℕ → Bool
-okay exact l queues i = queueMatches (relation exact) (waitingOf (getD (l .queues) i noQueue)) (waitingOf (getD queues i noQueue))
+abbrev okay : Bool → List Queue → List Queue → ℕ → Bool
+okay exact qs queues i = queueMatches (relation exact) (waitingOf (getD qs i noQueue)) (waitingOf (getD queues i noQueue))
 
--- the first q queues were compared, after the entry's messages
-pub record Waits (exact : Bool) (f : List ℕ) (at : ℕ) (first : Loaded) (variables : ℕ) (queues : List Queue) (k : ℕ) (waits : Bool) (q : ℕ) : Type 0 where
-  pub by : Loaded
-  pub loads : Loading f at by k
-  pub messages : by .messages ≡ first .messages
-  pub count : by .count ≡ first .count
-  pub room : length (by .queues) ≡ 16
-  pub left : (i : ℕ) → q ≤ i → i < 16 → getD (by .queues) i noQueue ≡ emptyQueue
+-- the first q queues were compared with the 12s from `start` up to k
+pub record Waits (exact : Bool) (f : List ℕ) (start variables : ℕ) (queues : List Queue) (k : ℕ) (waits : Bool) (q : ℕ) : Type 0 where
+  pub by : List Queue
+  pub took : Took f start by k
+  pub room : length by ≡ 16
+  pub left : (i : ℕ) → q ≤ i → i < 16 → getD by i noQueue ≡ emptyQueue
   pub absent : (i : ℕ) → i < q → variables ≤ i % 4 → okay exact by queues i ≡ true
   pub tested : waits ≡ allBelow q (okay exact by queues)
 
@@ -132,19 +137,9 @@ sixteen i l = replicate-at 16 i l
     replicate-at (suc n) zero l = refl
     replicate-at (suc n) (suc i) l = replicate-at n i (omega arith)
 
-pub waits-begin : (exact : Bool) (f : List ℕ) (at m variables : ℕ) (queues : List Queue) {k : ℕ} → at < length f → m ≤ 20 → Kinds f at m
-    → k ≡ at + 9 + 7 * m → Waits exact f at (sentLoaded f (at + 9) m) variables queues k true 0
-waits-begin exact f at m variables queues l a h e =
-    record {
-      by = sentLoaded f (at + 9) m;
-      loads = subst (Loading f at (sentLoaded f (at + 9) m)) (sym e) (sent-loading f at m l a h);
-      messages = refl;
-      count = refl;
-      room = ap length (sent-queues f (at + 9) m);
-      left = λ i x y. ap (λ (qs : List Queue). getD qs i noQueue) (sent-queues f (at + 9) m) ∙ sixteen i y;
-      absent = λ i x. absurd (omega arith);
-      tested = refl;
-    }
+pub waits-begin : (exact : Bool) (f : List ℕ) (start variables : ℕ) (queues : List Queue) → Waits exact f start variables queues start true 0
+waits-begin exact f start variables queues =
+    record { by = replicate 16 emptyQueue; took = took-none; room = refl; left = λ i x y. sixteen i y; absent = λ i x. absurd (omega arith); tested = refl }
 
 -- one value against several: it is the last that counts
 one-found : (r : ℕ → ℕ → Bool) (x : ℕ) (ys : List ℕ) (n : ℕ) → length ys ≡ suc n → r x (getD ys n 0) ≡ true → subsequence r (x ∷ []) ys ≡ true
@@ -179,44 +174,38 @@ not-sent f k n l =
     ap (λ (b : Bool). b && ltb n 20) (ne-eqb (byte f k) 17 (λ e. omega (arith, eqb-true (byte f k) 18 (w .0))))
 
 -- the 12s of the queue q were read up to k, after those that left `base`
-record Reading (f : List ℕ) (at : ℕ) (base : Loaded) (q : ℕ) (u : Queue) (k : ℕ) : Type 0 where
-  by : Loaded
-  loads : Loading f at by k
-  messages : by .messages ≡ base .messages
-  count : by .count ≡ base .count
-  room : length (by .queues) ≡ 16
-  there : getD (by .queues) q noQueue ≡ u
-  other : (i : ℕ) → (i ≡ q → ⊥) → getD (by .queues) i noQueue ≡ getD (base .queues) i noQueue
+record Reading (f : List ℕ) (start : ℕ) (base : List Queue) (q : ℕ) (u : Queue) (k : ℕ) : Type 0 where
+  by : List Queue
+  took : Took f start by k
+  room : length by ≡ 16
+  there : getD by q noQueue ≡ u
+  other : (i : ℕ) → (i ≡ q → ⊥) → getD by i noQueue ≡ getD base i noQueue
 
-read-more : {f : List ℕ} {at : ℕ} {base : Loaded} {q : ℕ} {u : Queue} {k : ℕ} → q < 16 → Reading f at base q u k → WaitsAt f k q → Reading f at base q (pushed u (byte f (k + 3))) (k + 4)
-read-more {f} {at} {base} {q} {u} {k} low w h =
+read-more : {f : List ℕ} {start : ℕ} {base : List Queue} {q : ℕ} {u : Queue} {k : ℕ} → q < 16 → Reading f start base q u k → WaitsAt f k q → Reading f start base q (pushed u (byte f (k + 3))) (k + 4)
+read-more {f} {start} {base} {q} {u} {k} low w h =
     record {
-      by = moreWaiting f k (w .by);
-      loads = loading-waiting (w .loads) (not-sent f k (w .by .count) (h .loads)) (h .loads);
-      messages = w .messages;
-      count = w .count;
-      room = length-set (w .by .queues) (queueAt f k) (pushed (getD (w .by .queues) (queueAt f k) noQueue) (byte f (k + 3))) ∙ w .room;
+      by = set (w .by) (queueAt f k) (pushed (getD (w .by) (queueAt f k) noQueue) (byte f (k + 3)));
+      took = took-more (w .took) (h .loads);
+      room = length-set (w .by) (queueAt f k) (pushed (getD (w .by) (queueAt f k) noQueue) (byte f (k + 3))) ∙ w .room;
       there =
-          ap (λ (z : ℕ). getD (moreWaiting f k (w .by) .queues) z noQueue) (sym (h .queue))
-          ∙ getD-set-same (w .by .queues) (queueAt f k) (pushed (getD (w .by .queues) (queueAt f k) noQueue) (byte f (k + 3))) noQueue (omega (arith, w .room, h .queue))
-          ∙ ap (λ (y : Queue). pushed y (byte f (k + 3))) (ap (λ (z : ℕ). getD (w .by .queues) z noQueue) (h .queue) ∙ w .there);
+          ap (λ (z : ℕ). getD (set (w .by) (queueAt f k) (pushed (getD (w .by) (queueAt f k) noQueue) (byte f (k + 3)))) z noQueue) (sym (h .queue))
+          ∙ getD-set-same (w .by) (queueAt f k) (pushed (getD (w .by) (queueAt f k) noQueue) (byte f (k + 3))) noQueue (omega (arith, w .room, h .queue))
+          ∙ ap (λ (y : Queue). pushed y (byte f (k + 3))) (ap (λ (z : ℕ). getD (w .by) z noQueue) (h .queue) ∙ w .there);
       other = λ i d.
-          getD-set-other (w .by .queues) (queueAt f k) i (pushed (getD (w .by .queues) (queueAt f k) noQueue) (byte f (k + 3))) noQueue (λ z. d (z ∙ h .queue))
+          getD-set-other (w .by) (queueAt f k) i (pushed (getD (w .by) (queueAt f k) noQueue) (byte f (k + 3))) noQueue (λ z. d (z ∙ h .queue))
           ∙ w .other i d;
     }
 
-read-held : {f : List ℕ} {at : ℕ} {base : Loaded} {q k : ℕ} {u : Queue} {n : ℕ} → q < 16 → Reading f at base q emptyQueue k → HeldFrom f q k u n → Reading f at base q u n
+read-held : {f : List ℕ} {start : ℕ} {base : List Queue} {q k : ℕ} {u : Queue} {n : ℕ} → q < 16 → Reading f start base q emptyQueue k → HeldFrom f q k u n → Reading f start base q u n
 read-held low w none = w
 read-held low w (more h x) = read-more low (read-held low w h) x
 
-module _ {exact : Bool} {f : List ℕ} {at : ℕ} {first : Loaded} {variables : ℕ} {queues : List Queue} {k : ℕ} {waits : Bool} {q : ℕ} (w : Waits exact f at first variables queues k waits q) (low : q < 16) where
-  pub waits-none : length (waitingOf (getD queues q noQueue)) ≡ 0 → Waits exact f at first variables queues k waits (q + 1)
+module _ {exact : Bool} {f : List ℕ} {start variables : ℕ} {queues : List Queue} {k : ℕ} {waits : Bool} {q : ℕ} (w : Waits exact f start variables queues k waits q) (low : q < 16) where
+  pub waits-none : length (waitingOf (getD queues q noQueue)) ≡ 0 → Waits exact f start variables queues k waits (q + 1)
   waits-none e =
       record {
         by = w .by;
-        loads = w .loads;
-        messages = w .messages;
-        count = w .count;
+        took = w .took;
         room = w .room;
         left = λ i x y. w .left i (omega arith) y;
         absent = λ i x y. elim (ℕ-discrete i q) [ yes d ↦ ap (okay exact (w .by) queues) d ∙ here | no d ↦ w .absent i (omega arith) y ];
@@ -229,14 +218,12 @@ module _ {exact : Bool} {f : List ℕ} {at : ℕ} {first : Loaded} {variables : 
       here : okay exact (w .by) queues q ≡ true
       here = ap (λ (u : Queue). queueMatches (relation exact) (waitingOf u) (waitingOf (getD queues q noQueue))) (w .left q (omega arith) low) ∙ none-waits (relation exact) (waitingOf (getD queues q noQueue)) e
 
-  waits-read : {u : Queue} {n : ℕ} {v good : Bool} → q % 4 < variables → Reading f at (w .by) q u n → v ≡ queueMatches (relation exact) (waitingOf u) (waitingOf (getD queues q noQueue))
-      → good ≡ waits && v → Waits exact f at first variables queues n good (q + 1)
+  waits-read : {u : Queue} {n : ℕ} {v good : Bool} → q % 4 < variables → Reading f start (w .by) q u n → v ≡ queueMatches (relation exact) (waitingOf u) (waitingOf (getD queues q noQueue))
+      → good ≡ waits && v → Waits exact f start variables queues n good (q + 1)
   waits-read {u} {n} {v} {good} narrow h r g =
       record {
         by = h .by;
-        loads = h .loads;
-        messages = h .messages ∙ w .messages;
-        count = h .count ∙ w .count;
+        took = h .took;
         room = h .room;
         left = λ i x y. h .other i (λ d. omega arith) ∙ w .left i (omega arith) y;
         absent = λ i x y. elim (ℕ-discrete i q) [
@@ -256,15 +243,15 @@ module _ {exact : Bool} {f : List ℕ} {at : ℕ} {first : Loaded} {variables : 
       here : okay exact (h .by) queues q ≡ queueMatches (relation exact) (waitingOf u) (waitingOf (getD queues q noQueue))
       here = ap (λ (u : Queue). queueMatches (relation exact) (waitingOf u) (waitingOf (getD queues q noQueue))) (h .there)
 
-  reading : Reading f at (w .by) q emptyQueue k
-  reading = record { by = w .by; loads = w .loads; messages = refl; count = refl; room = w .room; there = w .left q (omega arith) low; other = λ i d. refl }
+  reading : Reading f start (w .by) q emptyQueue k
+  reading = record { by = w .by; took = w .took; room = w .room; there = w .left q (omega arith) low; other = λ i d. refl }
 
   pub waits-several : {u : Queue} {n : ℕ} {v good : Bool} → q % 4 < variables → HeldFrom f q k u n → v ≡ queueMatches (relation exact) (waitingOf u) (waitingOf (getD queues q noQueue))
-      → good ≡ waits && v → Waits exact f at first variables queues n good (q + 1)
+      → good ≡ waits && v → Waits exact f start variables queues n good (q + 1)
   waits-several narrow h r g = waits-read narrow (read-held low reading h) r g
 
   pub waits-one : {x n : ℕ} {v good : Bool} → length (waitingOf (getD queues q noQueue)) ≡ suc n → q % 4 < variables → WaitsAt f k q → x ≡ byte f (k + 3)
-      → v ≡ relation exact x (getD (waitingOf (getD queues q noQueue)) n 0) → good ≡ waits && v → Waits exact f at first variables queues (k + 4) good (q + 1)
+      → v ≡ relation exact x (getD (waitingOf (getD queues q noQueue)) n 0) → good ≡ waits && v → Waits exact f start variables queues (k + 4) good (q + 1)
   waits-one {x} {n} {v} {good} e narrow h b r g =
       waits-read narrow (read-more low reading h)
       (r ∙ sym (one-waits (relation exact) x (waitingOf (getD queues q noQueue)) n e)
@@ -300,38 +287,59 @@ by-rows (suc n) x g l t =
 
 -- ---- the whole
 
--- the 12s of the entry are those that were looked at
-module _ (s : Shape) {exact : Bool} {f : List ℕ} {at : ℕ} (m : ℕ) {queues : List Queue} {last variables end q : ℕ} {waits x : Bool}
-    (few-is : end ≡ 4 * min (s .processes) 4) (narrow-is : variables ≡ min (s .variables) 4)
-    (v : Waits exact f at (sentLoaded f (at + 9) m) variables queues last waits q) (full : q ≡ end)
-    (over : x ≡ not (isKind f last 17) && not (isKind f last 18)) (ends : x ≡ true)
+pub walked : (s : Shape) {exact : Bool} {f : List ℕ} {start : ℕ} {queues : List Queue} {last variables end q : ℕ} {waits : Bool} → end ≡ 4 * min (s .processes) 4 → variables ≡ min (s .variables) 4
+    → Waits exact f start variables queues last waits q → q ≡ end → (qs : List Queue) × Took f start qs last × (waits ≡ allBelow (min (s .processes) 4) (queueRow (s .variables) exact qs queues))
+unfolding queueRow
+walked s {exact} {f} {start} {queues} {last} {variables} {end} {q} few-is narrow-is v full = (
+  v .by,
+  v .took,
+  let z : q ≡ 4 * min (s .processes) 4 = omega arith in
+      v .tested ∙ ap (λ (d : ℕ). allBelow d (okay exact (v .by) queues)) z
+      ∙ by-rows (min (s .processes) 4) (min (s .variables) 4) (okay exact (v .by) queues) (omega arith) (λ i l y. v .absent i (omega arith) (omega arith)),
+)
+
+-- what 12s load after what was loaded before, if nothing waited
+took-loading : {f : List ℕ} {at k n : ℕ} {qs : List Queue} (base : Loaded) → base .queues ≡ replicate 16 emptyQueue → Loading f at base k → Took f k qs n
+    → Loading f at (record { queues = qs; messages = base .messages; count = base .count }) n
+took-loading {f} {at} {k} base e L took-none = subst (λ (qs : List Queue). Loading f at (record { queues = qs; messages = base .messages; count = base .count }) k) e L
+took-loading {f} {at} base e L (took-more {qs = qs} {n = n} t l) =
+    loading-waiting (took-loading base e L t) (not-sent f n (base .count) l) l
+
+-- the records of the entry end there
+loads-no-more : {f : List ℕ} {at k : ℕ} {x : Bool} (by : Loaded) → Loading f at by k → x ≡ not (isKind f k 17) && not (isKind f k 18) → x ≡ true → loaded f at ≡ by
+unfolding loadsMessage loadsWaiting
+loads-no-more {f} {at} {k} by L over ends =
+    let z = and-true (not (isKind f k 17)) (not (isKind f k 18)) (sym over ∙ ends) in
+    loading-ends L (ap (λ (d : Bool). d && ltb (by .count) 20) (not-true (isKind f k 17) (z .0)))
+    (ap (λ (d : Bool). d && (ltb (byte f (k + 1)) 4 && ltb (byte f (k + 2)) 4)) (not-true (isKind f k 18) (z .1)))
   where
-    no-more : loaded f at ≡ v .by
-    unfolding loadsMessage loadsWaiting
-    no-more =
-        let z = and-true (not (isKind f last 17)) (not (isKind f last 18)) (sym over ∙ ends) in
-        loading-ends (v .loads) (ap (λ (d : Bool). d && ltb (v .by .count) 20) (not-true (isKind f last 17) (z .0)))
-        (ap (λ (d : Bool). d && (ltb (byte f (last + 1)) 4 && ltb (byte f (last + 2)) 4)) (not-true (isKind f last 18) (z .1)))
-      where
-        not-true : (d : Bool) → not d ≡ true → d ≡ false
-        not-true true y = absurd (false≢true y)
-        not-true false y = refl
+    not-true : (d : Bool) → not d ≡ true → d ≡ false
+    not-true true y = absurd (false≢true y)
+    not-true false y = refl
 
-    pub all-counted : loadEntry f at .count ≡ m
-    unfolding loadEntry
-    all-counted = ap (λ (l : Loaded). l .count) no-more ∙ v .count ∙ sent-count f (at + 9) m
+module _ {f : List ℕ} {at : ℕ} (back : ℕ) {m : ℕ} {qs : List Queue} {x : Bool} (inside : at < length f) (few : m ≤ 20) (kinds : Kinds f back m) where
+  -- 12s behind the 11s
+  pub waits-behind : {n : ℕ} → back ≡ at + 2 → Took f (back + 7 + 7 * m) qs n → x ≡ not (isKind f n 17) && not (isKind f n 18) → x ≡ true → (loadEntry f at .count ≡ m) × (loadEntry f at .queues ≡ qs)
+  unfolding loadEntry
+  waits-behind {n} d t over ends =
+      let z : at + 9 ≡ back + 7 = omega arith in
+      let S = sentOn nothingLoaded f back m in
+      let E = loads-no-more (record { queues = qs; messages = S .messages; count = S .count })
+      (took-loading S (sent-queues nothingLoaded f back m) (sent-loading nothingLoaded f back refl (subst (Loading f at nothingLoaded) z (loading-begin f at inside)) m few kinds) t) over ends in
+      (ap (λ (l : Loaded). l .count) E ∙ sent-count nothingLoaded f back refl m, ap (λ (l : Loaded). l .queues) E)
 
-    queues-are : loadEntry f at .queues ≡ v .by .queues
-    unfolding loadEntry
-    queues-are = ap (λ (l : Loaded). l .queues) no-more
+  -- 12s before the 11s
+  pub waits-before : {n : ℕ} → Took f (at + 9) qs n → n ≡ back + 7 → x ≡ not (isKind f (back + 7 + 7 * m) 17) && not (isKind f (back + 7 + 7 * m) 18) → x ≡ true
+      → (loadEntry f at .count ≡ m) × (loadEntry f at .queues ≡ qs)
+  unfolding loadEntry
+  waits-before {n} t d over ends =
+      let B : Loaded = record { queues = qs; messages = nothingLoaded .messages; count = 0 } in
+      let E = loads-no-more (sentOn B f back m) (sent-loading B f back refl (subst (Loading f at B) d (took-loading nothingLoaded refl (loading-begin f at inside) t)) m few kinds) over ends in
+      (ap (λ (l : Loaded). l .count) E ∙ sent-count B f back refl m, ap (λ (l : Loaded). l .queues) E ∙ sent-queues B f back m)
 
-    pub queues-tested : waits ≡ allBelow (min (s .processes) 4) (queueRow (s .variables) exact (loadEntry f at .queues) queues)
-    unfolding queueRow
-    queues-tested =
-        let z : q ≡ 4 * min (s .processes) 4 = omega arith in
-        sym (ap (λ (qs : List Queue). allBelow (min (s .processes) 4) (queueRow (s .variables) exact qs queues)) queues-are
-        ∙ sym (by-rows (min (s .processes) 4) (min (s .variables) 4) (okay exact (v .by) queues) (omega arith) (λ i l y. v .absent i (omega arith) (omega arith)))
-        ∙ ap (λ (d : ℕ). allBelow d (okay exact (v .by) queues)) (sym z) ∙ sym (v .tested))
+pub queues-same : (s : Shape) (exact : Bool) {qs rs : List Queue} (queues : List Queue) {x y : Bool} → x ≡ y → y ≡ allBelow (min (s .processes) 4) (queueRow (s .variables) exact qs queues) → rs ≡ qs
+    → x ≡ allBelow (min (s .processes) 4) (queueRow (s .variables) exact rs queues)
+queues-same s exact queues e d z = e ∙ d ∙ ap (λ (qs : List Queue). allBelow (min (s .processes) 4) (queueRow (s .variables) exact qs queues)) (sym z)
 
 -- ---- whatever follows the 11s, they are the oldest messages
 
@@ -360,15 +368,31 @@ load-keeps (suc bytes) f at l r = go (load-keeps bytes) (loadsMessage f at (l .c
         subst (Keeps l) (sym (load-waiting f at l bytes e x)) (record { least = w .least; most = w .most; same = w .same })
     go rec false e false x = subst (Keeps l) (sym (load-ends f at l (suc bytes) e x)) (record { least = omega arith; most = r; same = λ j k. refl })
 
-pub entry-stands : (f : List ℕ) (at m : ℕ) → at < length f → m ≤ 20 → Kinds f at m → Stands f at m (loadEntry f at)
+-- what 12s alone load
+record Led (f : List ℕ) (at k : ℕ) : Type 0 where
+  by : Loaded
+  loads : Loading f at by k
+  none-yet : by .count ≡ 0
+  room : length (by .messages) ≡ 20
+
+led : {f : List ℕ} {at k : ℕ} → at < length f → Leads f at k → Led f at k
+led {f} {at} l leads-none = record { by = nothingLoaded; loads = loading-begin f at l; none-yet = refl; room = refl }
+led {f} {at} l (leads-more {k = k} h w) =
+    let L = led l h in
+    record { by = moreWaiting f k (L .by); loads = loading-waiting (L .loads) (not-sent f k (L .by .count) w) w; none-yet = L .none-yet; room = L .room }
+
+pub entry-stands : (f : List ℕ) (at back m : ℕ) → at < length f → Leads f at (back + 7) → m ≤ 20 → Kinds f back m → Stands f at back m (loadEntry f at)
 unfolding loadEntry
-entry-stands f at m l a h =
-    let L = sent-loading f at m l a h in
-    let K = subst (Keeps (sentLoaded f (at + 9) m)) (L .reads) (load-keeps (L .bytes) f (at + 9 + 7 * m) (sentLoaded f (at + 9) m) (omega (arith, sent-count f (at + 9) m))) in
+entry-stands f at back m l leads a h =
+    let B = led l leads in
+    let L = sent-loading (B .by) f back (B .none-yet) (B .loads) m a h in
+    let S = sentOn (B .by) f back m in
+    let n = sent-count (B .by) f back (B .none-yet) m in
+    let K = subst (Keeps S) (L .reads) (load-keeps (L .bytes) f (back + 7 + 7 * m) S (omega (arith, n))) in
     record {
-      least = omega (arith, K .least, sent-count f (at + 9) m);
+      least = omega (arith, K .least, n);
       most = K .most;
-      message = λ i k. K .same i (omega (arith, sent-count f (at + 9) m)) ∙ sent-message f (at + 9) m i a k;
+      message = λ i k. K .same i (omega (arith, n)) ∙ sent-message (B .by) f back (B .none-yet) (B .room) m i a k;
       pointers = refl;
     }
 
@@ -382,15 +406,15 @@ told-yes {q} {x} {c} e d = e ∙ sym (ap (_&&_ q) d ∙ and-right q)
 
 -- ---- an entry but for its pointers and older messages
 
-pub within-is : (f : List ℕ) (at : ℕ) (s : Shape) {m k : ℕ} {ls : List ℕ} {qs : List Queue} {xs : List ℕ} {x y z : Bool} → at < length f → m ≤ 20 → Kinds f at m → (m ≡ 0 → ⊥) → k ≡ at + 2 + 7 * m
+pub within-is : (f : List ℕ) (at back : ℕ) (s : Shape) {m k : ℕ} {ls : List ℕ} {qs : List Queue} {xs : List ℕ} {x y z : Bool} → at < length f → Leads f at (back + 7) → m ≤ 20 → Kinds f back m → (m ≡ 0 → ⊥) → k ≡ back + 7 * m
     → loadEntry f at .count ≡ m → z ≡ pairwise (relation true) (byte f (k + 3) ∷ byte f (k + 4) ∷ byte f (k + 5) ∷ byte f (k + 6) ∷ []) xs → z ≡ true
     → y ≡ allBelow (min (s .processes) 4) (λ p. eqb (getD (byte f (at + 1) ∷ byte f (at + 2) ∷ byte f (at + 3) ∷ byte f (at + 4) ∷ []) p 0) (getD ls p 0)) → y ≡ true
     → x ≡ allBelow (min (s .processes) 4) (queueRow (s .variables) true (loadEntry f at .queues) qs) → x ≡ true → Within f at s ls qs xs
 unfolding loadEntry
-within-is f at s {m} {k} {ls} {qs} {xs} inside few kinds one d n z ze y ye x xe =
-    let S = entry-stands f at m inside few kinds in
+within-is f at back s {m} {k} {ls} {qs} {xs} inside leads few kinds one d n z ze y ye x xe =
+    let S = entry-stands f at back m inside leads few kinds in
     let a : loadEntry f at .count - 1 ≡ m - 1 = omega (arith, n) in
-    let b : at + 9 + 7 * (m - 1) ≡ k = omega (arith, one) in
+    let b : back + 7 + 7 * (m - 1) ≡ k = omega (arith, one) in
     record {
       some = omega (arith, n, one);
       few = S .most;

@@ -3,7 +3,7 @@ use Prim.Native.Nat.{ℕ, suc, _+_, _*_, _-_, _<_, _≤_, min}
 use mathlib.Core.Path.{_≡_}
 use mathlib.Core.Bool.{true}
 use mathlib.Core.List.{List, [], _∷_}
-use lib.ListN.{length, getD}
+use lib.ListN.{length, getD, set, replicate}
 use lib.Dec.{eqb}
 use Rattle.pws.specs.declared.Message.{Message}
 use Rattle.pws.specs.Machine.{noMessage, allBelow}
@@ -13,7 +13,7 @@ use Rattle.program_part.specs.Records.{messageAt}
 use Rattle.whole_file.specs.declared.entry.Queue.{Queue}
 use Rattle.whole_file.specs.declared.entry.Cube.{Cube}
 use Rattle.whole_file.specs.Tally.{queueAt}
-use Rattle.whole_file.specs.Cube.{emptyQueue, loadsWaiting, pushed, loadEntry}
+use Rattle.whole_file.specs.Cube.{noQueue, emptyQueue, loadsWaiting, pushed, loadEntry}
 use Rattle.lists.specs.Values.{pairwise}
 use Rattle.matching.specs.Relation.{relation}
 use Rattle.matching.specs.Word.{Word}
@@ -38,15 +38,20 @@ pub record Cue (r : ℕ) (m : Message) (tag : ℕ) : Type 0 where
 abbrev pub Cues : Cube → List ℕ → List ℕ → Type 0
 Cues c tags cues = (j : ℕ) → j < min (c .count) 20 → Cue (getD cues j 0) (getD (c .messages) j noMessage) (getD tags j 0)
 
--- m 11s follow the 10 at a place
-abbrev pub Kinds : List ℕ → ℕ → ℕ → Type 0
-Kinds f at m = (i : ℕ) → i < m → byte f (at + 9 + 7 * i) ≡ 17
+-- from the 10 at a place on up to k there are 12s alone
+pub data Leads (f : List ℕ) (at : ℕ) : ℕ → Type 0 where
+  leads-none : Leads f at (at + 9)
+  leads-more : {k : ℕ} → Leads f at k → loadsWaiting f k ≡ true → Leads f at (k + 4)
 
--- the entry has the pointers of the 10 at a place, and its oldest m messages are the 11s that follow it
-pub record Stands (f : List ℕ) (at m : ℕ) (e : Cube) : Type 0 where
+-- m 11s stand one after another, the first of them seven bytes behind a place
+abbrev pub Kinds : List ℕ → ℕ → ℕ → Type 0
+Kinds f back m = (i : ℕ) → i < m → byte f (back + 7 + 7 * i) ≡ 17
+
+-- the entry has the pointers of the 10 at a place, and its oldest m messages are these 11s
+pub record Stands (f : List ℕ) (at back m : ℕ) (e : Cube) : Type 0 where
   pub least : m ≤ e .count
   pub most : e .count ≤ 20
-  pub message : (i : ℕ) → i < m → getD (e .messages) i noMessage ≡ messageAt f (at + 9 + 7 * i)
+  pub message : (i : ℕ) → i < m → getD (e .messages) i noMessage ≡ messageAt f (back + 7 + 7 * i)
   pub pointers : e .pointers ≡ byte f (at + 5) ∷ byte f (at + 6) ∷ byte f (at + 7) ∷ byte f (at + 8) ∷ []
 
 -- pointers at messages that stand for those that other pointers are at
@@ -69,6 +74,11 @@ pub record WaitsAt (f : List ℕ) (k q : ℕ) : Type 0 where
 pub data HeldFrom (f : List ℕ) (q k : ℕ) : Queue → ℕ → Type 0 where
   none : HeldFrom f q k emptyQueue k
   more : {u : Queue} {n : ℕ} → HeldFrom f q k u n → WaitsAt f n q → HeldFrom f q k (pushed u (byte f (n + 3))) (n + 4)
+
+-- the 12s from k up to n leave this in the sixteen queues
+pub data Took (f : List ℕ) (k : ℕ) : List Queue → ℕ → Type 0 where
+  took-none : Took f k (replicate 16 emptyQueue) k
+  took-more : {qs : List Queue} {n : ℕ} → Took f k qs n → loadsWaiting f n ≡ true → Took f k (set qs (queueAt f n) (pushed (getD qs (queueAt f n) noQueue) (byte f (n + 3)))) (n + 4)
 
 -- ---- an entry but for its pointers and older messages
 

@@ -8,6 +8,7 @@ ghost use Rattle.whole_file.specs.Cube.{loadEntry};
 ghost use Rattle.matching.specs.Match.{channelMatches, queueRow};
 ghost use Rattle.pws.specs.Machine.{allBelow};
 ghost use Rattle.by_bytes.specs.Against.{Against};
+use crate::messages::before_messages;
 use crate::messages::channel_at;
 use crate::messages::messages_at;
 use crate::queues::queues_from;
@@ -49,8 +50,8 @@ pub(crate) fn told(related: bool) -> Compared
     }
 }
 
-// The entry whose 10 stands at a place, but for its local states: its 11s, newest first, stand for messages of the cube as soon as they can; and its 12s are of the
-// queues of the cube in which a value waits, in their order.
+// The entry whose 10 stands at a place, but for its local states: its 11s, newest first, stand for messages of the cube as soon as they can; and its 12s, before or behind
+// them, are of the queues of the cube in which a value waits, in their order.
 pub fn compare_at(
     exact: bool,
     file: &[u8],
@@ -61,13 +62,17 @@ pub fn compare_at(
 ) -> Compared
     ensures { λ r. ⌜ (r .same ≡ true → Against shape cube (now (cues .entry)) → r .related ≡ (allBelow (min (shape .processes) 4) (queueRow (shape .variables) exact (loadEntry (now (file .entry)) at .queues) (cube .queues)) && channelMatches shape exact (loadEntry (now (file .entry)) at) cube)) ⌝ }
 {
-    // one more than the cube has is enough to tell
-    let n = least(cube.count, 19) + 1;
-    if cut(file, at, 15 + 7 * n) {
+    if cut(file, at, 8) {
         return not_same();
     }
-    let m = messages_at(file, at, n);
-    let sent = channel_at(exact, file, at, m, shape, cube, cues);
+    let back = before_messages(file, at);
+    // one more than the cube has is enough to tell
+    let n = least(cube.count, 19) + 1;
+    if cut(file, back, 13 + 7 * n) {
+        return not_same();
+    }
+    let m = messages_at(file, back, n);
+    let sent = channel_at(exact, file, at, back, m, shape, cube, cues);
     if !sent.same {
         return not_same();
     }
@@ -75,7 +80,7 @@ pub fn compare_at(
         return told(false);
     }
     let queues = cube.queues;
-    queues_from(exact, file, at, m, shape, queues)
+    queues_from(exact, file, at, back, m, shape, queues)
 }
 
 // The entry whose 10 stands at a place has these local states, waiting values below those of these queues, and newest values for which these may stand. It is
@@ -90,14 +95,18 @@ pub fn within_at(
 ) -> Compared
     ensures { λ r. ⌜ (r .same ≡ true → r .related ≡ true → Within (now (file .entry)) at shape states queues values) ⌝ }
 {
-    if cut(file, at, 155) {
+    if cut(file, at, 8) {
         return not_same();
     }
-    let m = messages_at(file, at, 20);
+    let back = before_messages(file, at);
+    if cut(file, back, 153) {
+        return not_same();
+    }
+    let m = messages_at(file, back, 20);
     if m == 0 {
         return not_same();
     }
-    let k = at + 2 + 7 * m;
+    let k = back + 7 * m;
     let newest = [file[k + 3], file[k + 4], file[k + 5], file[k + 6]];
     // most entries are told by their newest values
     if !values_related(true, newest, values) {
@@ -107,5 +116,5 @@ pub fn within_at(
     if !states_match(shape.processes, own, states) {
         return told(false);
     }
-    queues_from(true, file, at, m, shape, queues)
+    queues_from(true, file, at, back, m, shape, queues)
 }

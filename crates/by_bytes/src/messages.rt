@@ -8,10 +8,11 @@ ghost use Rattle.program_part.specs.Bytes.{byte};
 ghost use Rattle.program_part.specs.Records.{messageAt};
 ghost use Rattle.pws.specs.declared.Message.{Message as Messages};
 ghost use Rattle.whole_file.specs.declared.entry.Cube.{Cube as Cubes};
+ghost use Rattle.whole_file.specs.Cube.{loadsWaiting};
 ghost use Rattle.lists.specs.Matching.{messageMatches};
 ghost use Rattle.matching.specs.Relation.{relation};
 ghost use Rattle.matching.specs.Match.{channelMatches};
-ghost use Rattle.by_bytes.specs.Same.{Cue, Kinds, Stands, PointsSame, PointsOther};
+ghost use Rattle.by_bytes.specs.Same.{Cue, Leads, Kinds, Stands, PointsSame, PointsOther};
 ghost use Rattle.by_bytes.specs.Against.{Against};
 use crate::Compared;
 use crate::cues::bytes_of;
@@ -23,17 +24,40 @@ use matching::lowest;
 use matching::values_related;
 use matching::word;
 use program_part::bytes::both;
+use program_part::bytes::cut;
 use program_part::bytes::wide;
 use program_part::program::Shape;
 use whole_file::entry::Cube;
 
-// How many 11s follow the 10 at a place, up to n.
-pub(crate) fn messages_at(file: &[u8], at: usize, n: usize) -> usize
-    requires { ⌜ at + 16 + 7 * n ≤ length (now file) ⌝ }
-    ensures { λ r. ⌜ (r ≤ n) × Kinds (now (file .entry)) at r ⌝ }
+// A 12 of the entry stands there.
+fn waits_on(file: &[u8], k: usize) -> bool
+    ensures { λ r. ⌜ (r ≡ true → (loadsWaiting (now (file .entry)) k ≡ true) × (k + 4 ≤ length (now (file .entry)))) ⌝ }
+{
+    if cut(file, k, 3) {
+        return false;
+    }
+    both(file[k] == 18, both(file[k + 1] < 4, file[k + 2] < 4))
+}
+
+// Seven bytes before the first 11 of the entry whose 10 stands at a place: behind its 12s, if these stand first.
+pub(crate) fn before_messages(file: &[u8], at: usize) -> usize
+    requires { ⌜ at + 9 ≤ length (now file) ⌝ }
+    ensures { λ r. ⌜ (r + 7 ≤ length (now (file .entry))) × Leads (now (file .entry)) at (r + 7) ⌝ }
+{
+    let mut back = at + 2;
+    while waits_on(file, back + 7) {
+        back += 4;
+    }
+    back
+}
+
+// How many 11s stand there, up to n.
+pub(crate) fn messages_at(file: &[u8], back: usize, n: usize) -> usize
+    requires { ⌜ back + 14 + 7 * n ≤ length (now file) ⌝ }
+    ensures { λ r. ⌜ (r ≤ n) × Kinds (now (file .entry)) back r ⌝ }
 {
     let mut m = 0;
-    let mut k = at + 9;
+    let mut k = back + 7;
     while both(m < n, file[k] == 17) {
         m += 1;
         k += 7;
@@ -111,7 +135,7 @@ fn meets(exact: bool, file: &[u8], k: usize, cue: usize) -> bool
 fn stands_for(
     exact: bool,
     file: &[u8],
-    at: usize,
+    back: usize,
     i: usize,
     j: usize,
     cue: usize,
@@ -119,16 +143,16 @@ fn stands_for(
     pointers: [u8; 4],
     own: [u8; 4],
 ) -> bool
-    requires { ⌜ at + 9 + 7 * i ≤ length (now file) ⌝ }
+    requires { ⌜ back + 7 + 7 * i ≤ length (now file) ⌝ }
     requires { ⌜ i ≤ 20 ⌝ }
     ensures { λ r. ⌜ (r ≡ true → 1 ≤ i) ⌝ }
-    ensures { λ r. ⌜ ((m : Messages) → (tag : ℕ) → Cue cue m tag → r ≡ true → messageMatches (relation exact) (messageAt (now (file .entry)) (at + 2 + 7 * i)) m ≡ true) ⌝ }
-    ensures { λ r. ⌜ ((m : Messages) → (tag : ℕ) → Cue cue m tag → r ≡ false → 1 ≤ i → messageMatches (relation exact) (messageAt (now (file .entry)) (at + 2 + 7 * i)) m ≡ true → PointsOther processes pointers own i j) ⌝ }
+    ensures { λ r. ⌜ ((m : Messages) → (tag : ℕ) → Cue cue m tag → r ≡ true → messageMatches (relation exact) (messageAt (now (file .entry)) (back + 7 * i)) m ≡ true) ⌝ }
+    ensures { λ r. ⌜ ((m : Messages) → (tag : ℕ) → Cue cue m tag → r ≡ false → 1 ≤ i → messageMatches (relation exact) (messageAt (now (file .entry)) (back + 7 * i)) m ≡ true → PointsOther processes pointers own i j) ⌝ }
 {
     if i == 0 {
         return false;
     }
-    if !meets(exact, file, at + 2 + 7 * i, cue) {
+    if !meets(exact, file, back + 7 * i, cue) {
         return false;
     }
     if points_other(processes, pointers, own, i, j) {
@@ -137,20 +161,22 @@ fn stands_for(
     true
 }
 
-// The m 11s of the entry whose 10 stands at a place, newest first: each stands for the newest message of the cube that is left and that it can stand for. If one
+// The m 11s behind a place, of the entry whose 10 stands at another, newest first: each stands for the newest message of the cube that is left and that it can stand for. If one
 // is left over, the entry does not match. If none is, every message with a role has one that stands for it and the pointers agree, it does.
 pub(crate) fn channel_at(
     exact: bool,
     file: &[u8],
     at: usize,
+    back: usize,
     m: usize,
     shape: Shape,
     cube: Cube,
     cues: &[usize; 20],
 ) -> Compared
-    requires { ⌜ at + 9 + 7 * m ≤ length (now file) ⌝ }
+    requires { ⌜ at + 9 ≤ length (now file) ⌝ }
+    requires { ⌜ back + 7 + 7 * m ≤ length (now file) ⌝ }
     requires { ⌜ m ≤ 20 ⌝ }
-    ensures { λ r. ⌜ (r .same ≡ true → (e : Cubes) → Stands (now (file .entry)) at m e → Against shape cube (now (cues .entry)) → (r .related ≡ true → e .count ≡ m → channelMatches shape exact e cube ≡ true) × (r .related ≡ false → channelMatches shape exact e cube ≡ false)) ⌝ }
+    ensures { λ r. ⌜ (r .same ≡ true → (e : Cubes) → Stands (now (file .entry)) at back m e → Against shape cube (now (cues .entry)) → (r .related ≡ true → e .count ≡ m → channelMatches shape exact e cube ≡ true) × (r .related ≡ false → channelMatches shape exact e cube ≡ false)) ⌝ }
 {
     let pointers = pointers_at(file, at);
     if lowest(shape, pointers) != 1 {
@@ -169,7 +195,7 @@ pub(crate) fn channel_at(
             break;
         }
         let cue = cues[j - 1];
-        if stands_for(exact, file, at, i, j, cue, shape.processes, pointers, own) {
+        if stands_for(exact, file, back, i, j, cue, shape.processes, pointers, own) {
             j -= 1;
             i -= 1;
             kept[i] = j as u8;

@@ -7,7 +7,9 @@ ghost use Rattle.program_part.specs.Records.{isKind};
 ghost use Rattle.whole_file.specs.Cube.{waitingOf, loadEntry};
 ghost use Rattle.matching.specs.Match.{queueRow};
 ghost use Rattle.pws.specs.Machine.{allBelow};
-ghost use Rattle.by_bytes.specs.Same.{Kinds, WaitsAt, HeldFrom};
+ghost use Rattle.by_bytes.specs.Same.{Kinds, WaitsAt, HeldFrom, Took};
+ghost use mathlib.Core.List.{List};
+ghost use Rattle.whole_file.specs.declared.entry.Queue.{Queue as Queues};
 use crate::Compared;
 use crate::not_same;
 use crate::told;
@@ -79,23 +81,19 @@ fn ends_at(file: &[u8], k: usize) -> bool
     both(!is_kind(file, k, 17), !is_kind(file, k, 18))
 }
 
-// After m 11s the entry has 12s of these queues, where a value waits in them, in their order, and nothing else; and then whether they are related.
-pub(crate) fn queues_from(
-    exact: bool,
-    file: &[u8],
-    at: usize,
-    m: usize,
-    shape: Shape,
-    queues: [Queue; 16],
-) -> Compared
-    requires { ⌜ at + 9 + 7 * m ≤ length (now file) ⌝ }
-    requires { ⌜ m ≤ 20 ⌝ }
-    requires { ⌜ Kinds (now file) at m ⌝ }
-    ensures { λ r. ⌜ (r .same ≡ true → (loadEntry (now (file .entry)) at .count ≡ m) × (r .related ≡ allBelow (min (shape .processes) 4) (queueRow (shape .variables) exact (loadEntry (now (file .entry)) at .queues) queues))) ⌝ }
+// Whether the 12s at a place are of these queues, where a value waits in them, in their order; then whether they are related, and where they end.
+struct Walked {
+    same: bool,
+    related: bool,
+    next: usize,
+}
+
+fn waits_from(exact: bool, file: &[u8], at: usize, shape: Shape, queues: [Queue; 16]) -> Walked
+    ensures { λ r. ⌜ (r .same ≡ true → (qs : List Queues) × Took (now (file .entry)) at qs (r .next) × (r .related ≡ allBelow (min (shape .processes) 4) (queueRow (shape .variables) exact qs queues))) ⌝ }
 {
     let end = 4 * least(shape.processes, 4);
     let variables = least(shape.variables, 4);
-    let mut k = at + 9 + 7 * m;
+    let mut k = at;
     let mut waits = true;
     for q in 0..end {
         let queue = queues[q];
@@ -104,10 +102,18 @@ pub(crate) fn queues_from(
             continue;
         }
         if variables <= q % 4 {
-            return not_same();
+            return Walked {
+                same: false,
+                related: false,
+                next: at,
+            };
         }
         if !waits_at(file, k, q) {
-            return not_same();
+            return Walked {
+                same: false,
+                related: false,
+                next: at,
+            };
         }
         if waits_at(file, k + 4, q) {
             let held = held_from(file, k, q);
@@ -120,8 +126,50 @@ pub(crate) fn queues_from(
         waits = both(waits, related(exact, file[k + 3], last_waiting(queue)));
         k += 4;
     }
-    if !ends_at(file, k) {
+    Walked {
+        same: true,
+        related: waits,
+        next: k,
+    }
+}
+
+// The entry whose 10 stands at a place has these m 11s and, before or behind them, 12s of these queues, where a value waits in them, in their order, and nothing
+// else; and then whether they are related.
+pub(crate) fn queues_from(
+    exact: bool,
+    file: &[u8],
+    at: usize,
+    back: usize,
+    m: usize,
+    shape: Shape,
+    queues: [Queue; 16],
+) -> Compared
+    requires { ⌜ at + 9 ≤ length (now file) ⌝ }
+    requires { ⌜ back + 7 + 7 * m ≤ length (now file) ⌝ }
+    requires { ⌜ m ≤ 20 ⌝ }
+    requires { ⌜ Kinds (now file) back m ⌝ }
+    ensures { λ r. ⌜ (r .same ≡ true → (loadEntry (now (file .entry)) at .count ≡ m) × (r .related ≡ allBelow (min (shape .processes) 4) (queueRow (shape .variables) exact (loadEntry (now (file .entry)) at .queues) queues))) ⌝ }
+{
+    let last = back + 7 + 7 * m;
+    if back == at + 2 {
+        let behind = waits_from(exact, file, last, shape, queues);
+        if !behind.same {
+            return not_same();
+        }
+        if !ends_at(file, behind.next) {
+            return not_same();
+        }
+        return told(behind.related);
+    }
+    let ahead = waits_from(exact, file, at + 9, shape, queues);
+    if !ahead.same {
         return not_same();
     }
-    told(waits)
+    if ahead.next != back + 7 {
+        return not_same();
+    }
+    if !ends_at(file, last) {
+        return not_same();
+    }
+    told(ahead.related)
 }

@@ -22,6 +22,7 @@ use Rattle.matching.specs.Tags.{tagsOf}
 use Rattle.matching.specs.Match.{Sizes, Suits, queueRow, channelMatches}
 use Rattle.matching.proofs.MatchLaws.{states-fail, queues-unlike, channel-left}
 use Rattle.by_bytes.specs.Against.{Sized, Against}
+use Rattle.by_bytes.specs.Same.{Leads, leads-none}
 use Rattle.by_bytes.proofs.SameLaws.{entry-stands}
 
 -- ---- an entry has room for twenty messages
@@ -29,7 +30,7 @@ use Rattle.by_bytes.proofs.SameLaws.{entry-stands}
 pub load-few : (f : List ℕ) (at : ℕ) → loadEntry f at .count ≤ 20
 unfolding loadEntry
 load-few f at = elim (decLt at (length f)) [
-  | yes d ↦ entry-stands f at 0 d (omega arith) (λ i l. absurd (omega arith)) .most
+  | yes d ↦ entry-stands f at (at + 2) 0 d (subst (Leads f at) {x = at + 9} {y = at + 2 + 7} (omega arith) leads-none) (omega arith) (λ i l. absurd (omega arith)) .most
   | no d ↦ subst (λ (k : Loaded). k .count ≤ 20) (sym (loaded-nothing f at (omega arith))) (omega arith)
 ]
 

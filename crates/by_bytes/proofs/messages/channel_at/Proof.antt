@@ -13,10 +13,10 @@ use Rattle.by_bytes.proofs.messages.channel_at.Statement.{statement}
 use Rattle.by_bytes.proofs.messages.channel_at.Tie as tie
 
 abbrev Inv-loop : tie.InvT-loop
-Inv-loop exact file at m shape cube cues pointers own kept₀ all₀ i₀ j₀ kept all i j = Placed exact file at m shape cube cues kept all i j
+Inv-loop exact file at back m shape cube cues pointers own kept₀ all₀ i₀ j₀ kept all i j = Placed exact file at back m shape cube cues kept all i j
 
 abbrev μ-loop : tie.MeasureT-loop
-μ-loop exact file at m shape cube cues pointers own kept₀ all₀ i₀ j₀ kept all i j = j
+μ-loop exact file at back m shape cube cues pointers own kept₀ all₀ i₀ j₀ kept all i j = j
 
 pub channel-at-spec : {M : Type 1} → statement M
 channel-at-spec = tie.close (tie.spec
@@ -33,11 +33,11 @@ channel-at-spec = tie.close (tie.spec
     -- least-requires
     (λ c κs. tt)
     -- loop-holds
-    (λ c. placed-begin _ _ _ _ _ _ _ (c .least .ensures))
+    (λ c. placed-begin _ _ _ _ _ _ _ _ (c .least .ensures))
     -- told-requires
     (λ c κs. tt)
     -- returns-2
-    (λ c. λ t e k A. (λ x. absurd (false≢true (sym (c .told .ensures) ∙ x)), λ x. placed-over (c .before .before .loop .inv) (c .before .before .before .before .before .before .before .before .before .pre .1) (c .before .if2 .taken) e k (ap (lowestPointer (c .before .before .before .before .before .before .before .before .before .args .shape)) (k .pointers ∙ sym (c .before .before .before .before .before .before .before .pointers-at .ensures)) ∙ sym (c .before .before .before .before .before .before .lowest .ensures) ∙ c .before .before .before .before .before .if1 .left) A))
+    (λ c. λ t e k A. (λ x. absurd (false≢true (sym (c .told .ensures) ∙ x)), λ x. placed-over (c .before .before .loop .inv) (c .before .before .before .before .before .before .before .before .before .pre .1 .1) (c .before .if2 .taken) e k (ap (lowestPointer (c .before .before .before .before .before .before .before .before .before .args .shape)) (k .pointers ∙ sym (c .before .before .before .before .before .before .before .pointers-at .ensures)) ∙ sym (c .before .before .before .before .before .before .lowest .ensures) ∙ c .before .before .before .before .before .if1 .left) A))
     -- sub-cue
     (λ c. omega (arith, c .if3 .left))
     -- mul-cue
@@ -45,7 +45,7 @@ channel-at-spec = tie.close (tie.spec
     -- element-copy-out-cue
     (λ c. omega (arith, c .before .before .loop .inv .low, c .if3 .left))
     -- stands-for-requires
-    (λ c κs. (omega (arith, c .before .before .before .before .before .before .before .before .before .before .pre .0, c .before .before .before .loop .inv .few), omega (arith, c .before .before .before .before .before .before .before .before .before .before .pre .1, c .before .before .before .loop .inv .few)))
+    (λ c κs. (omega (arith, c .before .before .before .before .before .before .before .before .before .before .pre .1 .0, c .before .before .before .loop .inv .few), omega (arith, c .before .before .before .before .before .before .before .before .before .before .pre .1 .1, c .before .before .before .loop .inv .few)))
     -- sub-j
     (λ c. omega (arith, c .before .before .before .if3 .left))
     -- sub-i
@@ -53,11 +53,11 @@ channel-at-spec = tie.close (tie.spec
     -- cast-kept
     (λ c. omega (arith, c .before .before .before .before .before .loop .inv .low))
     -- array-write-kept
-    (λ c. omega (arith, c .before .stands-for .ensures .0 (c .if4 .taken), c .before .before .before .before .before .loop .inv .few, c .before .before .before .before .before .before .before .before .before .before .before .before .pre .1))
+    (λ c. omega (arith, c .before .stands-for .ensures .0 (c .if4 .taken), c .before .before .before .before .before .loop .inv .few, c .before .before .before .before .before .before .before .before .before .before .before .before .pre .1 .1))
     -- loop-less
     (λ c. omega (arith, c .before .before .before .if3 .left))
     -- loop-again
-    (λ c. placed-keep (c .before .before .before .before .before .loop .inv) (c .before .before .before .before .before .before .before .before .before .before .before .before .pre .1) (c .before .stands-for .ensures .0 (c .if4 .taken)) (omega (arith, c .before .before .before .if3 .left)) refl (λ u tag K. c .before .stands-for .ensures .1 .0 u tag K (c .if4 .taken)) refl refl)
+    (λ c. placed-keep (c .before .before .before .before .before .loop .inv) (c .before .before .before .before .before .before .before .before .before .before .before .before .pre .1 .1) (c .before .stands-for .ensures .0 (c .if4 .taken)) (omega (arith, c .before .before .before .if3 .left)) refl (λ u tag K. c .before .stands-for .ensures .1 .0 u tag K (c .if4 .taken)) refl refl)
     -- sub-j-2
     (λ c. omega (arith, c .before .before .before .if3 .left))
     -- both-requires
@@ -65,7 +65,7 @@ channel-at-spec = tie.close (tie.spec
     -- loop-less-2
     (λ c. omega (arith, c .before .before .before .before .if3 .left))
     -- loop-again-2
-    (λ c. placed-skip (c .before .before .before .before .before .before .loop .inv) (c .before .before .before .before .before .before .before .before .before .before .before .before .before .pre .1) (omega (arith, c .before .before .before .before .if3 .left)) refl refl (λ e k. k .pointers ∙ sym (c .before .before .before .before .before .before .before .before .before .before .before .pointers-at .ensures)) (λ u tag K. c .before .before .stands-for .ensures .1 .1 u tag K (c .before .if4 .left)) (c .both .ensures))
+    (λ c. placed-skip (c .before .before .before .before .before .before .loop .inv) (c .before .before .before .before .before .before .before .before .before .before .before .before .before .pre .1 .1) (omega (arith, c .before .before .before .before .if3 .left)) refl refl (λ e k. k .pointers ∙ sym (c .before .before .before .before .before .before .before .before .before .before .before .pointers-at .ensures)) (λ u tag K. c .before .before .stands-for .ensures .1 .1 u tag K (c .before .if4 .left)) (c .both .ensures))
     -- not-same-requires-2
     (λ c κs. tt)
     -- returns-3

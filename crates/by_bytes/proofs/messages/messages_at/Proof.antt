@@ -12,10 +12,10 @@ use Rattle.by_bytes.proofs.messages.messages_at.Statement.{statement}
 use Rattle.by_bytes.proofs.messages.messages_at.Tie as tie
 
 abbrev Inv-loop : tie.InvT-loop
-Inv-loop file at n m₀ k₀ m k = (m ≤ n) × (k ≡ at + 9 + 7 * m) × Kinds file at m
+Inv-loop file back n m₀ k₀ m k = (m ≤ n) × (k ≡ back + 7 + 7 * m) × Kinds file back m
 
 abbrev μ-loop : tie.MeasureT-loop
-μ-loop file at n m₀ k₀ m k = n - m
+μ-loop file back n m₀ k₀ m k = n - m
 
 pub messages-at-spec : {M : Type 1} → statement M
 messages-at-spec = tie.close (tie.spec
@@ -36,6 +36,6 @@ messages-at-spec = tie.close (tie.spec
     -- loop-less
     (λ c. let y = and-true (ltb (c .before .before .before .loop .m) (c .before .before .before .before .before .args .n)) (eqb (byte (c .before .before .before .before .before .args .file .now) (c .before .before .before .loop .k)) 17) (sym (c .before .both .ensures) ∙ c .if1 .taken) in omega (arith, ltb-true (c .before .before .before .loop .m) (c .before .before .before .before .before .args .n) (y .0)))
     -- loop-again
-    (λ c. let y = and-true (ltb (c .before .before .before .loop .m) (c .before .before .before .before .before .args .n)) (eqb (byte (c .before .before .before .before .before .args .file .now) (c .before .before .before .loop .k)) 17) (sym (c .before .both .ensures) ∙ c .if1 .taken) in (omega (arith, ltb-true (c .before .before .before .loop .m) (c .before .before .before .before .before .args .n) (y .0)), omega (arith, c .before .before .before .loop .inv .1), kinds-next (c .before .before .before .before .before .args .file .now) (c .before .before .before .before .before .args .at) (c .before .before .before .loop .inv .2) (c .before .before .before .loop .inv .1) (eqb-true (byte (c .before .before .before .before .before .args .file .now) (c .before .before .before .loop .k)) 17 (y .1))))
+    (λ c. let y = and-true (ltb (c .before .before .before .loop .m) (c .before .before .before .before .before .args .n)) (eqb (byte (c .before .before .before .before .before .args .file .now) (c .before .before .before .loop .k)) 17) (sym (c .before .both .ensures) ∙ c .if1 .taken) in (omega (arith, ltb-true (c .before .before .before .loop .m) (c .before .before .before .before .before .args .n) (y .0)), omega (arith, c .before .before .before .loop .inv .1), kinds-next (c .before .before .before .before .before .args .file .now) (c .before .before .before .before .before .args .back) (c .before .before .before .loop .inv .2) (c .before .before .before .loop .inv .1) (eqb-true (byte (c .before .before .before .before .before .args .file .now) (c .before .before .before .loop .k)) 17 (y .1))))
     -- returns
     (λ c. (c .before .before .before .loop .inv .0, c .before .before .before .loop .inv .2)))

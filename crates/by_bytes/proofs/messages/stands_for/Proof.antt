@@ -11,11 +11,9 @@ pub stands-for-spec : {M : Type 1} → statement M
 stands-for-spec = tie.close (tie.spec
     -- returns
     (λ c. (λ t. absurd (false≢true t), (λ m tag K t. absurd (false≢true t), λ m tag K t l. absurd (omega (arith, c .if1 .taken)))))
-    -- add-meets
-    (λ c. omega (arith, c .before .before .pre .0))
     -- mul-meets
     (λ c. omega (arith, c .before .before .pre .1))
-    -- add-meets-2
+    -- add-meets
     (λ c. omega (arith, c .before .before .pre .0))
     -- meets-requires
     (λ c κs. omega (arith, c .before .before .pre .0, c .if1 .left))

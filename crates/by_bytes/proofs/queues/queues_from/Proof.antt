@@ -1,103 +1,57 @@
-use Prim.Native.Nat.{ℕ, _+_, _-_, _*_, _≤_}
-use mathlib.Core.Path.{refl, sym, ap, _∙_}
 use native.Mathlib.Omega.{arith}
 use borrow.Author.Tests.{not-false}
-use Rattle.program_part.specs.Bytes.{byte}
-use lib.ListN.{length, getD}
-use Rattle.whole_file.specs.Cube.{noQueue, waitingOf}
-use Rattle.matching.specs.Relation.{relation}
-use Rattle.by_bytes.proofs.SameLaws.{never, sentLoaded, Waits, waits-begin, waits-none, waits-one, waits-several, all-counted, queues-tested}
+use Rattle.by_bytes.proofs.SameLaws.{never, waits-behind, waits-before, queues-same}
 use borrow.Author.Needs.{needs}
 use Rattle.by_bytes.proofs.queues.queues_from.Statement.{statement}
 use Rattle.by_bytes.proofs.queues.queues_from.Tie as tie
 
-abbrev Inv-loop : tie.InvT-loop
-Inv-loop exact file at m queues end variables k₀ waits₀ q₀ k waits q = Waits exact file at (sentLoaded file (at + 9) m) variables queues k waits q × (q ≤ end)
-
-abbrev μ-loop : tie.MeasureT-loop
-μ-loop exact file at m queues end variables k₀ waits₀ q₀ k waits q = end - q
-
 pub queues-from-spec : {M : Type 1} → statement M
 queues-from-spec = tie.close (tie.spec
-    Inv-loop
-    μ-loop
-    -- least-requires
+    -- add-last
+    (λ c. omega (arith, c .before .pre .1 .0))
+    -- mul-last
+    (λ c. omega (arith, c .before .pre .1 .1 .0))
+    -- add-last-2
+    (λ c. omega (arith, c .before .pre .1 .0))
+    -- add-if1
+    (λ c. omega (arith, c .before .pre .0))
+    -- waits-from-requires
     (λ c κs. tt)
-    -- mul-end
-    (λ c. search needs)
-    -- least-requires-2
-    (λ c κs. tt)
-    -- add-k
-    (λ c. omega (arith, c .before .before .before .pre .0))
-    -- mul-k
-    (λ c. omega (arith, c .before .before .before .pre .1 .0))
-    -- add-k-2
-    (λ c. omega (arith, c .before .before .before .pre .0))
-    -- loop-holds
-    (λ c. (waits-begin _ _ _ _ _ _ (omega (arith, c .before .before .before .pre .0)) (c .before .before .before .pre .1 .0) (c .before .before .before .pre .1 .1) refl, omega arith))
-    -- mul-queue
-    (λ c. search needs)
-    -- array-copy-out-queue
-    (λ c. search needs)
-    -- waiting-requires
-    (λ c κs. tt)
-    -- add-q
-    (λ c. search needs)
-    -- loop-less
-    (λ c. search needs)
-    -- loop-again
-    (λ c. (waits-none (c .before .before .before .before .loop .inv .0) (omega (arith, c .before .before .before .loop-test .taken, c .before .before .before .before .before .before .least .ensures)) (sym (c .before .waiting .ensures) ∙ c .if1 .taken), omega (arith, c .before .before .before .loop-test .taken)))
     -- not-same-requires
     (λ c κs. tt)
     -- returns
     (λ c. λ t. absurd (never (c .not-same .result .same) (c .not-same .ensures) t))
-    -- waits-at-requires
-    (λ c κs. omega (arith, c .before .before .before .before .loop-test .taken, c .before .before .before .before .before .before .before .least .ensures))
+    -- ends-at-requires
+    (λ c κs. tt)
     -- not-same-requires-2
     (λ c κs. tt)
     -- returns-2
     (λ c. λ t. absurd (never (c .not-same2 .result .same) (c .not-same2 .ensures) t))
-    -- add-waits-at
-    (λ c. omega (arith, (c .before .waits-at .ensures (not-false (c .before .waits-at .result) (c .if3 .left))) .inside))
-    -- waits-at-requires-2
-    (λ c κs. omega (arith, c .before .before .before .before .before .before .loop-test .taken, c .before .before .before .before .before .before .before .before .before .least .ensures))
-    -- held-from-requires
-    (λ c κs. omega (arith, c .before .before .before .before .before .before .before .before .loop-test .taken, c .before .before .before .before .before .before .before .before .before .before .before .least .ensures))
-    -- queue-matches-requires
+    -- told-requires
     (λ c κs. tt)
-    -- both-requires
-    (λ c κs. tt)
-    -- add-q-2
-    (λ c. search needs)
-    -- loop-less-2
-    (λ c. search needs)
-    -- loop-again-2
-    (λ c. (waits-several (c .before .before .before .before .before .before .before .before .before .before .before .before .before .loop .inv .0) (omega (arith, c .before .before .before .before .before .before .before .before .before .before .before .before .loop-test .taken, c .before .before .before .before .before .before .before .before .before .before .before .before .before .before .before .least .ensures)) (omega (arith, c .before .before .before .before .before .before .before .before .if2 .left)) (c .before .before .before .held-from .ensures) (c .before .queue-matches .ensures) (c .both .ensures), omega (arith, c .before .before .before .before .before .before .before .before .before .before .before .before .loop-test .taken)))
-    -- add-related
-    (λ c. omega (arith, (c .before .before .before .waits-at .ensures (not-false (c .before .before .before .waits-at .result) (c .before .before .if3 .left))) .inside))
-    -- shared-slice-read-related
-    (λ c. omega (arith, (c .before .before .before .before .waits-at .ensures (not-false (c .before .before .before .before .waits-at .result) (c .before .before .before .if3 .left))) .inside))
-    -- last-waiting-requires
-    (λ c κs. tt)
-    -- related-requires
-    (λ c κs. tt)
-    -- both-requires-2
-    (λ c κs. tt)
-    -- add-k-3
-    (λ c. omega (arith, c .before .before .before .before .before .before .before .before .before .before .before .before .before .before .before .before .before .good .1 .0, (c .before .before .before .before .before .before .before .waits-at .ensures (not-false (c .before .before .before .before .before .before .before .waits-at .result) (c .before .before .before .before .before .before .if3 .left))) .inside))
-    -- add-q-3
-    (λ c. search needs)
-    -- loop-less-3
-    (λ c. search needs)
-    -- loop-again-3
-    (λ c. (waits-one (c .before .before .before .before .before .before .before .before .before .before .before .before .before .loop .inv .0) (omega (arith, c .before .before .before .before .before .before .before .before .before .before .before .before .loop-test .taken, c .before .before .before .before .before .before .before .before .before .before .before .before .before .before .before .least .ensures)) {n = length (waitingOf (getD (c .before .before .before .before .before .before .before .before .before .before .before .before .before .before .before .before .before .args .t6) (c .before .before .before .before .before .before .before .before .before .before .before .before .before .loop .q) noQueue)) - 1} (omega (arith, c .before .before .before .before .before .before .before .before .before .if1 .left, c .before .before .before .before .before .before .before .before .before .before .waiting .ensures)) (omega (arith, c .before .before .before .before .before .before .before .before .if2 .left)) (c .before .before .before .before .before .before .before .waits-at .ensures (not-false (c .before .before .before .before .before .before .before .waits-at .result) (c .before .before .before .before .before .before .if3 .left))) refl (c .before .related .ensures ∙ ap (relation (c .before .before .before .before .before .before .before .before .before .before .before .before .before .before .before .before .before .args .exact) (byte (c .before .before .before .before .before .before .before .before .before .before .before .before .before .before .before .before .before .args .file .now) (c .before .before .before .before .before .before .before .before .before .before .before .before .before .loop .k + 3))) (c .before .before .last-waiting .ensures)) (c .both2 .ensures), omega (arith, c .before .before .before .before .before .before .before .before .before .before .before .before .loop-test .taken)))
-    -- ends-at-requires
+    -- returns-3
+    (λ c. λ t. let W = c .before .before .before .before .before .waits-from .ensures (not-false (c .before .before .before .before .before .waits-from .result .same) (c .before .before .before .if2 .left)) in let w = waits-behind (c .before .before .before .before .before .before .before .before .args .back) (omega (arith, c .before .before .before .before .before .before .before .before .pre .0)) (c .before .before .before .before .before .before .before .before .pre .1 .1 .0) (c .before .before .before .before .before .before .before .before .pre .1 .1 .1) (c .before .before .before .before .before .before .if1 .taken) (W .1) (c .before .before .ends-at .ensures) (not-false (c .before .before .ends-at .result) (c .before .if3 .left)) in (w .0, queues-same (c .before .before .before .before .before .before .before .before .args .shape) (c .before .before .before .before .before .before .before .before .args .exact) (c .before .before .before .before .before .before .before .before .args .queues) (c .told .ensures) (W .2) (w .1)))
+    -- add-waits-from
+    (λ c. omega (arith, c .before .before .pre .0))
+    -- waits-from-requires-2
     (λ c κs. tt)
     -- not-same-requires-3
     (λ c κs. tt)
-    -- returns-3
-    (λ c. λ t. absurd (never (c .not-same3 .result .same) (c .not-same3 .ensures) t))
-    -- told-requires
-    (λ c κs. tt)
     -- returns-4
-    (λ c. λ t. (all-counted (c .before .before .before .before .before .before .before .before .args .shape) (c .before .before .before .before .before .before .before .before .args .m) (ap (λ (k : ℕ). 4 * k) (c .before .before .before .before .before .before .least .ensures)) (c .before .before .before .before .before .least2 .ensures) (c .before .before .before .before .loop .inv .0) (omega (arith, c .before .before .before .loop-test .left, c .before .before .before .before .loop .inv .1)) (c .before .before .ends-at .ensures) (not-false (c .before .before .ends-at .result) (c .before .if5 .left)), c .told .ensures ∙ queues-tested (c .before .before .before .before .before .before .before .before .args .shape) (c .before .before .before .before .before .before .before .before .args .m) (ap (λ (k : ℕ). 4 * k) (c .before .before .before .before .before .before .least .ensures)) (c .before .before .before .before .before .least2 .ensures) (c .before .before .before .before .loop .inv .0) (omega (arith, c .before .before .before .loop-test .left, c .before .before .before .before .loop .inv .1)) (c .before .before .ends-at .ensures) (not-false (c .before .before .ends-at .result) (c .before .if5 .left)))))
+    (λ c. λ t. absurd (never (c .not-same3 .result .same) (c .not-same3 .ensures) t))
+    -- add-if5
+    (λ c. omega (arith, c .before .before .before .before .before .pre .1 .0))
+    -- not-same-requires-4
+    (λ c κs. tt)
+    -- returns-5
+    (λ c. λ t. absurd (never (c .not-same4 .result .same) (c .not-same4 .ensures) t))
+    -- ends-at-requires-2
+    (λ c κs. tt)
+    -- not-same-requires-5
+    (λ c κs. tt)
+    -- returns-6
+    (λ c. λ t. absurd (never (c .not-same5 .result .same) (c .not-same5 .ensures) t))
+    -- told-requires-2
+    (λ c κs. tt)
+    -- returns-7
+    (λ c. λ t. let W = c .before .before .before .before .before .before .before .waits-from2 .ensures (not-false (c .before .before .before .before .before .before .before .waits-from2 .result .same) (c .before .before .before .before .before .if4 .left)) in let w = waits-before (c .before .before .before .before .before .before .before .before .before .before .args .back) (omega (arith, c .before .before .before .before .before .before .before .before .before .before .pre .0)) (c .before .before .before .before .before .before .before .before .before .before .pre .1 .1 .0) (c .before .before .before .before .before .before .before .before .before .before .pre .1 .1 .1) (W .1) (c .before .before .before .if5 .left) (c .before .before .ends-at2 .ensures) (not-false (c .before .before .ends-at2 .result) (c .before .if6 .left)) in (w .0, queues-same (c .before .before .before .before .before .before .before .before .before .before .args .shape) (c .before .before .before .before .before .before .before .before .before .before .args .exact) (c .before .before .before .before .before .before .before .before .before .before .args .queues) (c .told2 .ensures) (W .2) (w .1))))
