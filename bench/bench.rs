@@ -183,6 +183,7 @@ fn main() {
     bench.list("(2, 2), 10 targets, without one in the middle", &targets.without(targets.len() / 2));
     let found = inputs::found();
     bench.list("(2, 2; 2), from a backward search", &found);
+    bench.list("(2, 2; 2), the same, 12s before 11s", &found.waits_first());
     bench.list("(2, 2; 2), its FFs split in every third entry", &inputs::split(&found));
     bench.list("(2, 2; 2), from a backward search for a read", &inputs::found_for_read());
 }

@@ -44,6 +44,20 @@ impl Listing {
         listing
     }
 
+    /// The waiting values of each entry before its messages, as another writer may have them.
+    pub fn waits_first(&self) -> Listing {
+        let mut listing = self.clone();
+        for entry in &mut listing.entries {
+            let mut at = 9;
+            while at < entry.len() && entry[at] == 0x11 {
+                at += 7;
+            }
+            let messages = at - 9;
+            entry[9..].rotate_left(messages);
+        }
+        listing
+    }
+
     pub fn without(&self, number: usize) -> Listing {
         let mut listing = self.clone();
         listing.entries.remove(number);
