@@ -46,7 +46,7 @@ module _ (s : Shape) (few : s .processes ≤ 4) (exact : Bool) (e c : Cube) (low
   abbrev R : Tagged → Tagged → Bool
   R = tagMatches (relation exact)
 
-  none-sub : (ys : List Tagged) → Subsequence R [] ys
+  pub none-sub : (ys : List Tagged) → Subsequence R [] ys
   none-sub [] = nothing
   none-sub (y ∷ ys) = skip (none-sub ys)
 
@@ -54,22 +54,22 @@ module _ (s : Shape) (few : s .processes ≤ 4) (exact : Bool) (e c : Cube) (low
   sub-rest (skip t) = skip (sub-rest t)
   sub-rest (keep h t) = skip t
 
-  own : (i : ℕ) → suc i ≤ 20 → upTo s e (suc i) ≡ tag s e (suc i) ∷ upTo s e i
-  own i l = up-some s few e (suc i) l (omega (arith, low)) ∙ ap (λ (k : ℕ). tag s e (suc i) ∷ upTo s e k) {x = suc i - 1} {y = i} (omega arith)
+  pub own-some : (i : ℕ) → suc i ≤ 20 → upTo s e (suc i) ≡ tag s e (suc i) ∷ upTo s e i
+  own-some i l = up-some s few e (suc i) l (omega (arith, low)) ∙ ap (λ (k : ℕ). tag s e (suc i) ∷ upTo s e k) {x = suc i - 1} {y = i} (omega arith)
 
-  theirs : (j : ℕ) → suc j ≤ 20 → lowestPointer s (c .pointers) ≤ suc j → upTo s c (suc j) ≡ tag s c (suc j) ∷ upTo s c j
-  theirs j l d = up-some s few c (suc j) l d ∙ ap (λ (k : ℕ). tag s c (suc j) ∷ upTo s c k) {x = suc j - 1} {y = j} (omega arith)
+  pub their-some : (j : ℕ) → suc j ≤ 20 → lowestPointer s (c .pointers) ≤ suc j → upTo s c (suc j) ≡ tag s c (suc j) ∷ upTo s c j
+  their-some j l d = up-some s few c (suc j) l d ∙ ap (λ (k : ℕ). tag s c (suc j) ∷ upTo s c k) {x = suc j - 1} {y = j} (omega arith)
 
   -- each of these messages stands for one
   no-fewer : (j i : ℕ) → i ≤ 20 → j ≤ 20 → Subsequence R (upTo s e i) (upTo s c j) → i ≤ j
   no-fewer j zero l g t = omega arith
-  no-fewer zero (suc i) l g t = absurd (sub-empty R (subst (λ (xs : List Tagged). Subsequence R xs []) (own i l) t))
+  no-fewer zero (suc i) l g t = absurd (sub-empty R (subst (λ (xs : List Tagged). Subsequence R xs []) (own-some i l) t))
   no-fewer (suc j) (suc i) l g t = elim (decLe (lowestPointer s (c .pointers)) (suc j)) [
-    | no d ↦ absurd (sub-empty R (subst₂ (Subsequence R) (own i l) (up-none s few c (suc j) g (omega arith)) t))
+    | no d ↦ absurd (sub-empty R (subst₂ (Subsequence R) (own-some i l) (up-none s few c (suc j) g (omega arith)) t))
     | yes d ↦ ⊎-elim
-        (λ u. omega (arith, no-fewer j (suc i) l (omega arith) (subst (λ (xs : List Tagged). Subsequence R xs (upTo s c j)) (sym (own i l)) u)))
+        (λ u. omega (arith, no-fewer j (suc i) l (omega arith) (subst (λ (xs : List Tagged). Subsequence R xs (upTo s c j)) (sym (own-some i l)) u)))
         (λ u. omega (arith, no-fewer j i (omega arith) (omega arith) (u .1)))
-        (sub-cases R (subst₂ (Subsequence R) (own i l) (theirs j g d) t))
+        (sub-cases R (subst₂ (Subsequence R) (own-some i l) (their-some j g d) t))
   ]
 
   -- if the entry matches, its oldest i messages do so among the oldest j of the cube
@@ -80,7 +80,7 @@ module _ (s : Shape) (few : s .processes ≤ 4) (exact : Bool) (e c : Cube) (low
   oldest zero i ys l t = subst (λ (k : ℕ). Subsequence R (upTo s e k) ys) {x = i + 0} {y = i} (omega arith) t
   oldest (suc d) i ys l t =
       oldest d i ys (omega arith)
-      (sub-rest (subst (λ (xs : List Tagged). Subsequence R xs ys) (ap (upTo s e) {x = i + suc d} {y = suc (i + d)} (omega arith) ∙ own (i + d) (omega arith)) t))
+      (sub-rest (subst (λ (xs : List Tagged). Subsequence R xs ys) (ap (upTo s e) {x = i + suc d} {y = suc (i + d)} (omega arith) ∙ own-some (i + d) (omega arith)) t))
 
   pub left-begin : e .count ≤ 20 → (m : ℕ) → m ≤ e .count → Left m (c .count)
   unfolding channelMatches
@@ -91,18 +91,18 @@ module _ (s : Shape) (few : s .processes ≤ 4) (exact : Bool) (e c : Cube) (low
 
   pub left-keep : (i j : ℕ) → suc i ≤ 20 → suc j ≤ 20 → Left (suc i) (suc j) → Left i j
   left-keep i j l g h t = elim (decLe (lowestPointer s (c .pointers)) (suc j)) [
-    | no d ↦ absurd (sub-empty R (subst₂ (Subsequence R) (own i l) (up-none s few c (suc j) g (omega arith)) (h t)))
-    | yes d ↦ ⊎-elim sub-rest (λ u. u .1) (sub-cases R (subst₂ (Subsequence R) (own i l) (theirs j g d) (h t)))
+    | no d ↦ absurd (sub-empty R (subst₂ (Subsequence R) (own-some i l) (up-none s few c (suc j) g (omega arith)) (h t)))
+    | yes d ↦ ⊎-elim sub-rest (λ u. u .1) (sub-cases R (subst₂ (Subsequence R) (own-some i l) (their-some j g d) (h t)))
   ]
 
   pub left-skip : (i j : ℕ) → i ≤ 20 → suc j ≤ 20 → ((k : ℕ) → i ≡ suc k → T (R (tag s e (suc k)) (tag s c (suc j))) → ⊥) → Left i (suc j) → Left i j
   left-skip zero j l g n h t = none-sub (upTo s c j)
   left-skip (suc i) j l g n h t = elim (decLe (lowestPointer s (c .pointers)) (suc j)) [
-    | no d ↦ absurd (sub-empty R (subst₂ (Subsequence R) (own i l) (up-none s few c (suc j) g (omega arith)) (h t)))
+    | no d ↦ absurd (sub-empty R (subst₂ (Subsequence R) (own-some i l) (up-none s few c (suc j) g (omega arith)) (h t)))
     | yes d ↦ ⊎-elim
-        (λ u. subst (λ (xs : List Tagged). Subsequence R xs (upTo s c j)) (sym (own i l)) u)
+        (λ u. subst (λ (xs : List Tagged). Subsequence R xs (upTo s c j)) (sym (own-some i l)) u)
         (λ u. absurd (n i refl (u .0)))
-        (sub-cases R (subst₂ (Subsequence R) (own i l) (theirs j g d) (h t)))
+        (sub-cases R (subst₂ (Subsequence R) (own-some i l) (their-some j g d) (h t)))
   ]
 
   pub left-over : (i j : ℕ) → i ≤ 20 → j ≤ 20 → j < i → Left i j → channelMatches s exact e c ≡ false

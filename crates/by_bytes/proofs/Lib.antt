@@ -1,4 +1,4 @@
-pub mod TracedLaws
 pub mod LeftLaws
+pub mod TracedLaws
 pub mod PlacedLaws
 pub mod SameLaws

@@ -52,6 +52,17 @@ module _ (r : ℕ → ℕ → Bool) (a b : Message) where
   label-same d e h =
       h ∙ sym (ap₂ (λ (x y : Bool). (x && y) && pairwise r (a .snapshot) (b .snapshot)) (eq-eqb (a .process) (b .process) d) (eq-eqb (a .variable) (b .variable) e))
 
+record Met (r : ℕ → ℕ → Bool) (a b : Message) : Type 0 where
+  process : a .process ≡ b .process
+  variable : a .variable ≡ b .variable
+  values : pairwise r (a .snapshot) (b .snapshot) ≡ true
+
+met : (r : ℕ → ℕ → Bool) (a b : Message) → messageMatches r a b ≡ true → Met r a b
+met r a b e =
+    let v = and-true (eqb (a .process) (b .process) && eqb (a .variable) (b .variable)) (pairwise r (a .snapshot) (b .snapshot)) e in
+    let u = and-true (eqb (a .process) (b .process)) (eqb (a .variable) (b .variable)) (v .0) in
+    record { process = eqb-true (a .process) (b .process) (u .0); variable = eqb-true (a .variable) (b .variable) (u .1); values = v .1 }
+
 -- a cue against the bytes of an 11
 module _ (exact : Bool) (f : List ℕ) (k : ℕ) {cue label rest : ℕ} (m : Message) {tag : ℕ} (K : Cue cue m tag)
     (lw : Word (byte f (k + 1)) (byte f (k + 2)) 0 0 label) (rw : Word (byte f (k + 3)) (byte f (k + 4)) (byte f (k + 5)) (byte f (k + 6)) rest)
@@ -77,11 +88,8 @@ module _ (exact : Bool) (f : List ℕ) (k : ℕ) {cue label rest : ℕ} (m : Mes
         at : (b : Bool) → messageMatches (relation exact) (messageAt f k) m ≡ b → false ≡ b
         at false q = refl
         at true q =
-            let v = and-true (eqb (byte f (k + 1)) (m .process) && eqb (byte f (k + 2)) (m .variable)) (pairwise (relation exact) (messageAt f k .snapshot) (m .snapshot)) q in
-            let u = and-true (eqb (byte f (k + 1)) (m .process)) (eqb (byte f (k + 2)) (m .variable)) (v .0) in
-            let x = eqb-true (byte f (k + 1)) (m .process) (u .0) in
-            let y = eqb-true (byte f (k + 2)) (m .variable) (u .1) in
-            absurd (e (omega (arith, half, lw .is, K .labels .is, their-low, low)))
+            let M = met (relation exact) (messageAt f k) m q in
+            absurd (e (omega (arith, half, lw .is, K .labels .is, M .process, M .variable, their-low, low)))
 
     pub cue-values : {own : List ℕ} {r : Bool} → label ≡ cue / 2 % 65536 → own ≡ cue / 2 / 65536 % 256 ∷ cue / 2 / 65536 / 256 % 256 ∷ cue / 2 / 65536 / 65536 % 256 ∷ cue / 2 / 65536 / 16777216 % 256 ∷ []
         → r ≡ pairwise (relation exact) (messageAt f k .snapshot) own → r ≡ messageMatches (relation exact) (messageAt f k) m
@@ -325,8 +333,9 @@ module _ {exact : Bool} {f : List ℕ} {at back m : ℕ} {s : Shape} {c : Cube} 
         tags-at s c y l (omega (arith, A .sized .messages)) ∙ tag-is s (A .sized .processes) (A .sized .variables) c (A .sized .messages) (suc y)
         ∙ ap (λ (u : ℕ). 65536 * maskIn s c (suc y) + labelNumber (getD (c .messages) u noMessage)) z
 
-    meets-at : (x : ℕ) → x < m → messageMatches (relation exact) (getD (e .messages) x noMessage) (getD (c .messages) (getD kept x 0) noMessage) ≡ true
-    meets-at x l = subst (λ (u : Message). messageMatches (relation exact) u (getD (c .messages) (getD kept x 0) noMessage) ≡ true) (sym (k .message x l)) (w .seen A .meets x (omega arith) l)
+    met-at : (x : ℕ) → x < m → Met (relation exact) (getD (e .messages) x noMessage) (getD (c .messages) (getD kept x 0) noMessage)
+    met-at x l = met (relation exact) (getD (e .messages) x noMessage) (getD (c .messages) (getD kept x 0) noMessage)
+        (subst (λ (u : Message). messageMatches (relation exact) u (getD (c .messages) (getD kept x 0) noMessage) ≡ true) (sym (k .message x l)) (w .seen A .meets x (omega arith) l))
 
     first-kept : (x : ℕ) → x < m → lowestPointer s (c .pointers) ≤ suc (getD kept x 0)
     unfolding lowestPointer
@@ -345,16 +354,8 @@ module _ {exact : Bool} {f : List ℕ} {at back m : ℕ} {s : Shape} {c : Cube} 
         record {
           inside = λ x l. w .below x (omega arith) (omega arith);
           rises = λ x y a l. w .rises x y (omega arith) a (omega arith);
-          process = λ x l.
-              let a = getD (e .messages) x noMessage in
-              let b = getD (c .messages) (getD kept x 0) noMessage in
-              let v = and-true (eqb (a .process) (b .process) && eqb (a .variable) (b .variable)) (pairwise (relation exact) (a .snapshot) (b .snapshot)) (meets-at x (omega arith)) in
-              eqb-true (a .process) (b .process) (and-true (eqb (a .process) (b .process)) (eqb (a .variable) (b .variable)) (v .0) .0);
-          variable = λ x l.
-              let a = getD (e .messages) x noMessage in
-              let b = getD (c .messages) (getD kept x 0) noMessage in
-              let v = and-true (eqb (a .process) (b .process) && eqb (a .variable) (b .variable)) (pairwise (relation exact) (a .snapshot) (b .snapshot)) (meets-at x (omega arith)) in
-              eqb-true (a .variable) (b .variable) (and-true (eqb (a .process) (b .process)) (eqb (a .variable) (b .variable)) (v .0) .1);
+          process = λ x l. met-at x (omega arith) .process;
+          variable = λ x l. met-at x (omega arith) .variable;
           from = λ p l. points p (omega (arith, A .sized .processes)) .0;
           upto = λ p l. omega (arith, points p (omega (arith, A .sized .processes)) .1);
           pointer = λ p l. points p (omega (arith, A .sized .processes)) .2;
@@ -368,7 +369,4 @@ module _ {exact : Bool} {f : List ℕ} {at back m : ℕ} {s : Shape} {c : Cube} 
     pub placed-yes : channelMatches s exact e c ≡ true
     placed-yes =
         traced-matches s (A .sized .processes) (A .sized .variables) e c (k .most) (A .sized .messages) (λ x. getD kept x 0) traced exact
-        (λ x l.
-        let a = getD (e .messages) x noMessage in
-        let b = getD (c .messages) (getD kept x 0) noMessage in
-        and-true (eqb (a .process) (b .process) && eqb (a .variable) (b .variable)) (pairwise (relation exact) (a .snapshot) (b .snapshot)) (meets-at x (omega arith)) .1)
+        (λ x l. met-at x (omega arith) .values)

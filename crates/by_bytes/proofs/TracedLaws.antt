@@ -21,14 +21,15 @@ use Rattle.whole_file.specs.declared.entry.Cube.{Cube}
 use Rattle.whole_file.specs.Cube.{configurationOf}
 use Rattle.whole_file.proofs.CubeParts.{channel-length, channel-message}
 use Rattle.lists.specs.Values.{pairwise}
-use Rattle.lists.specs.Matching.{Subsequence, nothing, skip, keep, subsequence, messageMatches, tagMatches}
+use Rattle.lists.specs.Matching.{Subsequence, skip, keep, subsequence, messageMatches, tagMatches}
 use Rattle.lists.proofs.Lists.{T-true}
 use Rattle.lists.proofs.Matching.{leftmost}
 use Rattle.matching.specs.Relation.{relation}
 use Rattle.matching.specs.Tags.{mask, lowestPointer}
 use Rattle.matching.specs.Match.{channelMatches}
 use Rattle.matching.proofs.TagLaws.{Alike, alike-mask, role-mask, roles-test}
-use Rattle.matching.proofs.ChannelLaws.{tag, upTo, up-some}
+use Rattle.matching.proofs.ChannelLaws.{tag, upTo}
+use Rattle.by_bytes.proofs.LeftLaws.{none-sub, own-some, their-some}
 
 -- the roles of message i as a number
 abbrev pub maskIn : Shape → Cube → ℕ → ℕ
@@ -169,31 +170,17 @@ module _ (s : Shape) (few : s .processes ≤ 4) (narrow : s .variables ≤ 4) (e
 
     -- ---- in their order
 
-    own-some : (i : ℕ) → i < e .count → upTo s e (suc i) ≡ tag s e (suc i) ∷ upTo s e i
-    own-some i l =
-        let z : suc i - 1 ≡ i = omega arith in
-        up-some s few e (suc i) (omega arith) (omega (arith, w .lowest)) ∙ ap (λ (k : ℕ). tag s e (suc i) ∷ upTo s e k) z
-
-    their-some : (j : ℕ) → j < c .count → lowestPointer s (c .pointers) ≤ suc j → upTo s c (suc j) ≡ tag s c (suc j) ∷ upTo s c j
-    their-some j l g =
-        let z : suc j - 1 ≡ j = omega arith in
-        up-some s few c (suc j) (omega arith) g ∙ ap (λ (k : ℕ). tag s c (suc j) ∷ upTo s c k) z
-
-    none-sub : (ys : List Tagged) → Subsequence (tagMatches (relation exact)) [] ys
-    none-sub [] = nothing
-    none-sub (y ∷ ys) = skip (none-sub ys)
-
     -- the first i messages, in the first j of the cube, among which are those that they stand for
     placed : (j i : ℕ) → i ≤ e .count → j ≤ c .count → ((k : ℕ) → k < i → kept k < j) → ((k : ℕ) → k < i → valuesMatch k ≡ true) → Subsequence (tagMatches (relation exact)) (upTo s e i) (upTo s c j)
-    placed j zero l g h v = none-sub (upTo s c j)
+    placed j zero l g h v = none-sub s few exact e c (w .lowest) (upTo s c j)
     placed zero (suc i) l g h v = absurd (omega (arith, h i (omega arith)))
     placed (suc j) (suc i) l g h v = elim (ℕ-discrete (kept i) j) [
       | yes d ↦
-          subst₂ (Subsequence (tagMatches (relation exact))) (sym (own-some i (omega arith))) (sym (their-some j (omega arith) (omega (arith, w .first i (omega arith)))))
+          subst₂ (Subsequence (tagMatches (relation exact))) (sym (own-some s few exact e c (w .lowest) i (omega arith))) (sym (their-some s few exact e c (w .lowest) j (omega arith) (omega (arith, w .first i (omega arith)))))
           (keep (subst (λ (k : ℕ). T (tagMatches (relation exact) (tag s e (suc i)) (tag s c (suc k)))) d (subst T (sym (near i (omega arith) ∙ v i (omega arith))) tt))
           (placed j i (omega arith) (omega arith) (λ k q. omega (arith, w .rises k i q (omega arith))) (λ k q. v k (omega arith))))
       | no d ↦
-          subst (Subsequence (tagMatches (relation exact)) (upTo s e (suc i))) (sym (their-some j (omega arith) (omega (arith, w .first i (omega arith), h i (omega arith)))))
+          subst (Subsequence (tagMatches (relation exact)) (upTo s e (suc i))) (sym (their-some s few exact e c (w .lowest) j (omega arith) (omega (arith, w .first i (omega arith), h i (omega arith)))))
           (skip (placed j (suc i) l (omega arith) (λ k f. omega (arith, h i (omega arith), mono k i (omega arith) (omega arith))) v))
     ]
 
