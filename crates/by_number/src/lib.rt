@@ -3,11 +3,15 @@
 ghost use mathlib.Core.Path.{_≡_};
 ghost use Prim.Native.Nat.{ℕ, _+_, _*_, _≤_, _<_, min};
 ghost use lib.ListN.{length, getD};
+ghost use lib.Dec.{eqb};
 ghost use Rattle.by_number.specs.Again.{offsetAt, cubeAt, placeIn, transitionOf, targetOf};
+use program_part::bytes::cut;
 use program_part::bytes::field;
 use program_part::bytes::number_at;
+use program_part::bytes::wide;
 use program_part::places::word_place;
 use program_part::program::Program;
+use program_part::program::of_four;
 use program_part::record::transition_at;
 use pws::Transition;
 use whole_file::entry::Cube;
@@ -66,6 +70,19 @@ pub fn transition_of(file: &[u8], program: Program, i: usize) -> Transition
     let row = program.transitions;
     let at = transition_place(file, row.at, i);
     transition_at(file, at)
+}
+
+// Transition i leads to these local states. Most lead elsewhere, and are told so by two bytes.
+pub fn leads_to(file: &[u8], program: Program, i: usize, states: [u8; 4]) -> bool
+    ensures { λ r. ⌜ r ≡ eqb (getD states (transitionOf (now (file .entry)) program i .process) 0) (transitionOf (now (file .entry)) program i .to) ⌝ }
+{
+    let row = program.transitions;
+    let at = transition_place(file, row.at, i);
+    // one test for the record, and not one for each byte
+    if !cut(file, at, 7) {
+        return of_four(states, wide(file[at + 1])) == file[at + 7];
+    }
+    of_four(states, wide(field(file, at, 1))) == field(file, at, 7)
 }
 
 // The states of target k.

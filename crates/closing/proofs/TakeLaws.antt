@@ -1,7 +1,7 @@
 -- The predecessor cubes for a transition whose end is the entry's local state, by its operation.
 use Prim.Native.Nat.{ℕ, _<_}
 use mathlib.Core.Path.{_≡_, refl, sym, ap, ap₂, subst, _∙_}
-use mathlib.Core.Bool.{Bool, true, false, cond, _&&_}
+use mathlib.Core.Bool.{Bool, true, false, cond, _&&_, false≢true}
 use mathlib.Core.List.{List}
 use native.Mathlib.Omega.{arith}
 use lib.ListN.{length, getD}
@@ -34,6 +34,13 @@ use Rattle.closing.proofs.StepLaws.{not-both, decided, step-true, step-
 pub and-right : (a : Bool) → a && true ≡ a
 and-right true = refl
 and-right false = refl
+
+-- a transition that leads to these local states, or does not
+pub leads-there : (states : List ℕ) {t u : Transition} {r : Bool} → t ≡ u → r ≡ eqb (getD states (u .process) 0) (u .to) → r ≡ true → getD states (t .process) 0 ≡ t .to
+leads-there states {t} {u} e d h = subst (λ (t : Transition). getD states (t .process) 0 ≡ t .to) (sym e) (eqb-true (getD states (u .process) 0) (u .to) (sym d ∙ h))
+
+pub leads-elsewhere : (states : List ℕ) (u : Transition) {r : Bool} → r ≡ eqb (getD states (u .process) 0) (u .to) → r ≡ false → getD states (u .process) 0 ≡ u .to → ⊥
+leads-elsewhere states u d h e = false≢true (sym h ∙ d ∙ eq-eqb (getD states (u .process) 0) (u .to) e)
 
 undone-only : (k : lists.Kind) → isUndone k ≡ true → k ≡ undone
 undone-only undone e = refl

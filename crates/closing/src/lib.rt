@@ -20,6 +20,7 @@ use crate::update::updated_held;
 use before::messages::last_writes;
 use before::newest::newest;
 use by_number::entry_at;
+use by_number::leads_to;
 use by_number::transition_of;
 use families::in_full_family;
 use full_states::is_full;
@@ -27,7 +28,6 @@ use full_states::states_from;
 use matching::least;
 use program_part::bytes::wide;
 use program_part::program::Program;
-use program_part::program::of_four;
 use pws::Step;
 use summary::states_at;
 use whole_file::entry::Cube;
@@ -62,11 +62,11 @@ fn open_take(
     let m = least(row.count, 256);
     let states = cube.states;
     for j in 0..m {
-        let transition = transition_of(code, program, j);
         // most transitions lead elsewhere: nothing is made for them
-        if of_four(states, transition.process) != transition.to {
+        if !leads_to(code, program, j, states) {
             continue;
         }
+        let transition = transition_of(code, program, j);
         if !before_held(
             full,
             families,
@@ -213,10 +213,10 @@ fn is_surrounded(full: &[u8], code: &[u8], program: Program, states: [u8; 4]) ->
     let row = program.transitions;
     let m = least(row.count, 256);
     for j in 0..m {
-        let leading = transition_of(code, program, j);
-        if of_four(states, leading.process) != leading.to {
+        if !leads_to(code, program, j, states) {
             continue;
         }
+        let leading = transition_of(code, program, j);
         let before = states_from(states, leading.process, leading.from);
         if !is_full(full, shape, before) {
             return false;

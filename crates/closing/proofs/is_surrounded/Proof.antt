@@ -6,6 +6,9 @@ use borrow.Author.Tests.{not-true, not-false}
 use Rattle.full_states.specs.Table.{isFull}
 use Rattle.closing.proofs.FullLaws.{Around, around-begin, around-next, around-end}
 use native.Mathlib.Omega.{arith}
+use mathlib.Core.Path.{refl}
+use Rattle.by_number.specs.Again.{transitionOf}
+use Rattle.closing.proofs.TakeLaws.{leads-elsewhere}
 use borrow.Author.Needs.{needs}
 use Rattle.closing.proofs.is_surrounded.Statement.{statement}
 use Rattle.closing.proofs.is_surrounded.Tie as tie
@@ -28,16 +31,16 @@ is-surrounded-spec = tie.close (tie.spec
     (λ c κs. search needs)
     -- loop-holds
     (λ c. around-begin (c .before .before .before .before .before .before .before .args .full .now) (c .before .before .before .before .before .before .before .args .code .now) (c .before .before .before .before .before .before .before .args .program) (c .before .before .before .before .before .before .before .args .states) (c .least .result) (sym (c .before .before .before .is-full .ensures) ∙ not-false (c .before .before .before .is-full .result) (c .before .before .if1 .left)))
+    -- leads-to-requires
+    (λ c κs. tt)
+    -- add-j
+    (λ c. omega (arith, c .before .before .loop-test .taken, c .before .before .before .before .least .ensures))
+    -- loop-less
+    (λ c. omega (arith, c .before .before .loop-test .taken))
+    -- loop-again
+    (λ c. around-next (c .before .before .before .before .before .before .before .before .before .before .before .args .full .now) (c .before .before .before .before .before .before .before .before .before .before .before .args .code .now) (c .before .before .before .before .before .before .before .before .before .before .before .args .program) (c .before .before .before .before .before .before .before .before .before .before .before .args .states) (c .before .before .before .before .least .result) (c .before .before .before .loop .inv) (c .before .before .loop-test .taken) (transitionOf (c .before .before .before .before .before .before .before .before .before .before .before .args .code .now) (c .before .before .before .before .before .before .before .before .before .before .before .args .program) (c .before .before .before .loop .j)) refl (λ e. absurd (leads-elsewhere (c .before .before .before .before .before .before .before .before .before .before .before .args .states) (transitionOf (c .before .before .before .before .before .before .before .before .before .before .before .args .code .now) (c .before .before .before .before .before .before .before .before .before .before .before .args .program) (c .before .before .before .loop .j)) (c .before .leads-to .ensures) (not-true (c .before .leads-to .result) (c .if2 .taken)) e)))
     -- transition-of-requires
     (λ c κs. search needs)
-    -- of-four-requires
-    (λ c κs. search needs)
-    -- add-j
-    (λ c. omega (arith, c .before .before .before .before .loop-test .taken, c .before .before .before .before .before .before .least .ensures))
-    -- loop-less
-    (λ c. omega (arith, c .before .before .before .before .loop-test .taken))
-    -- loop-again
-    (λ c. around-next (c .before .before .before .before .before .before .before .before .before .before .before .before .before .args .full .now) (c .before .before .before .before .before .before .before .before .before .before .before .before .before .args .code .now) (c .before .before .before .before .before .before .before .before .before .before .before .before .before .args .program) (c .before .before .before .before .before .before .before .before .before .before .before .before .before .args .states) (c .before .before .before .before .before .before .least .result) (c .before .before .before .before .before .loop .inv) (c .before .before .before .before .loop-test .taken) (c .before .before .before .transition-of .result) (c .before .before .before .transition-of .ensures) (λ e. absurd (c .if2 .taken (c .before .before .of-four .ensures ∙ e))))
     -- states-from-requires
     (λ c κs. search needs)
     -- is-full-requires-2
@@ -45,10 +48,10 @@ is-surrounded-spec = tie.close (tie.spec
     -- returns-2
     (λ c. λ e. absurd (false≢true e))
     -- add-j-2
-    (λ c. omega (arith, c .before .before .before .before .before .before .before .loop-test .taken, c .before .before .before .before .before .before .before .before .before .least .ensures))
+    (λ c. omega (arith, c .before .before .before .before .before .before .loop-test .taken, c .before .before .before .before .before .before .before .before .least .ensures))
     -- loop-less-2
-    (λ c. omega (arith, c .before .before .before .before .before .before .before .loop-test .taken))
+    (λ c. omega (arith, c .before .before .before .before .before .before .loop-test .taken))
     -- loop-again-2
-    (λ c. around-next (c .before .before .before .before .before .before .before .before .before .before .before .before .before .before .before .before .args .full .now) (c .before .before .before .before .before .before .before .before .before .before .before .before .before .before .before .before .args .code .now) (c .before .before .before .before .before .before .before .before .before .before .before .before .before .before .before .before .args .program) (c .before .before .before .before .before .before .before .before .before .before .before .before .before .before .before .before .args .states) (c .before .before .before .before .before .before .before .before .before .least .result) (c .before .before .before .before .before .before .before .before .loop .inv) (c .before .before .before .before .before .before .before .loop-test .taken) (c .before .before .before .before .before .before .transition-of .result) (c .before .before .before .before .before .before .transition-of .ensures) (λ e. sym (ap (λ (z : List ℕ). isFull (c .before .before .before .before .before .before .before .before .before .before .before .before .before .before .before .before .args .full .now) (c .before .before .before .before .before .before .before .before .before .before .before .before .before .before .before .before .args .program .shape) z) (c .before .before .states-from .ensures)) ∙ sym (c .before .is-full2 .ensures) ∙ not-false (c .before .is-full2 .result) (c .if3 .left)))
+    (λ c. around-next (c .before .before .before .before .before .before .before .before .before .before .before .before .before .before .before .args .full .now) (c .before .before .before .before .before .before .before .before .before .before .before .before .before .before .before .args .code .now) (c .before .before .before .before .before .before .before .before .before .before .before .before .before .before .before .args .program) (c .before .before .before .before .before .before .before .before .before .before .before .before .before .before .before .args .states) (c .before .before .before .before .before .before .before .before .least .result) (c .before .before .before .before .before .before .before .loop .inv) (c .before .before .before .before .before .before .loop-test .taken) (c .before .before .before .transition-of .result) (c .before .before .before .transition-of .ensures) (λ e. sym (ap (λ (z : List ℕ). isFull (c .before .before .before .before .before .before .before .before .before .before .before .before .before .before .before .args .full .now) (c .before .before .before .before .before .before .before .before .before .before .before .before .before .before .before .args .program .shape) z) (c .before .before .states-from .ensures)) ∙ sym (c .before .is-full2 .ensures) ∙ not-false (c .before .is-full2 .result) (c .if3 .left)))
     -- returns-3
     (λ c. λ e. around-end (c .before .before .before .before .before .before .before .before .before .args .full .now) (c .before .before .before .before .before .before .before .before .before .args .code .now) (c .before .before .before .before .before .before .before .before .before .args .program) (c .before .before .before .before .before .before .before .before .before .args .states) (c .before .before .least .result) (c .before .loop .inv) (omega (arith, c .loop-test .left)) (c .before .before .least .ensures)))
