@@ -80,6 +80,11 @@ pub data Took (f : List ℕ) (k : ℕ) : List Queue → ℕ → Type 0 where
   took-none : Took f k (replicate 16 emptyQueue) k
   took-more : {qs : List Queue} {n : ℕ} → Took f k qs n → loadsWaiting f n ≡ true → Took f k (set qs (queueAt f n) (pushed (getD qs (queueAt f n) noQueue) (byte f (n + 3)))) (n + 4)
 
+-- where the 12s begin: behind the m 11s, or behind the 10 if these do not stand there
+pub record FirstWait (at back m r : ℕ) : Type 0 where
+  pub behind : back ≡ at + 2 → r ≡ back + 7 + 7 * m
+  pub ahead : (back ≡ at + 2 → ⊥) → r ≡ at + 9
+
 -- ---- an entry but for its pointers and older messages
 
 pub record Within (f : List ℕ) (at : ℕ) (s : Shape) (ls : List ℕ) (qs : List Queue) (xs : List ℕ) : Type 0 where

@@ -1,13 +1,13 @@
 // The 12s of an entry against the queues of a cube.
 ghost use mathlib.Core.Path.{_≡_};
 ghost use mathlib.Core.Bool.{true, _&&_, not};
-ghost use Prim.Native.Nat.{_+_, _*_, _-_, _≤_, _<_, min};
+ghost use Prim.Native.Nat.{ℕ, _+_, _*_, _-_, _≤_, _<_, min};
 ghost use lib.ListN.{length, getD};
 ghost use Rattle.program_part.specs.Records.{isKind};
 ghost use Rattle.whole_file.specs.Cube.{waitingOf, loadEntry};
 ghost use Rattle.matching.specs.Match.{queueRow};
 ghost use Rattle.pws.specs.Machine.{allBelow};
-ghost use Rattle.by_bytes.specs.Same.{Kinds, WaitsAt, HeldFrom, Took};
+ghost use Rattle.by_bytes.specs.Same.{Kinds, WaitsAt, HeldFrom, Took, FirstWait};
 ghost use mathlib.Core.List.{List};
 ghost use Rattle.whole_file.specs.declared.entry.Queue.{Queue as Queues};
 use crate::Compared;
@@ -133,6 +133,36 @@ fn waits_from(exact: bool, file: &[u8], at: usize, shape: Shape, queues: [Queue;
     }
 }
 
+// Where the 12s of an entry begin that has m 11s: behind these, or behind its 10 if the 11s do not stand there.
+fn first_wait(file: &[u8], at: usize, back: usize, m: usize) -> usize
+    requires { ⌜ at + 9 ≤ length (now file) ⌝ }
+    requires { ⌜ back + 7 + 7 * m ≤ length (now file) ⌝ }
+    requires { ⌜ m ≤ 20 ⌝ }
+    ensures { λ r. ⌜ FirstWait at back m r ⌝ }
+{
+    if back == at + 2 {
+        return back + 7 + 7 * m;
+    }
+    at + 9
+}
+
+// The entry whose 10 stands at a place has these m 11s, its 12s from where they begin up to a place, and nothing else.
+fn closes(file: &[u8], at: usize, back: usize, m: usize, next: usize) -> bool
+    requires { ⌜ at + 9 ≤ length (now file) ⌝ }
+    requires { ⌜ back + 7 + 7 * m ≤ length (now file) ⌝ }
+    requires { ⌜ m ≤ 20 ⌝ }
+    requires { ⌜ Kinds (now file) back m ⌝ }
+    ensures { λ r. ⌜ (r ≡ true → (start : ℕ) (qs : List Queues) → FirstWait at back m start → Took (now (file .entry)) start qs next → (loadEntry (now (file .entry)) at .count ≡ m) × (loadEntry (now (file .entry)) at .queues ≡ qs)) ⌝ }
+{
+    if back == at + 2 {
+        return ends_at(file, next);
+    }
+    if next != back + 7 {
+        return false;
+    }
+    ends_at(file, back + 7 + 7 * m)
+}
+
 // The entry whose 10 stands at a place has these m 11s and, before or behind them, 12s of these queues, where a value waits in them, in their order, and nothing
 // else; and then whether they are related.
 pub(crate) fn queues_from(
@@ -150,26 +180,12 @@ pub(crate) fn queues_from(
     requires { ⌜ Kinds (now file) back m ⌝ }
     ensures { λ r. ⌜ (r .same ≡ true → (loadEntry (now (file .entry)) at .count ≡ m) × (r .related ≡ allBelow (min (shape .processes) 4) (queueRow (shape .variables) exact (loadEntry (now (file .entry)) at .queues) queues))) ⌝ }
 {
-    let last = back + 7 + 7 * m;
-    if back == at + 2 {
-        let behind = waits_from(exact, file, last, shape, queues);
-        if !behind.same {
-            return not_same();
-        }
-        if !ends_at(file, behind.next) {
-            return not_same();
-        }
-        return told(behind.related);
-    }
-    let ahead = waits_from(exact, file, at + 9, shape, queues);
-    if !ahead.same {
+    let walked = waits_from(exact, file, first_wait(file, at, back, m), shape, queues);
+    if !walked.same {
         return not_same();
     }
-    if ahead.next != back + 7 {
+    if !closes(file, at, back, m, walked.next) {
         return not_same();
     }
-    if !ends_at(file, last) {
-        return not_same();
-    }
-    told(ahead.related)
+    told(walked.related)
 }

@@ -51,18 +51,29 @@ pub fn either(a: bool, b: bool) -> bool
     if a { true } else { b }
 }
 
+fn of_bytes(a: u8, b: u8, c: u8, d: u8) -> usize
+    ensures { λ r. ⌜ r ≡ a + 256 * b + 65536 * c + 16777216 * d ⌝ }
+{
+    wide(a) + 256 * wide(b) + 65536 * wide(c) + 16777216 * wide(d)
+}
+
 // Four bytes as a number, least significant first.
 pub fn number_at(s: &[u8], at: usize) -> usize
     ensures { λ r. ⌜ r ≡ le32 (now (s .entry)) at ⌝ }
 {
+    // one test for the four, and not one for each byte
+    if !cut(s, at, 3) {
+        return of_bytes(s[at], s[at + 1], s[at + 2], s[at + 3]);
+    }
     if s.len() <= at {
         return 0;
     }
-    let a = wide(byte_at(s, at));
-    let b = wide(byte_at(s, at + 1));
-    let c = wide(byte_at(s, at + 2));
-    let d = wide(byte_at(s, at + 3));
-    a + 256 * b + 65536 * c + 16777216 * d
+    of_bytes(
+        byte_at(s, at),
+        byte_at(s, at + 1),
+        byte_at(s, at + 2),
+        byte_at(s, at + 3),
+    )
 }
 
 // A number as four bytes, least significant first; nothing is written where they do not fit.

@@ -1,7 +1,9 @@
-use mathlib.Core.Path.{sym}
+use mathlib.Core.Path.{sym, _∙_}
 use native.Mathlib.Omega.{arith}
+use borrow.Author.Tests.{not-true}
 use Rattle.program_part.specs.Bytes.{le32}
 use Rattle.program_part.proofs.ByteLaws.{le32-past}
+use Rattle.program_part.proofs.RecordLaws.{cut-fits}
 use borrow.Author.Needs.{needs}
 use Rattle.program_part.proofs.bytes.number_at.Statement.{statement}
 use Rattle.program_part.proofs.bytes.number_at.Tie as tie
@@ -9,41 +11,43 @@ use Rattle.program_part.proofs.bytes.number_at.Tie as tie
 pub number-at-spec : {M : Type 1} → statement M
 unfolding le32
 number-at-spec = tie.close (tie.spec
-    -- returns 38:9
-    (λ c. sym (le32-past (c .before .before .args .s .now) (c .before .before .args .at) (c .if1 .taken)))
-    -- byte-at-requires 40:18
+    -- cut-requires
     (λ c κs. search needs)
-    -- wide-requires 40:9
+    -- shared-slice-read-of-bytes
+    (λ c. omega (arith, cut-fits (c .before .before .before .before .args .s .now) (c .before .before .before .before .args .at) 3 (sym (c .before .before .cut .ensures) ∙ not-true (c .before .before .cut .result) (c .before .if1 .taken))))
+    -- add-of-bytes
+    (λ c. omega (arith, cut-fits (c .before .before .before .before .args .s .now) (c .before .before .before .before .args .at) 3 (sym (c .before .before .cut .ensures) ∙ not-true (c .before .before .cut .result) (c .before .if1 .taken))))
+    -- shared-slice-read-of-bytes-2
+    (λ c. omega (arith, cut-fits (c .before .before .before .before .before .args .s .now) (c .before .before .before .before .before .args .at) 3 (sym (c .before .before .before .cut .ensures) ∙ not-true (c .before .before .before .cut .result) (c .before .before .if1 .taken))))
+    -- add-of-bytes-2
+    (λ c. omega (arith, cut-fits (c .before .before .before .before .before .args .s .now) (c .before .before .before .before .before .args .at) 3 (sym (c .before .before .before .cut .ensures) ∙ not-true (c .before .before .before .cut .result) (c .before .before .if1 .taken))))
+    -- shared-slice-read-of-bytes-3
+    (λ c. omega (arith, cut-fits (c .before .before .before .before .before .before .args .s .now) (c .before .before .before .before .before .before .args .at) 3 (sym (c .before .before .before .before .cut .ensures) ∙ not-true (c .before .before .before .before .cut .result) (c .before .before .before .if1 .taken))))
+    -- add-of-bytes-3
+    (λ c. omega (arith, cut-fits (c .before .before .before .before .before .before .args .s .now) (c .before .before .before .before .before .before .args .at) 3 (sym (c .before .before .before .before .cut .ensures) ∙ not-true (c .before .before .before .before .cut .result) (c .before .before .before .if1 .taken))))
+    -- shared-slice-read-of-bytes-4
+    (λ c. omega (arith, cut-fits (c .before .before .before .before .before .before .before .args .s .now) (c .before .before .before .before .before .before .before .args .at) 3 (sym (c .before .before .before .before .before .cut .ensures) ∙ not-true (c .before .before .before .before .before .cut .result) (c .before .before .before .before .if1 .taken))))
+    -- of-bytes-requires
     (λ c κs. search needs)
-    -- add-byte-at 41:29
-    (λ c. search needs)
-    -- byte-at-requires-2 41:18
+    -- returns
+    (λ c. c .of-bytes .ensures)
+    -- returns-2
+    (λ c. sym (le32-past (c .before .before .before .before .args .s .now) (c .before .before .before .before .args .at) (c .if2 .taken)))
+    -- byte-at-requires
     (λ c κs. search needs)
-    -- wide-requires-2 41:9
+    -- add-byte-at
+    (λ c. search needs)
+    -- byte-at-requires-2
     (λ c κs. search needs)
-    -- add-byte-at-2 42:29
+    -- add-byte-at-2
     (λ c. search needs)
-    -- byte-at-requires-3 42:18
+    -- byte-at-requires-3
     (λ c κs. search needs)
-    -- wide-requires-3 42:9
+    -- add-byte-at-3
+    (λ c. search needs)
+    -- byte-at-requires-4
     (λ c κs. search needs)
-    -- add-byte-at-3 43:29
-    (λ c. search needs)
-    -- byte-at-requires-4 43:18
+    -- of-bytes-requires-2
     (λ c κs. search needs)
-    -- wide-requires-4 43:9
-    (λ c κs. search needs)
-    -- mul-result 44:9
-    (λ c. search needs)
-    -- add-result 44:5
-    (λ c. search needs)
-    -- mul-result-2 44:19
-    (λ c. search needs)
-    -- add-result-2 44:5
-    (λ c. search needs)
-    -- mul-result-3 44:31
-    (λ c. search needs)
-    -- add-result-3 44:5
-    (λ c. search needs)
-    -- returns-2 34:1
-    (λ c. omega arith))
+    -- returns-3
+    (λ c. omega (arith, c .of-bytes2 .ensures, c .before .before .before .before .byte-at .ensures, c .before .before .before .byte-at2 .ensures, c .before .before .byte-at3 .ensures, c .before .byte-at4 .ensures)))
