@@ -77,11 +77,14 @@ pub fn leads_to(file: &[u8], program: Program, i: usize, states: [u8; 4]) -> boo
     ensures { λ r. ⌜ r ≡ eqb (getD states (transitionOf (now (file .entry)) program i .process) 0) (transitionOf (now (file .entry)) program i .to) ⌝ }
 {
     let row = program.transitions;
-    let at = transition_place(file, row.at, i);
     // one test for the record, and not one for each byte
-    if !cut(file, at, 7) {
-        return of_four(states, wide(file[at + 1])) == file[at + 7];
+    if i < 65536 {
+        if !cut(file, row.at, 8 * i + 7) {
+            let at = row.at + 8 * i;
+            return of_four(states, wide(file[at + 1])) == file[at + 7];
+        }
     }
+    let at = transition_place(file, row.at, i);
     of_four(states, wide(field(file, at, 1))) == field(file, at, 7)
 }
 
