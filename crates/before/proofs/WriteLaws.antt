@@ -8,20 +8,29 @@ use native.Mathlib.Numerals.{unary-clauses}
 use native.Mathlib.Decide.{ℕ-discrete}
 use lib.ListN.{length, getD, set, length-set}
 use lib.Seq.{getD-set-same, getD-set-other}
-use lib.Dec.{T, eqb, leb, ltb}
-use borrow.Author.Tests.{ltb-true, leb-true, leb-false, eq-eqb, ne-eqb, lt-ltb}
+use lib.Dec.{T, eqb, ltb}
+use borrow.Author.Tests.{ltb-true, eq-eqb, ne-eqb, lt-ltb}
 use Rattle.pws.specs.declared.Message.{Message}
 use Rattle.pws.specs.Machine.{noMessage, labelled, lastLabelled}
 use Rattle.lists.specs.Cubes.{memoryOf}
-use Rattle.program_part.specs.Bytes.{choose}
 use Rattle.whole_file.specs.Cube.{channelOf}
 use Rattle.program_part.proofs.ProgramLaws.{and-true}
 use Rattle.whole_file.proofs.CubeParts.{channel-length}
 use Rattle.matching.proofs.Below.{and-false}
-use Rattle.before.specs.Before.{LastWrites, withWrite, byNumber}
+use Rattle.before.specs.Before.{LastWrites, WritePlace, byNumber}
 
 pub labels : (p v : ℕ) → ltb p 4 && ltb v 4 ≡ true → (p < 4) × (v < 4)
 labels p v e = let w = and-true (ltb p 4) (ltb v 4) e in (ltb-true p 4 (w .0), ltb-true v 4 (w .1))
+
+-- the place of a LastWrite
+module _ (m : Message) {p v : ℕ} {x : Bool} (d : p ≡ m .process) (e : v ≡ m .variable) (g : x ≡ ltb p 4 && ltb v 4) where
+  pub no-place : x ≡ false → WritePlace m 16
+  no-place h = record { label = λ l. absurd (omega arith); none = λ l. sym (g ∙ ap₂ (λ (a b : ℕ). ltb a 4 && ltb b 4) d e) ∙ h }
+
+  pub own-place : x ≡ true → WritePlace m (4 * p + v)
+  own-place h =
+      let w = labels p v (sym g ∙ h) in
+      record { label = λ l. (omega (arith, w .0, d), omega (arith, w .1, e), omega (arith, d, e)); none = λ l. absurd (omega (arith, w .0, w .1)) }
 
 no-true : false ≡ true → ⊥
 no-true e = subst T (sym e) tt
@@ -130,15 +139,18 @@ module _ {z : ℕ → ℕ} {ms : List Message} {writes : List ℕ} {i : ℕ} (w 
         written = λ p v c d. old p v c d (label-no m p v (λ n. no-true (sym e ∙ rw (lt-ltb (m .process) 4 (omega (arith, n .0))) (lt-ltb (m .variable) 4 (omega (arith, n .1))))));
       }
 
-  pub writes-next : WritesTo z ms (withWrite writes m (i + 1)) (i + 1)
-  unfolding withWrite
-  writes-next = at (ltb (m .process) 4 && ltb (m .variable) 4) refl (leb (i + 1) (getD writes place 0)) refl
-    where
-      at : (b : Bool) → ltb (m .process) 4 && ltb (m .variable) 4 ≡ b → (c : Bool) → leb (i + 1) (getD writes place 0) ≡ c
-          → WritesTo z ms (choose b (λ _. choose c (λ _. writes) (λ _. set writes place (i + 1))) (λ _. writes)) (i + 1)
-      at true e true f = let x = labels (m .process) (m .variable) e in kept (x .0) (x .1) (leb-true (i + 1) (getD writes place 0) f)
-      at true e false f = let x = labels (m .process) (m .variable) e in moved (x .0) (x .1) (leb-false (i + 1) (getD writes place 0) f)
-      at false e c f = strange e
+  -- by the place of its LastWrite
+  module _ {q : ℕ} (W : WritePlace m q) where
+    pub writes-none : 16 ≤ q → WritesTo z ms writes (i + 1)
+    writes-none l = strange (W .none l)
+
+    pub writes-older : q < 16 → i + 1 ≤ getD writes q 0 → WritesTo z ms writes (i + 1)
+    writes-older l h = let x = W .label l in kept (x .0) (x .1) (subst (λ (k : ℕ). i + 1 ≤ getD writes k 0) (x .2) h)
+
+    pub writes-newer : q < 16 → getD writes q 0 < i + 1 → WritesTo z ms (set writes q (i + 1)) (i + 1)
+    writes-newer l h =
+        let x = W .label l in
+        subst (λ (k : ℕ). WritesTo z ms (set writes k (i + 1)) (i + 1)) (sym (x .2)) (moved (x .0) (x .1) (subst (λ (k : ℕ). getD writes k 0 < i + 1) (x .2) h))
 
 pub writes-all : (zs : List ℕ) {ms : List Message} {writes : List ℕ} {i : ℕ} → WritesTo (byNumber zs) ms writes i → LastWrites writes (memoryOf (channelOf ms i) (byNumber zs))
 writes-all zs w = w .written

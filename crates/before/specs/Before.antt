@@ -1,10 +1,10 @@
 -- The predecessor cubes of an entry as the code makes them, and the entries that it makes them of.
 use Prim.Native.Nat.{ℕ, _+_, _*_, _<_, _≤_}
 use mathlib.Core.Path.{_≡_}
-use mathlib.Core.Bool.{_&&_}
+use mathlib.Core.Bool.{false, _&&_}
 use mathlib.Core.List.{List, _∷_}
 use lib.ListN.{getD, set}
-use lib.Dec.{leb, ltb}
+use lib.Dec.{ltb}
 use Rattle.pws.specs.declared.Message.{Message}
 use Rattle.pws.specs.declared.Operation.{Operation}
 use Rattle.pws.specs.Program as pws
@@ -12,7 +12,6 @@ use Rattle.pws.specs.Machine.{Memory, Configuration, lastWrite, put, putQueue}
 use Rattle.lists.specs.Cubes.{topmost}
 use Rattle.lists.specs.Predecessors as lists
 use Rattle.program_part.specs.declared.program.Shape.{Shape}
-use Rattle.program_part.specs.Bytes.{choose}
 use Rattle.whole_file.specs.declared.entry.Queue.{Queue}
 use Rattle.whole_file.specs.declared.entry.Cube.{Cube}
 use Rattle.pws.specs.Insertion.{putMessage}
@@ -57,12 +56,10 @@ updateBefore S e p k = record { state = e .state; queue = e .queue; memory = lis
 abbrev pub LastWrites : List ℕ → Memory → Type 0
 LastWrites ws m = (p v : ℕ) → p < 4 → v < 4 → getD ws (4 * p + v) 0 ≡ lastWrite m p v
 
--- with the message of this number, which is newer than those before
-unfoldable pub withWrite : List ℕ → Message → ℕ → List ℕ
-withWrite ws m n =
-    choose (ltb (m .process) 4 && ltb (m .variable) 4)
-    (λ _. choose (leb n (getD ws (4 * m .process + m .variable) 0)) (λ _. ws) (λ _. set ws (4 * m .process + m .variable) n))
-    (λ _. ws)
+-- where the LastWrite of a message's label stands; past the sixteen if there is no such label
+pub record WritePlace (m : Message) (r : ℕ) : Type 0 where
+  pub label : r < 16 → (m .process < 4) × (m .variable < 4) × (r ≡ 4 * m .process + m .variable)
+  pub none : 16 ≤ r → ltb (m .process) 4 && ltb (m .variable) 4 ≡ false
 
 -- ---- parts of a cube
 

@@ -10,7 +10,7 @@ ghost use Rattle.lists.specs.Predecessors.{withoutNewest};
 ghost use Rattle.program_part.specs.ProgramPart.{shapeOf};
 ghost use Rattle.program_part.specs.declared.program.Shape.{Shape};
 ghost use Rattle.whole_file.specs.Cube.{channelOf, configurationOf};
-ghost use Rattle.before.specs.Before.{Sound, LastWrites, withWrite, byNumber, Inserted};
+ghost use Rattle.before.specs.Before.{Sound, LastWrites, WritePlace, byNumber, Inserted};
 use matching::least;
 use program_part::bytes::both;
 use program_part::bytes::wide;
@@ -21,22 +21,16 @@ use whole_file::entry::Cube;
 
 // ---- LastWrite
 
-// With the message of this number, which is newer than those before: it is the LastWrite of its label, unless the pointer is past it.
-fn with_write(writes: [u8; 16], message: Message, number: u8) -> [u8; 16]
-    ensures { λ r. ⌜ r ≡ withWrite writes message number ⌝ }
+// Where the LastWrite of a message's label stands, and 16 if there is no such label.
+fn write_place(message: Message) -> usize
+    ensures { λ r. ⌜ WritePlace message r ⌝ }
 {
     let p = wide(message.process);
     let v = wide(message.variable);
     if !both(p < 4, v < 4) {
-        return writes;
+        return 16;
     }
-    let q = 4 * p + v;
-    if number <= writes[q] {
-        return writes;
-    }
-    let mut next = writes;
-    next[q] = number;
-    next
+    4 * p + v
 }
 
 // LastWrite of every process and variable, in one pass over the messages.
@@ -53,8 +47,14 @@ pub fn last_writes(cube: Cube) -> [u8; 16]
     let n = least(cube.count, 20);
     for i in 0..n {
         let message = messages[i];
-        let next = with_write(writes, message, (i + 1) as u8);
-        writes = next;
+        let q = write_place(message);
+        let number = (i + 1) as u8;
+        // a message is the LastWrite of its label, unless the pointer is past it
+        if q < 16 {
+            if writes[q] < number {
+                writes[q] = number;
+            }
+        }
     }
     writes
 }
