@@ -29,7 +29,6 @@ use matching::least;
 use program_part::bytes::wide;
 use program_part::program::Program;
 use pws::Step;
-use summary::states_at;
 use whole_file::entry::Cube;
 
 mod finding;
@@ -203,7 +202,7 @@ fn opening_at(m: usize, j: usize) -> Opening
 }
 
 // These local states are full, and so are those from which a transition leads there.
-fn is_surrounded(full: &[u8], code: &[u8], program: Program, states: [u8; 4]) -> bool
+pub fn is_surrounded(full: &[u8], code: &[u8], program: Program, states: [u8; 4]) -> bool
     ensures { λ r. ⌜ (r ≡ true → Surrounded (now (full .entry)) (now (code .entry)) program states) ⌝ }
 {
     let shape = program.shape;
@@ -240,10 +239,6 @@ pub fn open_step(
 ) -> Opening
     ensures { λ r. ⌜ (Walkable (now (code .entry)) (now (file .entry)) (now (list .entry)) (now (sum .entry)) n program (cubeAt (now (file .entry)) (now (list .entry)) k) → Full (programOf (now (code .entry)) program) (entriesOf (now (file .entry)) (now (list .entry)) n) (now (full .entry)) → Families (shapeOf (program .shape)) (entriesOf (now (file .entry)) (now (list .entry)) n) (now (families .entry)) → r ≡ openingOf (programOf (now (code .entry)) program) (entriesOf (now (file .entry)) (now (list .entry)) n) (configurationOf (cubeAt (now (file .entry)) (now (list .entry)) k))) ⌝ }
 {
-    // the entry itself is not read where nothing is to be searched for
-    if is_surrounded(full, code, program, states_at(file, list, program.shape, k)) {
-        return Opening::Shut;
-    }
     let row = program.transitions;
     let m = least(row.count, 256);
     let cube = entry_at(file, list, k);

@@ -1,9 +1,9 @@
 -- The table of full local states: what is put there, and what its being there says.
 use Prim.Native.Nat.{ℕ, zero, suc, _+_, _*_, _%_, _<_, _≤_, min}
-use mathlib.Core.Path.{_≡_, refl, sym, ap, subst, _∙_}
+use mathlib.Core.Path.{_≡_, refl, sym, ap, ap₂, subst, _∙_}
 use mathlib.Core.Bool.{Bool, true, false, cond, false≢true}
 use mathlib.Core.Logic.{_⊎_, inl, inr}
-use mathlib.Core.List.{List}
+use mathlib.Core.List.{List, [], _∷_}
 use native.Mathlib.Omega.{arith}
 use native.Mathlib.Decide.{ℕ-discrete, decLt}
 use lib.ListN.{length, getD, set, length-set}
@@ -24,7 +24,7 @@ use Rattle.lists.specs.Decision.{held}
 use Rattle.lists.proofs.Lists.{T-true}
 use Rattle.program_part.specs.declared.program.Shape.{Shape}
 use Rattle.program_part.specs.Bytes.{choose}
-use Rattle.full_states.specs.Table.{fourAt, Full, placeOf, isFull, putFour, withStates, statesFrom}
+use Rattle.full_states.specs.Table.{fourAt, Full, placeOf, isFull, Among, putFour, withStates, statesFrom}
 use Rattle.full_states.proofs.Steps.{statesBefore, full-step}
 
 -- ---- four bytes
@@ -188,3 +188,63 @@ module _ (P : Program) (R : ProgramInRange P) (es : List Configuration) (table s
       ap (λ (f : ℕ → ℕ). put f (transition P n .process) (transition P n .from) q) own
       ∙ sym (from-is states (transition P n .process) (transition P n .from) q (omega (arith, R .shape .processes))))
       (full-held P R es table (statesFrom states (transition P n .process) (transition P n .from)) s e F i))
+
+-- ---- all four states
+
+four-list : (xs : List ℕ) → length xs ≡ 4 → getD xs 0 0 ∷ getD xs 1 0 ∷ getD xs 2 0 ∷ getD xs 3 0 ∷ [] ≡ xs
+four-list [] e = absurd (omega arith)
+four-list (a ∷ []) e = absurd (omega arith)
+four-list (a ∷ b ∷ []) e = absurd (omega arith)
+four-list (a ∷ b ∷ c ∷ []) e = absurd (omega arith)
+four-list (a ∷ b ∷ c ∷ d ∷ []) e = refl
+four-list (a ∷ b ∷ c ∷ d ∷ x ∷ xs) e = absurd (omega arith)
+
+same-four : (xs ys : List ℕ) → length xs ≡ 4 → length ys ≡ 4 → ((q : ℕ) → q < 4 → getD xs q 0 ≡ getD ys q 0) → xs ≡ ys
+same-four xs ys a b each = sym (four-list xs a) ∙ cons (each 0 (omega arith)) (each 1 (omega arith)) (each 2 (omega arith)) (each 3 (omega arith)) ∙ four-list ys b
+  where
+    cons : {a b c d e g h i : ℕ} → a ≡ e → b ≡ g → c ≡ h → d ≡ i → a ∷ b ∷ c ∷ d ∷ [] ≡ e ∷ g ∷ h ∷ i ∷ []
+    cons p q r s = ap₂ _∷_ p (ap₂ _∷_ q (ap₂ _∷_ r (ap (λ (x : ℕ). x ∷ []) s)))
+
+four-long : (table : List ℕ) (at : ℕ) → length (fourAt table at) ≡ 4
+unfolding fourAt
+four-long table at = refl
+
+pub among-there : (table states : List ℕ) (at : ℕ) → at ≡ placeOf states → at + 4 ≤ length table → length states ≡ 4
+    → {r : Bool} → r ≡ allBelow (min 4 4) (λ q. eqb (getD (fourAt table at) q 0) (getD states q 0)) → r ≡ true → Among table states
+unfolding placeOf
+among-there table states at e l n d t = (
+  (getD states 0 0 + 32 * getD states 1 0 + 328 * getD states 2 0 + 577 * getD states 3 0) % 1024,
+  omega (arith, e),
+  ap (fourAt table) (sym e) ∙ same-four (fourAt table at) states (four-long table at) n (λ q m. eqb-true (getD (fourAt table at) q 0) (getD states q 0)
+      (T-true _ (all-yes 4 (λ q. eqb (getD (fourAt table at) q 0) (getD states q 0)) (subst T (sym (sym d ∙ t)) tt) q m))),
+)
+
+-- after states were put, what stands anywhere is those, or stood there before
+pub among-put : (table states : List ℕ) (i : ℕ) → length states ≡ 4 → 4 * i + 4 ≤ length (withStates table states)
+    → (fourAt (withStates table states) (4 * i) ≡ states) ⊎ ((4 * i + 4 ≤ length table) × (fourAt (withStates table states) (4 * i) ≡ fourAt table (4 * i)))
+unfolding withStates placeOf
+among-put table states i n l = go (leb (placeOf states + 4) (length table)) refl l
+  where
+    place : ℕ
+    place = (getD states 0 0 + 32 * getD states 1 0 + 328 * getD states 2 0 + 577 * getD states 3 0) % 1024
+
+    apart : (i ≡ place → ⊥) → (q : ℕ) → q < 4 → (4 * i + q < 4 * place) ⊎ (4 * place + 4 ≤ 4 * i + q)
+    apart k q l = elim (decLt i place) [ yes a ↦ inl (omega arith) | no a ↦ elim (decLt place i) [ yes b ↦ inr (omega arith) | no b ↦ absurd (k (omega arith)) ] ]
+
+    go : (b : Bool) → leb (placeOf states + 4) (length table) ≡ b → 4 * i + 4 ≤ length (choose b (λ _. putFour table (placeOf states) states) (λ _. table))
+        → (fourAt (choose b (λ _. putFour table (placeOf states) states) (λ _. table)) (4 * i) ≡ states)
+        ⊎ ((4 * i + 4 ≤ length table) × (fourAt (choose b (λ _. putFour table (placeOf states) states) (λ _. table)) (4 * i) ≡ fourAt table (4 * i)))
+    go false e m = inr (m, refl)
+    go true e m = elim (ℕ-discrete i place) [
+      | yes k ↦ inl (same-four (fourAt (putFour table (4 * place) states) (4 * i)) states (four-long (putFour table (4 * place) states) (4 * i)) n (λ q r.
+          four-is (putFour table (4 * place) states) (4 * i) q r
+          ∙ ap (λ (j : ℕ). getD (putFour table (4 * place) states) (4 * j + q) 0) k
+          ∙ put-same table (4 * place) states (leb-true (placeOf states + 4) (length table) e) q r))
+      | no k ↦ inr (
+        omega (arith, put-length table (4 * place) states, m),
+        same-four (fourAt (putFour table (4 * place) states) (4 * i)) (fourAt table (4 * i)) (four-long (putFour table (4 * place) states) (4 * i)) (four-long table (4 * i)) (λ q r.
+            four-is (putFour table (4 * place) states) (4 * i) q r
+            ∙ put-other table (4 * place) states (4 * i + q) (apart k q r)
+            ∙ sym (four-is table (4 * i) q r)),
+      )
+    ]

@@ -33,6 +33,10 @@ unfoldable pub isFull : List ℕ → Shape → List ℕ → Bool
 isFull table s states =
     cond (leb (placeOf states + 4) (length table)) (allBelow (min (s .processes) 4) (λ q. eqb (getD (fourAt table (placeOf states)) q 0) (getD states q 0))) false
 
+-- all four stand in the table
+abbrev pub Among : List ℕ → List ℕ → Type 0
+Among table states = (i : ℕ) × (4 * i + 4 ≤ length table) × (fourAt table (4 * i) ≡ states)
+
 unfoldable pub putFour : List ℕ → ℕ → List ℕ → List ℕ
 putFour table at states = set (set (set (set table at (getD states 0 0)) (at + 1) (getD states 1 0)) (at + 2) (getD states 2 0)) (at + 3) (getD states 3 0)
 

@@ -1,11 +1,11 @@
 // A table of full local states: every configuration with them is above the list. Number 9 shows that of the targets, and the same test of any
 // group that is large enough; at number 11 nothing that has full local states is searched for.
 ghost use mathlib.Core.Path.{_≡_};
-ghost use mathlib.Core.Bool.{cond};
+ghost use mathlib.Core.Bool.{true, cond};
 ghost use Prim.Native.Nat.{_*_, _≤_, _<_};
 ghost use lib.ListN.{length};
 ghost use lib.Dec.{eqb};
-ghost use Rattle.full_states.specs.Table.{placeOf, isFull, withStates, statesFrom};
+ghost use Rattle.full_states.specs.Table.{placeOf, isFull, Among, withStates, statesFrom};
 use matching::states_match;
 use program_part::program::Shape;
 
@@ -50,6 +50,18 @@ pub fn is_full(table: &[u8], shape: Shape, states: [u8; 4]) -> bool
     }
     let known = [table[at], table[at + 1], table[at + 2], table[at + 3]];
     states_match(shape.processes, known, states)
+}
+
+// All four states stand there, those of processes that do not exist too.
+pub fn has_states(table: &[u8], states: [u8; 4]) -> bool
+    ensures { λ r. ⌜ (r ≡ true → Among (now (table .entry)) states) ⌝ }
+{
+    let at = place_of(states);
+    if table.len() < at + 4 {
+        return false;
+    }
+    let known = [table[at], table[at + 1], table[at + 2], table[at + 3]];
+    states_match(4, known, states)
 }
 
 // Others that stood in their place are forgotten.

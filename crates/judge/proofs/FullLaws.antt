@@ -25,8 +25,9 @@ use Rattle.full_states.specs.Table.{fourAt, Full, withStates}
 use Rattle.full_states.proofs.TableLaws.{four-is, full-put}
 use Rattle.families.specs.Family.{Families}
 use Rattle.families.proofs.TableLaws.{families-none}
-use Rattle.judge.specs.Ready.{Ready, TargetsHeld, heldTest, closedTest, withTargets}
+use Rattle.judge.specs.Ready.{Ready, TargetsHeld, Shuts, heldTest, closedTest, withTargets}
 use Rattle.judge.proofs.LowestLaws.{SoFar, so-far-begin}
+use Rattle.judge.proofs.ShutLaws.{shuts-none}
 
 -- ---- the targets in turn
 
@@ -88,21 +89,26 @@ module _ (g f list sum : List ℕ) (n : ℕ) (p : Program) (R : Ready g f list s
 
 -- ---- the entries in turn, with the table beside
 
-pub record Going (g f list : List ℕ) (n : ℕ) (p : Program) (table rows : List ℕ) (k : ℕ) : Type 0 where
+pub record Going (g f list : List ℕ) (n : ℕ) (p : Program) (table shut rows : List ℕ) (k : ℕ) : Type 0 where
   pub room : length table ≡ 4096
+  pub space : length shut ≡ 4096
   pub size : length rows ≡ 8192
   pub passed : SoFar (closedTest g f list n p) n k
   pub full : Full (programOf g p) (entriesOf f list n) table
+  pub shuts : Shuts g f list n p shut
   pub families : Families (shapeOf (p .shape)) (entriesOf f list n) rows
 
 module _ (g f list sum : List ℕ) (n : ℕ) (p : Program) (R : Ready g f list sum n p) where
-  pub going-begin : TargetsHeld g f list n p → (m : ℕ) (table new : List ℕ) → table ≡ replicate m 255 → new ≡ withTargets g p table (p .targets .count) → length new ≡ 4096 → (q : ℕ) (families : List ℕ) → families ≡ replicate q 0 → length families ≡ 8192 → Going g f list n p new families 0
-  going-begin H m table new e d l q families z y =
+  pub going-begin : TargetsHeld g f list n p → (m : ℕ) (table new : List ℕ) → table ≡ replicate m 255 → new ≡ withTargets g p table (p .targets .count) → length new ≡ 4096 → (s : ℕ) (shut : List ℕ) → shut ≡ replicate s 255 → length shut ≡ 4096
+      → (q : ℕ) (families : List ℕ) → families ≡ replicate q 0 → length families ≡ 8192 → Going g f list n p new shut families 0
+  going-begin H m table new e d l s shut x v q families z y =
       record {
         room = l;
+        space = v;
         size = y;
         passed = so-far-begin (closedTest g f list n p) n;
         full = subst (Full (programOf g p) (entriesOf f list n)) (sym d)
             (full-targets g f list sum n p R H table (subst (Full (programOf g p) (entriesOf f list n)) (sym e) (full-none g f list sum n p R m)) (p .targets .count) (omega arith));
+        shuts = subst (Shuts g f list n p) (sym x) (shuts-none g f list sum n p R s);
         families = subst (Families (shapeOf (p .shape)) (entriesOf f list n)) (sym z) (families-none (shapeOf (p .shape)) (entriesOf f list n) q);
       }

@@ -63,7 +63,7 @@ module _ (g f list sum : List ℕ) (n : ℕ) (p : Program) where
   entries-length : length es ≡ n
   entries-length = table-length (λ i. configurationOf (cubeAt f list i)) 0 n
 
-  entry-is : (k : ℕ) → k < n → entry es k ≡ configurationOf (cubeAt f list k)
+  pub entry-is : (k : ℕ) → k < n → entry es k ≡ configurationOf (cubeAt f list k)
   entry-is k l = table-number (λ i. configurationOf (cubeAt f list i)) n k noEntry l
 
   -- ---- what the units ask for

@@ -12,7 +12,7 @@ use Rattle.lists.specs.Decision.{targetHeld, looksStarted, closed, openStep, ve
 use Rattle.program_part.specs.declared.program.Program.{Program}
 use Rattle.program_part.specs.ProgramPart.{programOf, targetsOf}
 use Rattle.by_number.specs.Again.{cubeAt, entriesOf, targetOf}
-use Rattle.full_states.specs.Table.{withStates}
+use Rattle.full_states.specs.Table.{fourAt, withStates}
 use Rattle.by_number.specs.Contents.{ProgramPartRead, EntryRange, ProgramSizes, CubeRange}
 use Rattle.summary.specs.Summary.{Summed}
 use Rattle.verdict.specs.Judge.{Verdict, safe, entered, ofList}
@@ -64,6 +64,10 @@ startTest g f list n p k = not (looksStarted (programOf g p) (entry (entriesOf f
 
 abbrev pub closedTest : List ℕ → List ℕ → List ℕ → ℕ → Program → ℕ → Bool
 closedTest g f list n p k = closed (programOf g p) (entriesOf f list n) (entry (entriesOf f list n) k)
+
+-- nothing leads in to an entry with local states of the table
+pub record Shuts (g f list : List ℕ) (n : ℕ) (p : Program) (table : List ℕ) : Type 0 where
+  pub groups : (i : ℕ) → 4 * i + 4 ≤ length table → (k : ℕ) → k < n → cubeAt f list k .states ≡ fourAt table (4 * i) → closedTest g f list n p k ≡ true
 
 -- the verdict of a list all of whose targets are held, and none of whose entries a start is above
 abbrev pub enteredSaid : List ℕ → List ℕ → List ℕ → ℕ → Program → Verdict

@@ -1,20 +1,24 @@
 // A list judged to its end: each target against the list, each entry against the starts, each entry's predecessors (document 01, numbers 9, 10
 // and 11).
 ghost use mathlib.Core.Path.{_≡_};
-ghost use Prim.Native.Nat.{_<_};
+ghost use mathlib.Core.Bool.{true};
+ghost use mathlib.Core.List.{List};
+ghost use Prim.Native.Nat.{ℕ, _<_};
 ghost use lib.ListN.{length};
 ghost use Rattle.pws.specs.Program as pws;
-ghost use Rattle.program_part.specs.ProgramPart.{shapeOf};
+ghost use Rattle.program_part.specs.ProgramPart.{shapeOf, programOf};
 ghost use Rattle.by_number.specs.Again.{entriesOf};
 ghost use Rattle.full_states.specs.Table.{Full};
 ghost use Rattle.families.specs.Family.{Families};
 ghost use Rattle.targets.specs.Walk.{Searches};
 ghost use Rattle.closing.specs.Walk.{LowestFailing};
 ghost use Rattle.verdict.specs.Answers.{verdictIn};
-ghost use Rattle.judge.specs.Ready.{Ready, TargetsHeld, withTargets, heldTest, startTest, enteredSaid, listSaid};
+ghost use Rattle.judge.specs.Ready.{Ready, TargetsHeld, Shuts, withTargets, heldTest, startTest, closedTest, enteredSaid, listSaid};
 use by_number::target_of;
 use closing::Opening;
+use closing::is_surrounded;
 use closing::open_step;
+use full_states::has_states;
 use full_states::is_full;
 use full_states::put_full;
 use program_part::bytes::both;
@@ -207,6 +211,32 @@ fn put_like(
     put_member(file, list, sum, n, shape, most, k, families);
 }
 
+// The local states of entry k are full, and so are those from which a transition leads there: nothing leads in to it, and it is not read. The table keeps such
+// states, so that transitions are looked at once for each.
+fn is_shut(
+    full: &[u8],
+    code: &[u8],
+    file: &[u8],
+    list: &[u8],
+    n: usize,
+    program: Program,
+    k: usize,
+    shut: &mut [u8],
+) -> bool
+    ensures { λ _. ⌜ length (now (shut .exit)) ≡ length (now (shut .entry)) ⌝ }
+    ensures { λ r. ⌜ ((sum : List ℕ) → Ready (now (code .entry)) (now (file .entry)) (now (list .entry)) sum n program → Full (programOf (now (code .entry)) program) (entriesOf (now (file .entry)) (now (list .entry)) n) (now (full .entry)) → Shuts (now (code .entry)) (now (file .entry)) (now (list .entry)) n program (now (shut .entry)) → Shuts (now (code .entry)) (now (file .entry)) (now (list .entry)) n program (now (shut .exit)) × (r ≡ true → k < n → closedTest (now (code .entry)) (now (file .entry)) (now (list .entry)) n program k ≡ true)) ⌝ }
+{
+    let states = states_at(file, list, program.shape, k);
+    if has_states(shut, states) {
+        return true;
+    }
+    if !is_surrounded(full, code, program, states) {
+        return false;
+    }
+    put_full(shut, states);
+    true
+}
+
 // The lowest entry with a way in from outside the list, and the lowest step of it; safe if there is none.
 fn lowest_entered(
     code: &[u8],
@@ -223,10 +253,14 @@ fn lowest_entered(
     // local states that no process has
     let mut table = [255u8; 4096];
     put_targets(code, program, &mut table);
+    let mut shut = [255u8; 4096];
     let mut families = [0u8; 8192];
     for k in 0..n {
         put_others(file, list, sum, n, shape, k, &mut table);
         put_like(&table, file, list, sum, n, shape, k, &mut families);
+        if is_shut(&table, code, file, list, n, program, k, &mut shut) {
+            continue;
+        }
         let opening = open_step(&table, &families, code, file, list, sum, n, program, k);
         if let Opening::Through { step } = opening {
             return Answer::Entered {
