@@ -28,7 +28,7 @@ last-writes-spec = tie.close (tie.spec
     -- array-read-d
     (λ c. search needs)
     -- least-requires
-    (λ c κs. search needs)
+    (λ c κs. tt)
     -- loop-holds
     (λ c. (writes-begin ((c .before .before .before .args .cube) .messages) (getD ((c .before .before .before .args .cube) .pointers) 0 0) (getD ((c .before .before .before .args .cube) .pointers) 1 0) (getD ((c .before .before .before .args .cube) .pointers) 2 0) (getD ((c .before .before .before .args .cube) .pointers) 3 0), omega arith))
     -- mul-message
@@ -40,7 +40,7 @@ last-writes-spec = tie.close (tie.spec
     -- cast-with-write
     (λ c. omega (arith, c .before .loop-test .taken, c .before .before .before .least .ensures))
     -- with-write-requires
-    (λ c κs. search needs)
+    (λ c κs. tt)
     -- add-i
     (λ c. omega (arith, c .before .before .loop-test .taken, c .before .before .before .before .least .ensures))
     -- loop-less
