@@ -24,11 +24,11 @@ is-surrounded-spec = tie.close (tie.spec
     Inv-loop
     μ-loop
     -- is-full-requires
-    (λ c κs. search needs)
+    (λ c κs. tt)
     -- returns
     (λ c. λ e. absurd (false≢true e))
     -- least-requires
-    (λ c κs. search needs)
+    (λ c κs. tt)
     -- loop-holds
     (λ c. around-begin (c .before .before .before .before .before .before .before .args .full .now) (c .before .before .before .before .before .before .before .args .code .now) (c .before .before .before .before .before .before .before .args .program) (c .before .before .before .before .before .before .before .args .states) (c .least .result) (sym (c .before .before .before .is-full .ensures) ∙ not-false (c .before .before .before .is-full .result) (c .before .before .if1 .left)))
     -- leads-to-requires
@@ -40,11 +40,11 @@ is-surrounded-spec = tie.close (tie.spec
     -- loop-again
     (λ c. around-next (c .before .before .before .before .before .before .before .before .before .before .before .args .full .now) (c .before .before .before .before .before .before .before .before .before .before .before .args .code .now) (c .before .before .before .before .before .before .before .before .before .before .before .args .program) (c .before .before .before .before .before .before .before .before .before .before .before .args .states) (c .before .before .before .before .least .result) (c .before .before .before .loop .inv) (c .before .before .loop-test .taken) (transitionOf (c .before .before .before .before .before .before .before .before .before .before .before .args .code .now) (c .before .before .before .before .before .before .before .before .before .before .before .args .program) (c .before .before .before .loop .j)) refl (λ e. absurd (leads-elsewhere (c .before .before .before .before .before .before .before .before .before .before .before .args .states) (transitionOf (c .before .before .before .before .before .before .before .before .before .before .before .args .code .now) (c .before .before .before .before .before .before .before .before .before .before .before .args .program) (c .before .before .before .loop .j)) (c .before .leads-to .ensures) (not-true (c .before .leads-to .result) (c .if2 .taken)) e)))
     -- transition-of-requires
-    (λ c κs. search needs)
+    (λ c κs. tt)
     -- states-from-requires
-    (λ c κs. search needs)
+    (λ c κs. tt)
     -- is-full-requires-2
-    (λ c κs. search needs)
+    (λ c κs. tt)
     -- returns-2
     (λ c. λ e. absurd (false≢true e))
     -- add-j-2

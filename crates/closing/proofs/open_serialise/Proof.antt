@@ -19,17 +19,17 @@ use Rattle.closing.proofs.open_serialise.Tie as tie
 pub open-serialise-spec : {M : Type 1} → statement M
 open-serialise-spec = tie.close (tie.spec
     -- serialised-held-requires
-    (λ c κs. search needs)
+    (λ c κs. tt)
     -- returns
     (λ c. (omega arith, λ Y g W. lowest-end refl (λ i l. c .before .serialised-held .ensures Y g W (i / 4) (i % 4) ∙ ap (λ (h : Bool). cond (labelled (topmost ((configurationOf (c .before .before .before .before .before .before .args .cube)) .memory .channel)) (i / 4) (i % 4)) h true) (c .if1 .taken) ∙ sym (cond-same (labelled (topmost ((configurationOf (c .before .before .before .before .before .before .args .cube)) .memory .channel)) (i / 4) (i % 4))))))
     -- newest-requires
-    (λ c κs. search needs)
+    (λ c κs. tt)
     -- wide-requires
-    (λ c κs. search needs)
+    (λ c κs. tt)
     -- mul-result
     (λ c. omega (arith, c .wide .ensures))
     -- wide-requires-2
-    (λ c κs. search needs)
+    (λ c κs. tt)
     -- add-result
     (λ c. omega (arith, c .before .wide .ensures, c .wide2 .ensures))
     -- returns-2

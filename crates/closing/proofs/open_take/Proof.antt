@@ -31,7 +31,7 @@ open-take-spec = tie.close (tie.spec
     Inv-loop
     μ-loop
     -- least-requires
-    (λ c κs. search needs)
+    (λ c κs. tt)
     -- loop-holds
     (λ c. passed-begin (Walkable (c .before .before .before .before .before .before .before .before .before .args .code .now) (c .before .before .before .before .before .before .before .before .before .args .file .now) (c .before .before .before .before .before .before .before .before .before .args .list .now) (c .before .before .before .before .before .before .before .before .before .args .sum .now) (c .before .before .before .before .before .before .before .before .before .args .n) (c .before .before .before .before .before .before .before .before .before .args .program) (c .before .before .before .before .before .before .before .before .before .args .cube) × LastWrites (c .before .before .before .before .before .before .before .before .before .args .writes) ((configurationOf (c .before .before .before .before .before .before .before .before .before .args .cube)) .memory) × Full (programOf (c .before .before .before .before .before .before .before .before .before .args .code .now) (c .before .before .before .before .before .before .before .before .before .args .program)) (entriesOf (c .before .before .before .before .before .before .before .before .before .args .file .now) (c .before .before .before .before .before .before .before .before .before .args .list .now) (c .before .before .before .before .before .before .before .before .before .args .n)) (c .before .before .before .before .before .before .before .before .before .args .full .now) × Families (shapeOf (c .before .before .before .before .before .before .before .before .before .args .program .shape)) (entriesOf (c .before .before .before .before .before .before .before .before .before .args .file .now) (c .before .before .before .before .before .before .before .before .before .args .list .now) (c .before .before .before .before .before .before .before .before .before .args .n)) (c .before .before .before .before .before .before .before .before .before .args .families .now)) (λ q. stepHeld (programOf (c .before .before .before .before .before .before .before .before .before .args .code .now) (c .before .before .before .before .before .before .before .before .before .args .program)) (entriesOf (c .before .before .before .before .before .before .before .before .before .args .file .now) (c .before .before .before .before .before .before .before .before .before .args .list .now) (c .before .before .before .before .before .before .before .before .before .args .n)) (configurationOf (c .before .before .before .before .before .before .before .before .before .args .cube)) (Take q)) (c .before .least .result))
     -- leads-to-requires
@@ -43,9 +43,9 @@ open-take-spec = tie.close (tie.spec
     -- loop-again
     (λ c. passed-next (c .before .before .before .loop .inv) (c .before .before .loop-test .taken) (λ X. sym (state-differs (c .before .before .before .before .before .before .before .before .before .before .before .before .before .args .code .now) (c .before .before .before .before .before .before .before .before .before .before .before .before .before .args .file .now) (c .before .before .before .before .before .before .before .before .before .before .before .before .before .args .list .now) (c .before .before .before .before .before .before .before .before .before .before .before .before .before .args .n) (c .before .before .before .before .before .before .before .before .before .before .before .before .before .args .program) (c .before .before .before .before .before .before .before .before .before .before .before .before .before .args .cube) (c .before .before .before .loop .j) (transitionOf (c .before .before .before .before .before .before .before .before .before .before .before .before .before .args .code .now) (c .before .before .before .before .before .before .before .before .before .before .before .before .before .args .program) (c .before .before .before .loop .j)) refl (omega (arith, c .before .before .loop-test .taken, c .before .before .before .before .before .least .ensures)) (leads-elsewhere (c .before .before .before .before .before .before .before .before .before .before .before .before .before .args .cube .states) (transitionOf (c .before .before .before .before .before .before .before .before .before .before .before .before .before .args .code .now) (c .before .before .before .before .before .before .before .before .before .before .before .before .before .args .program) (c .before .before .before .loop .j)) (c .before .leads-to .ensures) (not-true (c .before .leads-to .result) (c .if1 .taken))))))
     -- transition-of-requires
-    (λ c κs. search needs)
+    (λ c κs. tt)
     -- before-held-requires
-    (λ c κs. search needs)
+    (λ c κs. tt)
     -- returns
     (λ c. (omega (arith, c .before .before .before .before .before .loop-test .taken, c .before .before .before .before .before .before .before .before .least .ensures), λ W w F Y. lowest-at (omega (arith, c .before .before .before .before .before .loop-test .taken, c .before .before .before .before .before .before .before .before .least .ensures)) (c .before .before .before .before .before .before .loop .inv .each (W, w, F, Y)) (sym (c .before .before-held .ensures Y (c .before .before .before .before .before .before .before .before .before .before .before .before .before .before .before .before .args .code .now) W w F (c .before .before .before .before .before .before .loop .j) (omega (arith, c .before .before .before .before .before .loop-test .taken, c .before .before .before .before .before .before .before .before .least .ensures)) (c .before .before .transition-of .ensures) (leads-there (c .before .before .before .before .before .before .before .before .before .before .before .before .before .before .before .before .args .cube .states) (c .before .before .transition-of .ensures) (c .before .before .before .before .leads-to .ensures) (not-false (c .before .before .before .before .leads-to .result) (c .before .before .before .if1 .left)))) ∙ not-true (c .before .before-held .result) (c .if2 .taken))))
     -- add-j-2

@@ -28,11 +28,11 @@ open-update-spec = tie.close (tie.spec
     Inv-loop
     μ-loop
     -- least-requires
-    (λ c κs. search needs)
+    (λ c κs. tt)
     -- loop-holds
     (λ c. λ g. passed-begin (Walkable g (c .before .before .before .before .before .args .file .now) (c .before .before .before .before .before .args .list .now) (c .before .before .before .before .before .args .sum .now) (c .before .before .before .before .before .args .n) (c .before .before .before .before .before .args .program) (c .before .before .before .before .before .args .cube) × LastWrites (c .before .before .before .before .before .args .writes) ((configurationOf (c .before .before .before .before .before .args .cube)) .memory)) (λ q. stepHeld (programOf g (c .before .before .before .before .before .args .program)) (entriesOf (c .before .before .before .before .before .args .file .now) (c .before .before .before .before .before .args .list .now) (c .before .before .before .before .before .args .n)) (configurationOf (c .before .before .before .before .before .args .cube)) (Update q)) (c .least .result))
     -- updated-held-requires
-    (λ c κs. search needs)
+    (λ c κs. tt)
     -- returns
     (λ c. (omega (arith, c .before .before .loop-test .taken, c .before .before .before .before .least .ensures), λ g W w. lowest-at (omega (arith, c .before .before .loop-test .taken, c .before .before .before .before .least .ensures)) (c .before .before .before .loop .inv g .each (W, w)) (sym (c .before .updated-held .ensures g W w (omega (arith, c .before .before .loop-test .taken, c .before .before .before .before .least .ensures))) ∙ not-true (c .before .updated-held .result) (c .if1 .taken))))
     -- add-p

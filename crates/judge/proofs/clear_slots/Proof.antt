@@ -16,7 +16,7 @@ span at n r l e = let d : r ≡ 8 * n = omega arith in omega (arith, d)
 
 -- src/lib.rt:48:20
 slot-place-requires : tie.Need-slot-place-requires
-slot-place-requires c κs = search needs
+slot-place-requires c κs = tt
 
 -- src/lib.rt:48:15
 add-end : tie.Need-add-end
@@ -36,7 +36,7 @@ part-clear-end c = search needs
 
 -- src/lib.rt:49:5
 clear-requires : tie.Need-clear-requires
-clear-requires c κs = search needs
+clear-requires c κs = tt
 
 -- src/lib.rt:44:1
 same-length : tie.Need-same-length

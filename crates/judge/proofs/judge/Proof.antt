@@ -8,7 +8,7 @@ use Rattle.judge.proofs.judge.Tie as tie
 pub judge-spec : {M : Type 1} → statement M
 judge-spec = tie.close (tie.spec
     -- judge-input-requires
-    (λ c κs. search needs)
+    (λ c κs. tt)
     -- same-length
     (λ c. search needs)
     -- returns

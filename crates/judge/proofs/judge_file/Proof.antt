@@ -18,7 +18,7 @@ use Rattle.program_part.proofs.program.refusal_of.Reads as refusal-of-reads
 
 -- src/lib.rt:78:9
 read-requires : tie.Need-read-requires
-read-requires c κs = search needs
+read-requires c κs = tt
 
 enum-told : tie.Need-enum-told
 enum-told c = search needs
@@ -29,7 +29,7 @@ enum-told-2 c = search needs
 
 -- src/lib.rt:81:31
 refusal-of-requires : tie.Need-refusal-of-requires
-refusal-of-requires c κs = search needs
+refusal-of-requires c κs = tt
 
 -- src/lib.rt:81:9
 same-length : tie.Need-same-length
@@ -43,7 +43,7 @@ returns c =
 
 -- src/lib.rt:87:13
 summary-place-requires : tie.Need-summary-place-requires
-summary-place-requires c κs = search needs
+summary-place-requires c κs = tt
 
 -- src/lib.rt:88:34
 sub-list-judged : tie.Need-sub-list-judged
@@ -82,7 +82,7 @@ slice-aggregate-replay-answer : tie.Need-slice-aggregate-replay-answer
 slice-aggregate-replay-answer c = sym (length-take-le 16384 (c .before .before .before .before .before .before .before .before .read .last .1 .1 .1 .0) (omega (arith, c .before .before .before .before .before .before .before .before .before .before .before .before .before .pre)))
 
 replay-answer-requires : tie.Need-replay-answer-requires
-replay-answer-requires c κs = search needs
+replay-answer-requires c κs = tt
 
 same-length-3 : tie.Need-same-length-3
 same-length-3 c = search needs

@@ -8,9 +8,9 @@ use Rattle.judge.proofs.judge_input.Tie as tie
 pub judge-input-spec : {M : Type 1} → statement M
 judge-input-spec = tie.close (tie.spec
     -- judge-and-clear-requires
-    (λ c κs. search needs)
+    (λ c κs. tt)
     -- shown-requires
-    (λ c κs. search needs)
+    (λ c κs. tt)
     -- same-length
     (λ c. search needs)
     -- returns

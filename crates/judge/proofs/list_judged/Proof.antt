@@ -16,7 +16,7 @@ clear-slots-requires c κs = search needs
 
 -- src/lib.rt:68:5
 summarise-requires : tie.Need-summarise-requires
-summarise-requires c κs = search needs
+summarise-requires c κs = tt
 
 -- src/lib.rt:69:5
 summed-answer-requires : tie.Need-summed-answer-requires

@@ -13,8 +13,8 @@ behind area r n e d = let l = few n area e in omega arith
 pub summary-place-spec : {M : Type 1} → statement M
 summary-place-spec = tie.close (tie.spec
     -- entries-allowed-requires
-    (λ c κs. search needs)
+    (λ c κs. tt)
     -- word-place-requires
-    (λ c κs. search needs)
+    (λ c κs. tt)
     -- returns
     (λ c. behind _ _ _ (c .before .entries-allowed .ensures) (c .word-place .ensures)))

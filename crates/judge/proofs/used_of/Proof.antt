@@ -15,13 +15,13 @@ used area n a b e d g = let l = few n area e in omega arith
 pub used-of-spec : {M : Type 1} → statement M
 used-of-spec = tie.close (tie.spec
     -- entries-allowed-requires
-    (λ c κs. search needs)
+    (λ c κs. tt)
     -- word-place-requires
-    (λ c κs. search needs)
+    (λ c κs. tt)
     -- add-result
     (λ c. omega (arith, few _ _ (c .before .entries-allowed .ensures), c .word-place .ensures))
     -- slot-place-requires
-    (λ c κs. search needs)
+    (λ c κs. tt)
     -- add-result-2
     (λ c. omega (arith, few _ _ (c .before .before .entries-allowed .ensures), c .before .word-place .ensures, c .slot-place .ensures))
     -- returns

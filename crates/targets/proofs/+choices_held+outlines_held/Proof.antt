@@ -75,7 +75,7 @@ pub +choices-held+outlines-held-spec : {M : Type 1} → statement M
     -- cast-any-message-2
     (λ c. omega (arith, c .before .before .before .before .before .before .pre .1 .variable, c .before .before .before .before .before .before .pre .1 .message .small .variables))
     -- any-message-requires
-    (λ c κs. search needs)
+    (λ c κs. tt)
     -- mul-longer
     (λ c. omega (arith, c .before .before .before .before .before .before .before .pre .1 .message .room, c .before .before .before .before .before .before .before .pre .1 .message .depth))
     -- array-set-from-longer

@@ -56,6 +56,6 @@ pub +queues-held-spec : {M : Type 1} → statement M
     -- returns-3
     (λ c. row-done (c .before .before .before .before .before .before .pre .1) (c .before .before .if1 .left) (c .before .if3 .taken) (c .queues-held3 .ensures))
     -- search-requires
-    (λ c κs. search needs)
+    (λ c κs. tt)
     -- returns-4
     (λ c. queues-done (c .before .before .before .before .before .before .pre .1) (c .before .before .if1 .left) (c .before .if3 .left) (c .search .ensures .1))

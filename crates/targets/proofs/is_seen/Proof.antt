@@ -27,11 +27,11 @@ is-seen-spec = tie.close (tie.spec
     -- array-copy-out-message
     (λ c. search needs)
     -- wide-requires
-    (λ c κs. search needs)
+    (λ c κs. tt)
     -- wide-requires-2
-    (λ c κs. search needs)
+    (λ c κs. tt)
     -- both-requires
-    (λ c κs. search needs)
+    (λ c κs. tt)
     -- returns
     (λ c. sym (some-message (λ m. labelled m (c .before .before .before .before .before .before .before .args .p) (c .before .before .before .before .before .before .before .args .v)) (c .before .before .before .before .before .before .before .args .t1) (c .before .before .before .before .before .before .before .args .n) (c .before .before .before .before .before .before .loop .i) (c .before .before .before .before .before .loop-test .taken)
     (ap₂ (λ (a b : ℕ). eqb a (c .before .before .before .before .before .before .before .args .p) && eqb b (c .before .before .before .before .before .before .before .args .v)) (sym (c .before .before .before .wide .ensures)) (sym (c .before .before .wide2 .ensures)) ∙ sym (c .before .both .ensures) ∙ c .if1 .taken)))

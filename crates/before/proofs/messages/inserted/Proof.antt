@@ -16,7 +16,7 @@ inserted-spec = tie.close (tie.spec
     -- sub-put-in
     (λ c. search needs)
     -- put-in-requires
-    (λ c κs. search needs)
+    (λ c κs. tt)
     -- add-next
     (λ c. search needs)
     -- returns-3

@@ -21,7 +21,7 @@ last-labelled-spec = tie.close (tie.spec
     Inv-loop
     μ-loop
     -- least-requires
-    (λ c κs. search needs)
+    (λ c κs. tt)
     -- loop-holds
     (λ c. (refl, omega arith))
     -- mul-message
@@ -31,7 +31,7 @@ last-labelled-spec = tie.close (tie.spec
     -- add-later
     (λ c. omega (arith, c .before .loop-test .taken, c .before .before .before .least .ensures))
     -- later-requires
-    (λ c κs. search needs)
+    (λ c κs. tt)
     -- add-i
     (λ c. omega (arith, c .before .before .loop-test .taken, c .before .before .before .before .least .ensures))
     -- loop-less

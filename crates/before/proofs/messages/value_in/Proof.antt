@@ -23,6 +23,6 @@ value-in-spec = tie.close (tie.spec
     -- array-copy-out-message
     (λ c. search needs)
     -- of-four-requires
-    (λ c κs. search needs)
+    (λ c κs. tt)
     -- returns-3
     (λ c. λ a b d. let e : suc ((c .before .before .before .before .before .before .args .i) - 1) ≡ (c .before .before .before .before .before .before .args .i) = omega arith in c .of-four .ensures ∙ ap (λ (m : Message). getD (m .snapshot) (c .before .before .before .before .before .before .args .v) 0) (sym (channel-message ((c .before .before .before .before .before .before .args .cube) .messages) ((c .before .before .before .before .before .before .args .cube) .count) ((c .before .before .before .before .before .before .args .i) - 1) (omega arith)) ∙ ap (message (configurationOf (c .before .before .before .before .before .before .args .cube) .memory .channel)) e)))

@@ -26,7 +26,7 @@ with-value-in-spec = tie.close (tie.spec
     -- array-copy-out-message
     (λ c. search needs)
     -- with-value-requires
-    (λ c κs. search needs)
+    (λ c κs. tt)
     -- mul-next
     (λ c. search needs)
     -- array-set-from-next

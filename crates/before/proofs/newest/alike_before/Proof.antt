@@ -9,8 +9,8 @@ use Rattle.before.proofs.newest.alike_before.Tie as tie
 pub alike-before-spec : {M : Type 1} → statement M
 alike-before-spec = tie.close (tie.spec
     -- newest-with-requires
-    (λ c κs. search needs)
+    (λ c κs. tt)
     -- alike-older-requires
-    (λ c κs. search needs)
+    (λ c κs. tt)
     -- returns
     (λ c. λ s w. c .alike-older .ensures (omega (arith, w .count)) ∙ ap (alikeNewest (older (configurationOf (c .before .before .args .cube) .memory .channel))) (c .before .newest-with .ensures s w)))

@@ -18,7 +18,7 @@ met-older-spec = tie.close (tie.spec
     -- array-copy-out-message
     (λ c. search needs)
     -- met-with-requires
-    (λ c κs. search needs)
+    (λ c κs. tt)
     -- mul-next
     (λ c. search needs)
     -- array-set-from-next

@@ -25,9 +25,9 @@ before-arw-spec = tie.close (tie.spec
     -- returns-3
     (λ c. λ s x w a h. absurd (omega (arith, c .if3 .taken, w .count)))
     -- newest-with-requires
-    (λ c κs. search needs)
+    (λ c κs. tt)
     -- met-older-requires
-    (λ c κs. search needs)
+    (λ c κs. tt)
     -- element-write-next
     (λ c. omega (arith, c .before .before .before .before .if1 .left))
     -- sub-next

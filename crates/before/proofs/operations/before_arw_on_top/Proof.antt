@@ -19,11 +19,11 @@ before-arw-on-top-spec = tie.close (tie.spec
     -- returns
     (λ c. λ s x w a. absurd (omega (arith, c .if1 .taken, few w (c .before .args .p) a)))
     -- newest-with-requires
-    (λ c κs. search needs)
+    (λ c κs. tt)
     -- cast-t12
     (λ c. search needs)
     -- with-newest-requires
-    (λ c κs. search needs)
+    (λ c κs. tt)
     -- element-write-next
     (λ c. omega (arith, c .before .before .if1 .left))
     -- returns-2

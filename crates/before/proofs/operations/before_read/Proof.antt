@@ -22,13 +22,13 @@ before-read-spec = tie.close (tie.spec
     -- returns-2
     (λ c. λ s w g a b. absurd (omega (arith, c .if2 .taken, less w (c .before .before .args .v) b)))
     -- queue-at-requires
-    (λ c κs. search needs)
+    (λ c κs. tt)
     -- is-empty-requires
-    (λ c κs. search needs)
+    (λ c κs. tt)
     -- with-last-requires
-    (λ c κs. search needs)
+    (λ c κs. tt)
     -- with-queue-requires
-    (λ c κs. search needs)
+    (λ c κs. tt)
     -- returns-3
     (λ c. λ s w g a b. let k = few w (c .before .before .before .before .before .before .before .before .args .p) a in let l = less w (c .before .before .before .before .before .before .before .before .args .v) b in let o : c .before .before .before .before .queue-at .result .count ≤ 9 = omega (arith, few-wait w (c .before .before .before .before .before .before .before .before .args .p) (c .before .before .before .before .before .before .before .before .args .v) k l (c .before .before .before .before .queue-at .ensures .1 k l)) in let m : length ((c .before .before .before .before .before .before .before .before .args .cube) .states) ≡ 4 = search needs in let n : length ((c .before .before .before .before .before .before .before .before .args .cube) .queues) ≡ 16 = search (needs, length-mapped, c .before .before .before .before .before .before .before .before .good .0) in read-waiting w (c .before .before .before .before .before .before .before .before .args .p) (c .before .before .before .before .before .before .before .before .args .from) (c .before .before .before .before .before .before .before .before .args .v) (c .before .before .before .before .before .before .before .before .args .x) (ap isEmpty (sym (c .before .before .before .before .queue-at .ensures .0)) ∙ sym (c .before .before .before .is-empty .ensures) ∙ not-true (c .before .before .before .is-empty .result) (c .before .before .if3 .taken)) (requeued w (c .before .before .before .before .before .before .before .before .args .p) (c .before .before .before .before .before .before .before .before .args .from) (c .before .before .before .before .before .before .before .before .args .v) k l m n (subst (λ (xs : List ℕ). Waits (c .before .with-last .result) (withLast xs (c .before .before .before .before .before .before .before .before .args .x))) (c .before .before .before .before .queue-at .ensures .0) (c .before .with-last .ensures o)) (c .with-queue .ensures k l)))
     -- mul-wide
@@ -38,9 +38,9 @@ before-read-spec = tie.close (tie.spec
     -- array-read-wide
     (λ c. omega (arith, c .before .before .before .before .before .if1 .left, c .before .before .before .before .if2 .left))
     -- wide-requires
-    (λ c κs. search needs)
+    (λ c κs. tt)
     -- with-value-in-requires
-    (λ c κs. search needs)
+    (λ c κs. tt)
     -- element-write-next
     (λ c. omega (arith, c .before .before .before .before .before .before .before .if1 .left))
     -- returns-4

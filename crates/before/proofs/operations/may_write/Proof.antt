@@ -10,8 +10,8 @@ use Rattle.before.proofs.operations.may_write.Tie as tie
 pub may-write-spec : {M : Type 1} → statement M
 may-write-spec = tie.close (tie.spec
     -- queue-at-requires
-    (λ c κs. search needs)
+    (λ c κs. tt)
     -- ends-alike-requires
-    (λ c κs. search needs)
+    (λ c κs. tt)
     -- returns
     (λ c. c .ends-alike .ensures ∙ ap (λ (xs : List ℕ). endsAlike (newestWaiting xs) (c .before .before .before .args .x)) (c .before .queue-at .ensures .0)))

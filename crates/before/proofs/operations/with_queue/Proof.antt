@@ -12,7 +12,7 @@ with-queue-spec = tie.close (tie.spec
     -- returns-2
     (λ c. λ a b. absurd (omega (arith, c .if2 .taken)))
     -- put-queue-requires
-    (λ c κs. search needs)
+    (λ c κs. tt)
     -- element-write-next
     (λ c. search needs)
     -- returns-3

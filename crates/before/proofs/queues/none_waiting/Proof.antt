@@ -22,13 +22,13 @@ none-waiting-spec = tie.close (tie.spec
     Inv-loop
     μ-loop
     -- least-requires
-    (λ c κs. search needs)
+    (λ c κs. tt)
     -- loop-holds
     (λ c. each-begin (λ u. isEmpty (queueOf ((c .before .before .args .cube) .queues) (c .before .before .args .p) u)) true (c .before .least .result))
     -- queue-at-requires
-    (λ c κs. search needs)
+    (λ c κs. tt)
     -- is-empty-requires
-    (λ c κs. search needs)
+    (λ c κs. tt)
     -- returns
     (λ c. sym (all-false ((c .before .before .before .before .before .before .before .args .shape) .variables) (λ u. isEmpty (queueOf ((c .before .before .before .before .before .before .before .args .cube) .queues) (c .before .before .before .before .before .before .before .args .p) u)) (c .before .before .before .before .loop .v) (omega (arith, c .before .before .before .loop-test .taken, c .before .before .before .before .before .before .least .ensures)) (ap isEmpty (sym (c .before .before .queue-at .ensures .0)) ∙ sym (c .before .is-empty .ensures) ∙ not-true (c .before .is-empty .result) (c .if1 .taken))))
     -- add-v

@@ -10,7 +10,7 @@ use Rattle.before.proofs.queues.put_queue.Tie as tie
 pub put-queue-spec : {M : Type 1} → statement M
 put-queue-spec = tie.close (tie.spec
     -- both-requires
-    (λ c κs. search needs)
+    (λ c κs. tt)
     -- returns
     (λ c. λ a b. absurd (outside (c .before .before .args .p) (c .before .before .args .v) a b (sym (c .before .both .ensures) ∙ not-true (c .before .both .result) (c .if1 .taken))))
     -- mul-at

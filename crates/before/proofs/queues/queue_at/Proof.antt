@@ -12,7 +12,7 @@ use Rattle.before.proofs.queues.queue_at.Tie as tie
 pub queue-at-spec : {M : Type 1} → statement M
 queue-at-spec = tie.close (tie.spec
     -- both-requires
-    (λ c κs. search needs)
+    (λ c κs. tt)
     -- returns
     (λ c. (sym (queue-none (c .before .before .args .t1) (c .before .before .args .p) (c .before .before .args .v) (sym (c .before .both .ensures) ∙ not-true (c .before .both .result) (c .if1 .taken))), λ a b. absurd (outside (c .before .before .args .p) (c .before .before .args .v) a b (sym (c .before .both .ensures) ∙ not-true (c .before .both .result) (c .if1 .taken)))))
     -- mul-at

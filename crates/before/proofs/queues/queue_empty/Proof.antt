@@ -7,8 +7,8 @@ use Rattle.before.proofs.queues.queue_empty.Tie as tie
 pub queue-empty-spec : {M : Type 1} → statement M
 queue-empty-spec = tie.close (tie.spec
     -- queue-at-requires
-    (λ c κs. search needs)
+    (λ c κs. tt)
     -- is-empty-requires
-    (λ c κs. search needs)
+    (λ c κs. tt)
     -- returns
     (λ c. c .is-empty .ensures ∙ ap isEmpty (c .before .queue-at .ensures .0)))

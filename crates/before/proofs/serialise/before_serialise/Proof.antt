@@ -20,11 +20,11 @@ before-serialise-spec = tie.close (tie.spec
     -- returns-2
     (λ c. λ s w a b h. absurd (omega (arith, c .if2 .taken, w .count)))
     -- waiting-again-requires
-    (λ c κs. search needs)
+    (λ c κs. tt)
     -- newest-with-requires
-    (λ c κs. search needs)
+    (λ c κs. tt)
     -- met-older-requires
-    (λ c κs. search needs)
+    (λ c κs. tt)
     -- sub-next
     (λ c. omega (arith, c .before .before .before .before .if1 .left))
     -- returns-3

@@ -9,8 +9,8 @@ use Rattle.before.proofs.serialise.may_serialise.Tie as tie
 pub may-serialise-spec : {M : Type 1} → statement M
 may-serialise-spec = tie.close (tie.spec
     -- none-at-newest-requires
-    (λ c κs. search needs)
+    (λ c κs. tt)
     -- both-requires
-    (λ c κs. search needs)
+    (λ c κs. tt)
     -- returns
     (λ c. c .both .ensures ∙ ap₂ _&&_ (ap (ltb 1) (sym (channel-length ((c .before .before .before .args .cube) .messages) ((c .before .before .before .args .cube) .count)))) (c .before .none-at-newest .ensures)))

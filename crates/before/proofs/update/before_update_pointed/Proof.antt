@@ -16,12 +16,12 @@ before-update-pointed-spec = tie.close (tie.spec
     -- array-read-z
     (λ c. omega (arith, c .before .if1 .left))
     -- raised-requires
-    (λ c κs. search needs)
+    (λ c κs. tt)
     -- array-write-moved
     (λ c. omega (arith, c .before .before .if1 .left))
     -- any-message-requires
-    (λ c κs. search needs)
+    (λ c κs. tt)
     -- inserted-requires
-    (λ c κs. search needs)
+    (λ c κs. tt)
     -- returns-2
     (λ c. λ w a. let k = few w (c .before .before .before .before .before .args .p) a in let n : length (c .before .before .raised .result) ≡ 4 = search needs in let l : (c .before .before .before .before .before .args .cube) .count < 20 = omega (arith, w .count) in inserted-cube (sound-cube w) (rw (c .before .any-message .ensures) at (c .inserted .ensures (w .pointer (c .before .before .before .before .before .args .p) a) (omega (arith, w .pointers (c .before .before .before .before .before .args .p) k)) l)) (four-put (c .before .before .raised .result) (c .before .before .before .before .before .args .p) (getD ((c .before .before .before .before .before .args .cube) .pointers) (c .before .before .before .before .before .args .p) 0) (omega arith) ∙ ap (λ (f : ℕ → ℕ). put f (c .before .before .before .before .before .args .p) (getD ((c .before .before .before .before .before .args .cube) .pointers) (c .before .before .before .before .before .args .p) 0)) (c .before .before .raised .ensures (low w) (w .pointer (c .before .before .before .before .before .args .p) a))) l))

@@ -31,15 +31,15 @@ insides-held-spec = tie.close (tie.spec
     Inv-loop
     μ-loop
     -- older-write-requires
-    (λ c κs. search needs)
+    (λ c κs. tt)
     -- least-requires
-    (λ c κs. search needs)
+    (λ c κs. tt)
     -- loop-holds
     (λ c. passed-begin (Families (shapeOf (c .before .before .before .before .before .before .args .program .shape)) (entriesOf (c .before .before .before .before .before .before .args .file .now) (c .before .before .before .before .before .before .args .list .now) (c .before .before .before .before .before .before .args .n)) (c .before .before .before .before .before .before .args .families .now) × (g : List ℕ) × Serialising g (c .before .before .before .before .before .before .args .file .now) (c .before .before .before .before .before .before .args .list .now) (c .before .before .before .before .before .before .args .sum .now) (c .before .before .before .before .before .before .args .n) (c .before .before .before .before .before .before .args .program) (c .before .before .before .before .before .before .args .cube) (c .before .before .before .before .before .before .args .p) (c .before .before .before .before .before .before .args .v) × (serialiseKind ((configurationOf (c .before .before .before .before .before .before .args .cube)) .memory) (c .before .before .before .before .before .before .args .p) (c .before .before .before .before .before .before .args .v) undone ≡ true)) (λ q. cond (ltb (lastWrite (withoutNewest ((configurationOf (c .before .before .before .before .before .before .args .cube)) .memory)) (c .before .before .before .before .before .before .args .p) (c .before .before .before .before .before .before .args .v)) q) (held (shapeOf ((c .before .before .before .before .before .before .args .program) .shape)) (entriesOf (c .before .before .before .before .before .before .args .file .now) (c .before .before .before .before .before .before .args .list .now) (c .before .before .before .before .before .before .args .n)) (serialiseBefore (shapeOf ((c .before .before .before .before .before .before .args .program) .shape)) (configurationOf (c .before .before .before .before .before .before .args .cube)) (c .before .before .before .before .before .before .args .p) (c .before .before .before .before .before .before .args .v) (inside q))) true) (c .least .result))
     -- cast-inside-held
     (λ c. omega (arith, c .loop-test .taken, c .before .before .least .ensures))
     -- inside-held-requires
-    (λ c κs. search needs)
+    (λ c κs. tt)
     -- returns
     (λ c. λ Y g Z u. let e = c .before .before .before .before .before .older-write .ensures ((c .before .before .before .before .before .before .before .before .before .before .args .program) .shape) (Z .walkable .stepping .sound) in let l : c .before .before .before .loop .k < (c .before .before .before .before .before .before .before .before .before .before .args .cube) .count = omega (arith, c .before .before .loop-test .taken, c .before .before .before .before .least .ensures) in sym (all-false ((c .before .before .before .before .before .before .before .before .before .before .args .cube) .count) (λ q. cond (ltb (lastWrite (withoutNewest ((configurationOf (c .before .before .before .before .before .before .before .before .before .before .args .cube)) .memory)) (c .before .before .before .before .before .before .before .before .before .before .args .p) (c .before .before .before .before .before .before .before .before .before .before .args .v)) q) (held (shapeOf ((c .before .before .before .before .before .before .before .before .before .before .args .program) .shape)) (entriesOf (c .before .before .before .before .before .before .before .before .before .before .args .file .now) (c .before .before .before .before .before .before .before .before .before .before .args .list .now) (c .before .before .before .before .before .before .before .before .before .before .args .n)) (serialiseBefore (shapeOf ((c .before .before .before .before .before .before .before .before .before .before .args .program) .shape)) (configurationOf (c .before .before .before .before .before .before .before .before .before .before .args .cube)) (c .before .before .before .before .before .before .before .before .before .before .args .p) (c .before .before .before .before .before .before .before .before .before .before .args .v) (inside q))) true) (c .before .before .before .loop .k) l (ap (λ (w : ℕ). cond (ltb w (c .before .before .before .loop .k)) (held (shapeOf ((c .before .before .before .before .before .before .before .before .before .before .args .program) .shape)) (entriesOf (c .before .before .before .before .before .before .before .before .before .before .args .file .now) (c .before .before .before .before .before .before .before .before .before .before .args .list .now) (c .before .before .before .before .before .before .before .before .before .before .args .n)) (serialiseBefore (shapeOf ((c .before .before .before .before .before .before .before .before .before .before .args .program) .shape)) (configurationOf (c .before .before .before .before .before .before .before .before .before .before .args .cube)) (c .before .before .before .before .before .before .before .before .before .before .args .p) (c .before .before .before .before .before .before .before .before .before .before .args .v) (inside (c .before .before .before .loop .k)))) true) (sym e) ∙ sym (c .before .inside-held .ensures Y g Z u e l) ∙ not-true (c .before .inside-held .result) (c .if1 .taken))))
     -- add-k

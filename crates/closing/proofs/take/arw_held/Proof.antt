@@ -27,21 +27,21 @@ arw-held-spec = tie.close (tie.spec
     Inv-loop
     μ-loop
     -- may-swap-requires
-    (λ c κs. search needs)
+    (λ c κs. tt)
     -- returns
     (λ c. λ Y g W j A. arw-none g (c .before .before .before .before .before .before .before .args .file .now) (c .before .before .before .before .before .before .before .args .list .now) (c .before .before .before .before .before .before .before .args .sum .now) (c .before .before .before .before .before .before .before .args .n) (c .before .before .before .before .before .before .before .args .program) (c .before .before .before .before .before .before .before .args .cube) W j (c .before .before .before .before .before .before .before .args .p) (c .before .before .before .before .before .before .before .args .from) (c .before .before .before .before .before .before .before .args .v) (c .before .before .before .before .before .before .before .args .old) (c .before .before .before .before .before .before .before .args .x) A (sym (c .before .may-swap .ensures (W .stepping .sound)) ∙ not-true (c .before .may-swap .result) (c .if1 .taken)))
     -- unswapped-held-requires
-    (λ c κs. search needs)
+    (λ c κs. tt)
     -- returns-2
     (λ c. λ Y g W j A. let z = sym (c .before .before .before .may-swap .ensures (W .stepping .sound)) ∙ not-false (c .before .before .before .may-swap .result) (c .before .before .if1 .left) in undone-fails g (c .before .before .before .before .before .before .before .before .before .args .file .now) (c .before .before .before .before .before .before .before .before .before .args .list .now) (c .before .before .before .before .before .before .before .before .before .args .sum .now) (c .before .before .before .before .before .before .before .before .before .args .n) (c .before .before .before .before .before .before .before .before .before .args .program) (c .before .before .before .before .before .before .before .before .before .args .cube) W j (c .before .before .before .before .before .before .before .before .before .args .p) (c .before .before .before .before .before .before .before .before .before .args .from) (c .before .before .before .before .before .before .before .before .before .args .v) (c .before .before .before .before .before .before .before .before .before .args .old) (c .before .before .before .before .before .before .before .before .before .args .x) A z (sym (c .before .unswapped-held .ensures Y g W j A z) ∙ not-true (c .before .unswapped-held .result) (c .if2 .taken)))
     -- least-requires
-    (λ c κs. search needs)
+    (λ c κs. tt)
     -- loop-holds
     (λ c. passed-begin (Families (shapeOf (c .before .before .before .before .before .before .before .before .before .before .args .program .shape)) (entriesOf (c .before .before .before .before .before .before .before .before .before .before .args .file .now) (c .before .before .before .before .before .before .before .before .before .before .args .list .now) (c .before .before .before .before .before .before .before .before .before .before .args .n)) (c .before .before .before .before .before .before .before .before .before .before .args .families .now) × Swapping (c .before .before .before .before .before .before .before .before .before .before .args .file .now) (c .before .before .before .before .before .before .before .before .before .before .args .list .now) (c .before .before .before .before .before .before .before .before .before .before .args .sum .now) (c .before .before .before .before .before .before .before .before .before .before .args .n) (c .before .before .before .before .before .before .before .before .before .before .args .program) (c .before .before .before .before .before .before .before .before .before .before .args .cube) (c .before .before .before .before .before .before .before .before .before .before .args .p) (c .before .before .before .before .before .before .before .before .before .before .args .from) (c .before .before .before .before .before .before .before .before .before .before .args .v) (c .before .before .before .before .before .before .before .before .before .before .args .old) (c .before .before .before .before .before .before .before .before .before .before .args .x)) (λ q. held (shapeOf ((c .before .before .before .before .before .before .before .before .before .before .args .program) .shape)) (entriesOf (c .before .before .before .before .before .before .before .before .before .before .args .file .now) (c .before .before .before .before .before .before .before .before .before .before .args .list .now) (c .before .before .before .before .before .before .before .before .before .before .args .n)) (takeBefore (configurationOf (c .before .before .before .before .before .before .before .before .before .before .args .cube)) (c .before .before .before .before .before .before .before .before .before .before .args .p) (c .before .before .before .before .before .before .before .before .before .before .args .from) (Arw (c .before .before .before .before .before .before .before .before .before .before .args .v) (c .before .before .before .before .before .before .before .before .before .before .args .old) (c .before .before .before .before .before .before .before .before .before .before .args .x)) (onTop q))) (c .least .result))
     -- cast-on-top-held
     (λ c. omega (arith, c .loop-test .taken, c .before .before .least .ensures))
     -- on-top-held-requires
-    (λ c κs. search needs)
+    (λ c κs. tt)
     -- returns-3
     (λ c. λ Y g W j A. let z = sym (c .before .before .before .before .before .before .before .before .may-swap .ensures (W .stepping .sound)) ∙ not-false (c .before .before .before .before .before .before .before .before .may-swap .result) (c .before .before .before .before .before .before .before .if1 .left) in let l : c .before .before .before .loop .u < (c .before .before .before .before .before .before .before .before .before .before .before .before .before .before .args .program) .shape .variables = omega (arith, c .before .before .loop-test .taken, c .before .before .before .before .least .ensures) in take-false g (c .before .before .before .before .before .before .before .before .before .before .before .before .before .before .args .file .now) (c .before .before .before .before .before .before .before .before .before .before .before .before .before .before .args .list .now) (c .before .before .before .before .before .before .before .before .before .before .before .before .before .before .args .sum .now) (c .before .before .before .before .before .before .before .before .before .before .before .before .before .before .args .n) (c .before .before .before .before .before .before .before .before .before .before .before .before .before .before .args .program) (c .before .before .before .before .before .before .before .before .before .before .before .before .before .before .args .cube) W j (c .before .before .before .before .before .before .before .before .before .before .before .before .before .before .args .p) (c .before .before .before .before .before .before .before .before .before .before .before .before .before .before .args .from) (Arw (c .before .before .before .before .before .before .before .before .before .before .before .before .before .before .args .v) (c .before .before .before .before .before .before .before .before .before .before .before .before .before .before .args .old) (c .before .before .before .before .before .before .before .before .before .before .before .before .before .before .args .x)) A (onTop (c .before .before .before .loop .u)) (top-has g (c .before .before .before .before .before .before .before .before .before .before .before .before .before .before .args .file .now) (c .before .before .before .before .before .before .before .before .before .before .before .before .before .before .args .list .now) (c .before .before .before .before .before .before .before .before .before .before .before .before .before .before .args .sum .now) (c .before .before .before .before .before .before .before .before .before .before .before .before .before .before .args .n) (c .before .before .before .before .before .before .before .before .before .before .before .before .before .before .args .program) (c .before .before .before .before .before .before .before .before .before .before .before .before .before .before .args .cube) W j (c .before .before .before .before .before .before .before .before .before .before .before .before .before .before .args .p) (c .before .before .before .before .before .before .before .before .before .before .before .before .before .before .args .from) (c .before .before .before .before .before .before .before .before .before .before .before .before .before .before .args .v) (c .before .before .before .before .before .before .before .before .before .before .before .before .before .before .args .old) (c .before .before .before .before .before .before .before .before .before .before .before .before .before .before .args .x) A z (c .before .before .before .loop .u) l) (sym (c .before .on-top-held .ensures Y g W j A z l) ∙ not-true (c .before .on-top-held .result) (c .if3 .taken)))
     -- add-u

@@ -8,27 +8,27 @@ taken-held-spec = tie.close (tie.spec
     -- enum-told
     (λ c. search needs)
     -- nop-held-requires
-    (λ c κs. search needs)
+    (λ c κs. tt)
     -- enum-known-operation
     (λ c. search needs)
     -- read-held-requires
-    (λ c κs. search needs)
+    (λ c κs. tt)
     -- enum-known-operation-2
     (λ c. search needs)
     -- write-held-requires
-    (λ c κs. search needs)
+    (λ c κs. tt)
     -- enum-told-2
     (λ c. search needs)
     -- mfence-held-requires
-    (λ c κs. search needs)
+    (λ c κs. tt)
     -- enum-told-3
     (λ c. search needs)
     -- sfence-held-requires
-    (λ c κs. search needs)
+    (λ c κs. tt)
     -- enum-known-operation-3
     (λ c. search needs)
     -- arw-held-requires
-    (λ c κs. search needs)
+    (λ c κs. tt)
     -- returns
     (λ c. λ Y g W w j l e a. c .nop-held .ensures Y g W j (acting g (c .before .before .before .before .before .before .before .args .file .now) (c .before .before .before .before .before .before .before .args .list .now) (c .before .before .before .before .before .before .before .args .n) (c .before .before .before .before .before .before .before .args .program) (c .before .before .before .before .before .before .before .args .cube) j (c .before .before .before .before .before .before .before .args .transition) e l a (c .before .enum-told .given .1)))
     -- returns-2

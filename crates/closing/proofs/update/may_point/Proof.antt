@@ -12,10 +12,10 @@ may-point-spec = tie.close (tie.spec
     -- returns
     (λ c. λ l. absurd (omega (arith, c .if1 .taken)))
     -- both-requires
-    (λ c κs. search needs)
+    (λ c κs. tt)
     -- array-read-both
     (λ c. omega (arith, c .before .before .before .if1 .left))
     -- both-requires-2
-    (λ c κs. search needs)
+    (λ c κs. tt)
     -- returns-2
     (λ c. λ l. c .both2 .ensures ∙ ap (λ (b : Bool). b && leb (c .before .before .before .before .before .args .pointer) (getD (c .before .before .before .before .before .args .t2) (c .before .before .before .before .before .args .i) 0)) (c .before .both .ensures)))

@@ -15,8 +15,8 @@ pointed-held-spec = tie.close (tie.spec
     -- cast-before-update-pointed-2
     (λ c. omega (arith, c .before .if1 .left))
     -- before-update-pointed-requires
-    (λ c κs. search needs)
+    (λ c κs. tt)
     -- search-requires
-    (λ c κs. search needs)
+    (λ c κs. tt)
     -- returns-2
     (λ c. λ g W l m k. update-searched g (c .before .before .before .before .before .before .before .args .file .now) (c .before .before .before .before .before .before .before .args .list .now) (c .before .before .before .before .before .before .before .args .sum .now) (c .before .before .before .before .before .before .before .args .n) (c .before .before .before .before .before .before .before .args .program) (c .before .before .before .before .before .before .before .args .cube) W (c .before .before .before .before .before .before .before .args .p) l (pointed ((c .before .before .before .before .before .before .before .args .i) / 4) ((c .before .before .before .before .before .before .before .args .i) % 4)) k (c .before .before-update-pointed .ensures (W .stepping .sound) l) (c .search .ensures .1)))

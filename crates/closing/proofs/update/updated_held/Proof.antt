@@ -28,15 +28,15 @@ updated-held-spec = tie.close (tie.spec
     Inv-loop
     μ-loop
     -- unpointed-held-requires
-    (λ c κs. search needs)
+    (λ c κs. tt)
     -- returns
     (λ c. λ g W w l. undone-fails g (c .before .before .before .before .before .args .file .now) (c .before .before .before .before .before .args .list .now) (c .before .before .before .before .before .args .sum .now) (c .before .before .before .before .before .args .n) (c .before .before .before .before .before .args .program) (c .before .before .before .before .before .args .cube) W (c .before .before .before .before .before .args .p) l (sym (c .before .unpointed-held .ensures g W l) ∙ not-true (c .before .unpointed-held .result) (c .if1 .taken)))
     -- of-four-requires
-    (λ c κs. search needs)
+    (λ c κs. tt)
     -- loop-holds
     (λ c. passed-begin ((g : List ℕ) × Walkable g (c .before .before .before .before .before .before .before .before .args .file .now) (c .before .before .before .before .before .before .before .before .args .list .now) (c .before .before .before .before .before .before .before .before .args .sum .now) (c .before .before .before .before .before .before .before .before .args .n) (c .before .before .before .before .before .before .before .before .args .program) (c .before .before .before .before .before .before .before .before .args .cube) × LastWrites (c .before .before .before .before .before .before .before .before .args .writes) ((configurationOf (c .before .before .before .before .before .before .before .before .args .cube)) .memory) × ((c .before .before .before .before .before .before .before .before .args .p) < (c .before .before .before .before .before .before .before .before .args .program) .shape .processes)) (λ q. cond (updateKind (shapeOf ((c .before .before .before .before .before .before .before .before .args .program) .shape)) ((configurationOf (c .before .before .before .before .before .before .before .before .args .cube)) .memory) (c .before .before .before .before .before .before .before .before .args .p) (pointed (q / 4) (q % 4))) (held (shapeOf ((c .before .before .before .before .before .before .before .before .args .program) .shape)) (entriesOf (c .before .before .before .before .before .before .before .before .args .file .now) (c .before .before .before .before .before .before .before .before .args .list .now) (c .before .before .before .before .before .before .before .before .args .n)) (updateBefore (shapeOf ((c .before .before .before .before .before .before .before .before .args .program) .shape)) (configurationOf (c .before .before .before .before .before .before .before .before .args .cube)) (c .before .before .before .before .before .before .before .before .args .p) (pointed (q / 4) (q % 4)))) true) 16)
     -- may-point-requires
-    (λ c κs. search needs)
+    (λ c κs. tt)
     -- add-i
     (λ c. omega (arith, c .before .before .loop-test .taken))
     -- loop-less
@@ -44,7 +44,7 @@ updated-held-spec = tie.close (tie.spec
     -- loop-again
     (λ c. passed-next (c .before .before .before .loop .inv) (c .before .before .loop-test .taken) (λ X. pointed-absent (X .0) (c .before .before .before .before .before .before .before .before .before .before .before .before .args .file .now) (c .before .before .before .before .before .before .before .before .before .before .before .before .args .list .now) (c .before .before .before .before .before .before .before .before .before .before .before .before .args .sum .now) (c .before .before .before .before .before .before .before .before .before .before .before .before .args .n) (c .before .before .before .before .before .before .before .before .before .before .before .before .args .program) (c .before .before .before .before .before .before .before .before .before .before .before .before .args .cube) (X .1) (c .before .before .before .before .before .before .before .before .before .before .before .before .args .p) (X .3) (c .before .before .before .loop .i) (sym (label-kind (X .0) (c .before .before .before .before .before .before .before .before .before .before .before .before .args .file .now) (c .before .before .before .before .before .before .before .before .before .before .before .before .args .list .now) (c .before .before .before .before .before .before .before .before .before .before .before .before .args .sum .now) (c .before .before .before .before .before .before .before .before .before .before .before .before .args .n) (c .before .before .before .before .before .before .before .before .before .before .before .before .args .program) (c .before .before .before .before .before .before .before .before .before .before .before .before .args .cube) (X .1) (c .before .before .before .before .before .before .before .before .before .before .before .before .args .p) (X .3) (c .before .before .before .before .before .before .before .before .before .before .before .before .args .writes) (X .2) (c .before .before .before .loop .i) (c .before .before .loop-test .taken)) ∙ sym (rw (c .before .before .before .before .of-four .ensures) at (c .before .may-point .ensures (c .before .before .loop-test .taken))) ∙ not-true (c .before .may-point .result) (c .if2 .taken))))
     -- pointed-held-requires
-    (λ c κs. search needs)
+    (λ c κs. tt)
     -- returns-2
     (λ c. λ g W w l. let k = sym (label-kind g (c .before .before .before .before .before .before .before .before .before .before .before .before .before .before .args .file .now) (c .before .before .before .before .before .before .before .before .before .before .before .before .before .before .args .list .now) (c .before .before .before .before .before .before .before .before .before .before .before .before .before .before .args .sum .now) (c .before .before .before .before .before .before .before .before .before .before .before .before .before .before .args .n) (c .before .before .before .before .before .before .before .before .before .before .before .before .before .before .args .program) (c .before .before .before .before .before .before .before .before .before .before .before .before .before .before .args .cube) W (c .before .before .before .before .before .before .before .before .before .before .before .before .before .before .args .p) l (c .before .before .before .before .before .before .before .before .before .before .before .before .before .before .args .writes) w (c .before .before .before .before .before .loop .i) (c .before .before .before .before .loop-test .taken)) ∙ sym (rw (c .before .before .before .before .before .before .of-four .ensures) at (c .before .before .before .may-point .ensures (c .before .before .before .before .loop-test .taken))) ∙ not-false (c .before .before .before .may-point .result) (c .before .before .if2 .left) in pointed-fails g (c .before .before .before .before .before .before .before .before .before .before .before .before .before .before .args .file .now) (c .before .before .before .before .before .before .before .before .before .before .before .before .before .before .args .list .now) (c .before .before .before .before .before .before .before .before .before .before .before .before .before .before .args .sum .now) (c .before .before .before .before .before .before .before .before .before .before .before .before .before .before .args .n) (c .before .before .before .before .before .before .before .before .before .before .before .before .before .before .args .program) (c .before .before .before .before .before .before .before .before .before .before .before .before .before .before .args .cube) W (c .before .before .before .before .before .before .before .before .before .before .before .before .before .before .args .p) l (c .before .before .before .before .before .loop .i) (pointed-there g (c .before .before .before .before .before .before .before .before .before .before .before .before .before .before .args .file .now) (c .before .before .before .before .before .before .before .before .before .before .before .before .before .before .args .list .now) (c .before .before .before .before .before .before .before .before .before .before .before .before .before .before .args .sum .now) (c .before .before .before .before .before .before .before .before .before .before .before .before .before .before .args .n) (c .before .before .before .before .before .before .before .before .before .before .before .before .before .before .args .program) (c .before .before .before .before .before .before .before .before .before .before .before .before .before .before .args .cube) W (c .before .before .before .before .before .before .before .before .before .before .before .before .before .before .args .p) l (c .before .before .before .before .before .loop .i) k (c .before .pointed-held .ensures g W l (c .before .before .before .before .loop-test .taken) k) ∙ not-true (c .before .pointed-held .result) (c .if3 .taken)))
     -- add-i-2

@@ -5,10 +5,10 @@ use Rattle.drawing.proofs.label.is_small.Statement.{statement}
 use Rattle.drawing.proofs.label.is_small.Tie as tie
 
 byte-at-requires : tie.Need-byte-at-requires
-byte-at-requires c κs = search needs
+byte-at-requires c κs = tt
 
 both-requires : tie.Need-both-requires
-both-requires c κs = search needs
+both-requires c κs = tt
 
 returns : tie.Need-returns
 unfolding isDigit isSmall

@@ -6,7 +6,7 @@ use Rattle.drawing.proofs.label.label_at.Statement.{statement}
 use Rattle.drawing.proofs.label.label_at.Tie as tie
 
 has-requires : tie.Need-has-requires
-has-requires c κs = search needs
+has-requires c κs = tt
 
 add-number-at : tie.Need-add-number-at
 add-number-at c = omega (arith, c .before .before .before .pre)
@@ -19,7 +19,7 @@ unfolding labelAt
 returns c = rw (sym (c .before .before .has .ensures) ∙ c .before .if1 .taken) (c .number-at .ensures)
 
 has-requires-2 : tie.Need-has-requires-2
-has-requires-2 c κs = search needs
+has-requires-2 c κs = tt
 
 add-pair-at : tie.Need-add-pair-at
 add-pair-at c = omega (arith, c .before .before .before .before .before .pre)
@@ -32,7 +32,7 @@ unfolding labelAt
 returns-2 c = rw (sym (c .before .before .before .before .has .ensures) ∙ c .before .before .before .if1 .left, sym (c .before .before .has2 .ensures) ∙ c .before .if2 .taken) (c .pair-at .ensures)
 
 has-requires-3 : tie.Need-has-requires-3
-has-requires-3 c κs = search needs
+has-requires-3 c κs = tt
 
 add-process-at : tie.Need-add-process-at
 add-process-at c = omega (arith, c .before .before .before .before .before .before .before .pre)

@@ -7,13 +7,13 @@ use Rattle.drawing.proofs.label.number_at.Statement.{statement}
 use Rattle.drawing.proofs.label.number_at.Tie as tie
 
 is-digit-requires : tie.Need-is-digit-requires
-is-digit-requires c κs = search needs
+is-digit-requires c κs = tt
 
 add-second-digit : tie.Need-add-second-digit
 add-second-digit c = omega (arith, c .before .before .before .pre)
 
 value-at-requires : tie.Need-value-at-requires
-value-at-requires c κs = search needs
+value-at-requires c κs = tt
 
 second-digit-requires : tie.Need-second-digit-requires
 second-digit-requires c κs = (omega (arith, c .before .before .before .before .pre), c .value-at .ensures .1)

@@ -7,13 +7,13 @@ use Rattle.drawing.proofs.label.pair_at.Statement.{statement}
 use Rattle.drawing.proofs.label.pair_at.Tie as tie
 
 is-small-requires : tie.Need-is-small-requires
-is-small-requires c κs = search needs
+is-small-requires c κs = tt
 
 add-variable-at : tie.Need-add-variable-at
 add-variable-at c = search needs
 
 value-at-requires : tie.Need-value-at-requires
-value-at-requires c κs = search needs
+value-at-requires c κs = tt
 
 variable-at-requires : tie.Need-variable-at-requires
 variable-at-requires c κs = omega (arith, c .before .before .before .before .pre)

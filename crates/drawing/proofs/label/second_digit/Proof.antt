@@ -7,10 +7,10 @@ use Rattle.drawing.proofs.label.second_digit.Statement.{statement}
 use Rattle.drawing.proofs.label.second_digit.Tie as tie
 
 is-digit-requires : tie.Need-is-digit-requires
-is-digit-requires c κs = search needs
+is-digit-requires c κs = tt
 
 both-requires : tie.Need-both-requires
-both-requires c κs = search needs
+both-requires c κs = tt
 
 add-third-digit : tie.Need-add-third-digit
 add-third-digit c = omega (arith, c .before .before .before .before .pre .0)
@@ -19,7 +19,7 @@ mul-third-digit : tie.Need-mul-third-digit
 mul-third-digit c = omega (arith, c .before .before .before .before .pre .1)
 
 value-at-requires : tie.Need-value-at-requires
-value-at-requires c κs = search needs
+value-at-requires c κs = tt
 
 add-third-digit-2 : tie.Need-add-third-digit-2
 add-third-digit-2 c = omega (arith, c .value-at .ensures .1, c .before .before .before .before .before .pre .1)

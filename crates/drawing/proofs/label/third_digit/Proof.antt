@@ -10,16 +10,16 @@ mul-c : tie.Need-mul-c
 mul-c c = search needs
 
 value-at-requires : tie.Need-value-at-requires
-value-at-requires c κs = search needs
+value-at-requires c κs = tt
 
 add-c : tie.Need-add-c
 add-c c = omega (arith, c .value-at .ensures .1, c .before .before .pre .1)
 
 is-digit-requires : tie.Need-is-digit-requires
-is-digit-requires c κs = search needs
+is-digit-requires c κs = tt
 
 both-requires : tie.Need-both-requires
-both-requires c κs = search needs
+both-requires c κs = tt
 
 add-t11 : tie.Need-add-t11
 add-t11 c = omega (arith, c .before .before .before .before .before .pre .0)

@@ -7,10 +7,10 @@ use Rattle.drawing.proofs.label.value_at.Statement.{statement}
 use Rattle.drawing.proofs.label.value_at.Tie as tie
 
 byte-at-requires : tie.Need-byte-at-requires
-byte-at-requires c κs = search needs
+byte-at-requires c κs = tt
 
 wide-requires : tie.Need-wide-requires
-wide-requires c κs = search needs
+wide-requires c κs = tt
 
 returns : tie.Need-returns
 unfolding valueAt

@@ -9,10 +9,10 @@ use Rattle.drawing.proofs.label.variable_at.Statement.{statement}
 use Rattle.drawing.proofs.label.variable_at.Tie as tie
 
 is-small-requires : tie.Need-is-small-requires
-is-small-requires c κs = search needs
+is-small-requires c κs = tt
 
 value-at-requires : tie.Need-value-at-requires
-value-at-requires c κs = search needs
+value-at-requires c κs = tt
 
 add-t7 : tie.Need-add-t7
 add-t7 c = omega (arith, c .before .before .before .before .pre)

@@ -6,7 +6,7 @@ use Rattle.drawing.proofs.put.step_letters.Statement.{statement}
 use Rattle.drawing.proofs.put.step_letters.Tie as tie
 
 in-range-requires : tie.Need-in-range-requires
-in-range-requires c κs = search needs
+in-range-requires c κs = tt
 
 letters-length-requires : tie.Need-letters-length-requires
 letters-length-requires c κs = is-in-range (c .before .before .before .args .step) (sym (c .before .in-range .ensures) ∙ c .if1 .taken)

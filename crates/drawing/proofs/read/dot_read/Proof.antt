@@ -10,7 +10,7 @@ use Rattle.drawing.proofs.read.dot_read.Statement.{statement}
 use Rattle.drawing.proofs.read.dot_read.Tie as tie
 
 nodes-read-requires : tie.Need-nodes-read-requires
-nodes-read-requires c κs = search needs
+nodes-read-requires c κs = tt
 
 enum-known-nodes : tie.Need-enum-known-nodes
 enum-known-nodes c = search needs
@@ -19,10 +19,10 @@ enum-told : tie.Need-enum-told
 enum-told c = search needs
 
 nodes-place-requires : tie.Need-nodes-place-requires
-nodes-place-requires c κs = search needs
+nodes-place-requires c κs = tt
 
 refused-at-requires : tie.Need-refused-at-requires
-refused-at-requires c κs = search needs
+refused-at-requires c κs = tt
 
 returns : tie.Need-returns
 returns c = let t = c .before .before .before .before .before .before .before .args .text .now in let q = says-refused (c .before .before .before .before .before .before .before .args .out .now) (recordsIn t) 27 (c .before .nodes-place .result) (no-nodes t _ (sym (c .before .before .before .before .nodes-read .ensures) ∙ c .before .before .enum-told .given .1) ∙ ap (refused 27) (sym (c .before .nodes-place .ensures ∙ ap nodesPlace (c .before .before .enum-told .given .1)))) in (c .refused-at .ensures ∙ q .0, q .1)
@@ -37,10 +37,10 @@ enum-told-2 : tie.Need-enum-told-2
 enum-told-2 c = search needs
 
 size-place-requires : tie.Need-size-place-requires
-size-place-requires c κs = search needs
+size-place-requires c κs = tt
 
 refused-at-requires-2 : tie.Need-refused-at-requires-2
-refused-at-requires-2 c κs = search needs
+refused-at-requires-2 c κs = tt
 
 returns-2 : tie.Need-returns-2
 returns-2 c = let t = c .before .before .before .before .before .before .before .before .before .before .before .args .text .now in let q = says-refused (c .before .before .before .before .before .before .before .before .before .before .before .args .out .now) (recordsIn t) 27 (c .before .size-place .result) (no-edges t _ _ (sym (c .before .before .before .before .before .before .before .before .nodes-read .ensures) ∙ c .before .before .before .before .before .before .nodes .given .1) _ (sym (c .before .before .before .before .edges-size .ensures) ∙ c .before .before .enum-told2 .given .1) ∙ ap (refused 27) (sym (c .before .size-place .ensures ∙ ap sizePlace (c .before .before .enum-told2 .given .1)))) in (c .refused-at2 .ensures ∙ q .0, q .1)

@@ -16,7 +16,7 @@ enum-told : tie.Need-enum-told
 enum-told c = search needs
 
 way-place-requires : tie.Need-way-place-requires
-way-place-requires c κs = search needs
+way-place-requires c κs = tt
 
 returns : tie.Need-returns
 unfolding edgeAt
@@ -36,7 +36,7 @@ unfolding edgeAt
 returns-2 c = rw (sym (c .before .before .before .before .before .before .expect-head .ensures) ∙ c .before .before .before .before .head .given .1, sym (c .before .before .label-at .ensures) ∙ c .enum-told2 .given .1) (c .enum-told2 .given .1)
 
 edge-end-requires : tie.Need-edge-end-requires
-edge-end-requires c κs = search needs
+edge-end-requires c κs = tt
 
 returns-3 : tie.Need-returns-3
 unfolding edgeAt

@@ -9,7 +9,7 @@ slice-aggregate-expect : tie.Need-slice-aggregate-expect
 slice-aggregate-expect c = search needs
 
 expect-requires : tie.Need-expect-requires
-expect-requires c κs = search needs
+expect-requires c κs = tt
 
 enum-known-tail : tie.Need-enum-known-tail
 enum-known-tail c = search needs
@@ -18,7 +18,7 @@ enum-told : tie.Need-enum-told
 enum-told c = search needs
 
 way-place-requires : tie.Need-way-place-requires
-way-place-requires c κs = search needs
+way-place-requires c κs = tt
 
 returns : tie.Need-returns
 unfolding edgeEnd

@@ -27,13 +27,13 @@ enum-told : tie.Need-enum-told Inv-loop μ-loop
 enum-told c = search needs
 
 edge-place-requires : tie.Need-edge-place-requires Inv-loop μ-loop
-edge-place-requires c κs = search needs
+edge-place-requires c κs = tt
 
 returns : tie.Need-returns Inv-loop μ-loop
 returns c = let e = sym (c .before .before .before .edge-at .ensures) ∙ c .before .enum-told .given .1 in ap Outside (c .edge-place .ensures ∙ ap edgePlace (c .before .enum-told .given .1)) ∙ size-stop (c .before .before .before .before .before .loop .inv) _ (c .before .before .before .before .loop-test .taken) e
 
 record-size-requires : tie.Need-record-size-requires Inv-loop μ-loop
-record-size-requires c κs = search needs
+record-size-requires c κs = tt
 
 add-total : tie.Need-add-total Inv-loop μ-loop
 add-total c = omega (arith, c .record-size .ensures, record-short (c .before .before .edge .given .0 .0), c .before .before .before .before .before .before .loop .inv .small, c .before .before .before .before .before .before .loop .inv .few, c .before .before .before .before .before .before .loop .inv .most)
@@ -48,7 +48,7 @@ loop-again : tie.Need-loop-again Inv-loop μ-loop
 loop-again c = size-next (c .before .before .before .before .before .before .loop .inv) _ _ (c .record-size .result) (c .before .before .before .before .before .loop-test .taken) (sym (c .before .before .before .before .edge-at .ensures) ∙ c .before .before .edge .given .1) (c .record-size .ensures)
 
 end-size-requires : tie.Need-end-size-requires Inv-loop μ-loop
-end-size-requires c κs = search needs
+end-size-requires c κs = tt
 
 returns-2 : tie.Need-returns-2 Inv-loop μ-loop
 returns-2 c = c .end-size .ensures ∙ size-end (c .before .before .loop .inv) (c .before .loop-test .left)

@@ -13,7 +13,7 @@ slice-aggregate-expect : tie.Need-slice-aggregate-expect
 slice-aggregate-expect c = search needs
 
 expect-requires : tie.Need-expect-requires
-expect-requires c κs = search needs
+expect-requires c κs = tt
 
 enum-known-way : tie.Need-enum-known-way
 enum-known-way c = search needs
@@ -22,7 +22,7 @@ enum-told : tie.Need-enum-told
 enum-told c = search needs
 
 way-place-requires : tie.Need-way-place-requires
-way-place-requires c κs = search needs
+way-place-requires c κs = tt
 
 returns : tie.Need-returns
 unfolding endSize recordsOf

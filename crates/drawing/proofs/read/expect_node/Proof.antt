@@ -21,7 +21,7 @@ slice-aggregate-expect : tie.Need-slice-aggregate-expect
 slice-aggregate-expect c = sym (length-take-le _ _ (omega (arith, c .before .before .put-node .ensures .after, c .before .before .put-node .ensures .room, c .before .before .put-node .kept .0)))
 
 expect-requires : tie.Need-expect-requires
-expect-requires c κs = search needs
+expect-requires c κs = tt
 
 returns : tie.Need-returns
 returns c = c .expect .ensures ∙ ap (expectAt (c .before .before .before .before .before .before .args .text .now) (c .before .before .before .before .before .before .args .at)) (put-taken (c .before .before .before .put-node .ensures))

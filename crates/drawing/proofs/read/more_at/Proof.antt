@@ -7,7 +7,7 @@ use Rattle.drawing.proofs.read.more_at.Statement.{statement}
 use Rattle.drawing.proofs.read.more_at.Tie as tie
 
 has-requires : tie.Need-has-requires
-has-requires c κs = search needs
+has-requires c κs = tt
 
 returns : tie.Need-returns
 unfolding moreAt
@@ -23,14 +23,14 @@ enum-told : tie.Need-enum-told
 enum-told c = search needs
 
 way-place-requires : tie.Need-way-place-requires
-way-place-requires c κs = search needs
+way-place-requires c κs = tt
 
 returns-2 : tie.Need-returns-2
 unfolding moreAt
 returns-2 c = rw (sym (c .before .before .before .before .before .has .ensures) ∙ c .before .before .before .before .if1 .left, sym (c .before .before .before .expect-node .ensures) ∙ c .before .enum-told .given .1) (ap NoNodes (c .way-place .ensures ∙ ap wayPlace (c .before .enum-told .given .1)))
 
 nodes-at-requires : tie.Need-nodes-at-requires
-nodes-at-requires c κs = search needs
+nodes-at-requires c κs = tt
 
 returns-3 : tie.Need-returns-3
 unfolding moreAt

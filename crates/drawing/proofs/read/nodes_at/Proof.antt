@@ -20,7 +20,7 @@ loop-holds : tie.Need-loop-holds Inv-loop μ-loop
 loop-holds c = record { some = omega arith; most = omega arith; same = refl }
 
 has-requires : tie.Need-has-requires Inv-loop μ-loop
-has-requires c κs = search needs
+has-requires c κs = tt
 
 returns : tie.Need-returns Inv-loop μ-loop
 returns c = scan-other (c .before .before .before .loop .inv) (c .before .before .loop-test .taken) (sym (c .before .has .ensures) ∙ not-true _ (c .if1 .taken))
@@ -29,7 +29,7 @@ add-has : tie.Need-add-has Inv-loop μ-loop
 add-has c = omega (arith, has-is (c .before .before .before .before .before .args .text .now) (c .before .before .before .loop .at) 99 (sym (c .before .has .ensures) ∙ not-false _ (c .if1 .left)) .0)
 
 has-requires-2 : tie.Need-has-requires-2 Inv-loop μ-loop
-has-requires-2 c κs = search needs
+has-requires-2 c κs = tt
 
 returns-2 : tie.Need-returns-2 Inv-loop μ-loop
 returns-2 c = scan-edges (c .before .before .before .before .before .loop .inv) (c .before .before .before .before .loop-test .taken) (sym (c .before .before .before .has .ensures) ∙ not-false _ (c .before .before .if1 .left)) (sym (c .before .has2 .ensures) ∙ c .if2 .taken)
@@ -47,7 +47,7 @@ enum-told : tie.Need-enum-told Inv-loop μ-loop
 enum-told c = search needs
 
 way-place-requires : tie.Need-way-place-requires Inv-loop μ-loop
-way-place-requires c κs = search needs
+way-place-requires c κs = tt
 
 returns-3 : tie.Need-returns-3 Inv-loop μ-loop
 returns-3 c = ap NoNodes (c .way-place .ensures ∙ ap wayPlace (c .before .enum-told .given .1)) ∙ scan-broken (c .before .before .before .before .before .before .before .before .before .loop .inv) (c .before .before .before .before .before .before .before .before .loop-test .taken) _ (sym (c .before .before .before .before .before .before .before .has .ensures) ∙ not-false _ (c .before .before .before .before .before .before .if1 .left)) (sym (c .before .before .before .before .before .has2 .ensures) ∙ c .before .before .before .before .if2 .left) (sym (c .before .before .before .expect-node .ensures) ∙ c .before .enum-told .given .1)

@@ -7,7 +7,7 @@ use Rattle.drawing.proofs.read.nodes_read.Statement.{statement}
 use Rattle.drawing.proofs.read.nodes_read.Tie as tie
 
 expect-opening-requires : tie.Need-expect-opening-requires
-expect-opening-requires c κs = search needs
+expect-opening-requires c κs = tt
 
 enum-known-way : tie.Need-enum-known-way
 enum-known-way c = search needs
@@ -16,7 +16,7 @@ enum-told : tie.Need-enum-told
 enum-told c = search needs
 
 way-place-requires : tie.Need-way-place-requires
-way-place-requires c κs = search needs
+way-place-requires c κs = tt
 
 returns : tie.Need-returns
 unfolding nodesRead
@@ -32,14 +32,14 @@ enum-told-2 : tie.Need-enum-told-2
 enum-told-2 c = search needs
 
 way-place-requires-2 : tie.Need-way-place-requires-2
-way-place-requires-2 c κs = search needs
+way-place-requires-2 c κs = tt
 
 returns-2 : tie.Need-returns-2
 unfolding nodesRead
 returns-2 c = rw (sym (c .before .before .before .before .before .before .before .expect-opening .ensures) ∙ c .before .before .before .before .before .way .given .1, sym (c .before .before .before .expect-node .ensures) ∙ c .before .enum-told2 .given .1) (ap NoNodes (c .way-place2 .ensures ∙ ap wayPlace (c .before .enum-told2 .given .1)))
 
 more-at-requires : tie.Need-more-at-requires
-more-at-requires c κs = search needs
+more-at-requires c κs = tt
 
 returns-3 : tie.Need-returns-3
 unfolding nodesRead

@@ -21,7 +21,7 @@ shared-slice-read-has : tie.Need-shared-slice-read-has Inv-loop μ-loop
 shared-slice-read-has c = search needs
 
 has-requires : tie.Need-has-requires Inv-loop μ-loop
-has-requires c κs = search needs
+has-requires c κs = tt
 
 add-at : tie.Need-add-at Inv-loop μ-loop
 add-at c = omega (arith, has-is (c .before .before .before .before .before .before .before .args .text .now) (c .before .before .before .before .loop .at) _ (sym (c .before .has .ensures) ∙ c .if1 .taken) .0)

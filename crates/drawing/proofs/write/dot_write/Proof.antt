@@ -15,10 +15,10 @@ use Rattle.drawing.proofs.write.dot_write.Statement.{statement}
 use Rattle.drawing.proofs.write.dot_write.Tie as tie
 
 full-shape-requires : tie.Need-full-shape-requires
-full-shape-requires c κs = search needs
+full-shape-requires c κs = tt
 
 steps-from-requires : tie.Need-steps-from-requires
-steps-from-requires c κs = search needs
+steps-from-requires c κs = tt
 
 enum-known-counted : tie.Need-enum-known-counted
 enum-known-counted c = search needs
@@ -27,7 +27,7 @@ enum-told : tie.Need-enum-told
 enum-told c = search needs
 
 stop-of-requires : tie.Need-stop-of-requires
-stop-of-requires c κs = search needs
+stop-of-requires c κs = tt
 
 cast-t8 : tie.Need-cast-t8
 cast-t8 c = search needs

@@ -20,13 +20,13 @@ loop-holds : tie.Need-loop-holds Inv-loop μ-loop
 loop-holds c = edges-begin _ _ _ _ (c .before .before .pre .0) (c .before .before .pre .1)
 
 step-at-requires : tie.Need-step-at-requires Inv-loop μ-loop
-step-at-requires c κs = search needs
+step-at-requires c κs = tt
 
 put-edge-requires : tie.Need-put-edge-requires Inv-loop μ-loop
 put-edge-requires c κs = let v = c .before .before .before .loop .inv in let l = c .before .before .loop-test .taken in let k = c .before .before .before .loop .k in (omega (arith, v .few, l), subst StepInRange (sym (c .step-at .ensures)) (edges-fine v l .1), omega (arith, edges-room v l, ap (λ (s : Step). length (edgeLine k s)) (c .step-at .ensures)))
 
 step-body-requires : tie.Need-step-body-requires Inv-loop μ-loop
-step-body-requires c κs = search needs
+step-body-requires c κs = tt
 
 add-record : tie.Need-add-record Inv-loop μ-loop
 add-record c = let v = c .before .before .before .before .before .before .before .loop .inv in let l = c .before .before .before .before .before .before .loop-test .taken in omega (arith, c .step-body .ensures, edges-fine v l .0)

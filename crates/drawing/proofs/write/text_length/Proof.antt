@@ -31,7 +31,7 @@ add-node : tie.Need-add-node Inv-loop μ-loop
 add-node c = let f = c .before .before .before .before .args .steps .now in let at = c .before .before .loop .at in let i = c .before .before .loop .i in let n = c .before .before .before .before .args .n in let v = c .before .before .loop .inv in let l = c .before .loop-test .taken in omega (arith, c .number-length .ensures, v .few, decimal-short (i + 1) (omega (arith, v .few)))
 
 step-at-requires : tie.Need-step-at-requires Inv-loop μ-loop
-step-at-requires c κs = search needs
+step-at-requires c κs = tt
 
 edge-length-requires : tie.Need-edge-length-requires Inv-loop μ-loop
 edge-length-requires c κs = let f = c .before .before .before .before .before .args .steps .now in let at = c .before .before .before .loop .at in let i = c .before .before .before .loop .i in let n = c .before .before .before .before .before .args .n in let v = c .before .before .before .loop .inv in let l = c .before .before .loop-test .taken in (omega (arith, v .few), subst StepInRange (sym (c .step-at .ensures)) (fine-next f at i n l (v .fine) .1))
@@ -43,7 +43,7 @@ add-total-2 : tie.Need-add-total-2 Inv-loop μ-loop
 add-total-2 c = let f = c .before .before .before .before .before .before .args .steps .now in let at = c .before .before .before .before .loop .at in let i = c .before .before .before .before .loop .i in let n = c .before .before .before .before .before .before .args .n in let v = c .before .before .before .before .loop .inv in let l = c .before .before .before .loop-test .taken in omega (arith, v .few, (count-next (3 + c .before .before .number-length .result) (c .edge-length .result) (at + (1 + stepBody f at)) v l (ap (λ (m : ℕ). 3 + m) (c .before .before .number-length .ensures)) (c .edge-length .ensures ∙ ap (λ (s : Step). length (edgeLine i s)) (c .before .step-at .ensures)) refl) .small)
 
 step-body-requires : tie.Need-step-body-requires Inv-loop μ-loop
-step-body-requires c κs = search needs
+step-body-requires c κs = tt
 
 add-at : tie.Need-add-at Inv-loop μ-loop
 add-at c = let f = c .before .before .before .before .before .before .before .args .steps .now in let at = c .before .before .before .before .before .loop .at in let i = c .before .before .before .before .before .loop .i in let n = c .before .before .before .before .before .before .before .args .n in let v = c .before .before .before .before .before .loop .inv in let l = c .before .before .before .before .loop-test .taken in omega (arith, c .step-body .ensures, fine-next f at i n l (v .fine) .0)

@@ -32,7 +32,7 @@ read-spec = tie.close (tie.spec
     -- returns-2 555:9
     (λ c. let a = c .before .before .before .before .before .before .before .before .before .args in let x = input (a .alone) (a .code .now) (a .file .now) in let w = a .work .now in let r = c .before .before .enum-told2 .given .0 .0 in let e = parts-refused x (length w) r (c .before .before .before .before .before .if1 .left) (sym (ap (λ (x : ProgramRead). x .answer) (c .before .before .before .before .read-program .ensures)) ∙ c .before .before .enum-told2 .given .1) in (c .reading-refused2 .ensures ∙ ap (readingRefused InProgram) (c .before .refusal-of .ensures ∙ ap refusalOf (c .before .before .enum-told2 .given .1)) ∙ sym (ap (readingOf x) e), sym (ap (λ (y : Parts). areaRead y w) e)))
     -- evidence-at-requires
-    (λ c κs. search needs)
+    (λ c κs. tt)
     -- read-evidence-requires
     (λ c κs. let a = c .before .before .before .before .before .before .before .before .before .before .args in let q = sym (ap (λ (x : ProgramRead). x .answer) (c .before .before .before .before .before .read-program .ensures)) ∙ c .before .before .before .enum-told .given .1 in let w = shape-range (a .alone) (a .code .now) 0 q in (omega (arith, c .before .before .before .before .before .before .if1 .left), rw (c .before .before .before .before .before .read-program .ensures) (w .0), rw (c .before .before .before .before .before .read-program .ensures) (w .1)))
     -- same-length

@@ -44,7 +44,7 @@ read-evidence-spec = tie.close (tie.spec
     -- add-reading-with
     (λ c. omega (arith, claim-room (c .before .before .before .before .before .before .before .before .before .before .before .before .before .before .before .args .file .now) (c .before .before .before .before .before .before .before .before .before .before .before .before .before .before .before .args .at) (c .before .before .before .before .before .before .before .before .before .before .before .before .before .before .before .args .program) (c .before .before .before .before .before .before .before .before .before .before .before .before .before .before .before .args .work .now) _ _ (c .before .before .before .before .before .before .before .before .before .before .before .before .check-claim .ensures) (c .before .before .before .before .before .before .before .before .before .before .before .unless-end .ensures) (c .before .before .before .before .before .before .before .before .before .enum-told .given .1)))
     -- reading-with-requires
-    (λ c κs. search needs)
+    (λ c κs. tt)
     -- same-length 534:9
     (λ c. search needs)
     -- returns-2 534:9
@@ -52,6 +52,6 @@ read-evidence-spec = tie.close (tie.spec
     -- add-read-run
     (λ c. omega (arith, claim-room (c .before .before .before .before .before .before .before .before .before .args .file .now) (c .before .before .before .before .before .before .before .before .before .args .at) (c .before .before .before .before .before .before .before .before .before .args .program) (c .before .before .before .before .before .before .before .before .before .args .work .now) _ _ (c .before .before .before .before .before .before .check-claim .ensures) (c .before .before .before .before .before .unless-end .ensures) (c .before .before .before .enum-told .given .1)))
     -- read-run-requires
-    (λ c κs. search needs)
+    (λ c κs. tt)
     -- returns-3
     (λ c. run-returned (c .before .before .before .before .before .before .before .before .before .before .args .file .now) (c .before .before .before .before .before .before .before .before .before .before .args .at) (c .before .before .before .before .before .before .before .before .before .before .args .program) (c .before .before .before .before .before .before .before .before .before .before .args .work .now) _ _ (c .before .before .before .before .before .before .before .check-claim .ensures) (c .before .before .before .before .before .before .unless-end .ensures) (c .before .before .before .before .enum-told .given .1) _ (c .before .before .field .ensures) (c .before .if1 .left) _ (c .read-run .ensures)))

@@ -21,26 +21,26 @@ fine c = sym (ap (unlessEnd (c .before .before .before .before .before .before .
 pub read-run-spec : {M : Type 1} → statement M
 read-run-spec = tie.close (tie.spec
     -- check-start-requires
-    (λ c κs. search needs)
+    (λ c κs. tt)
     -- unless-end-requires
-    (λ c κs. search needs)
+    (λ c κs. tt)
     -- enum-told
     (λ c. search needs)
     -- enum-told-2
     (λ c. search needs)
     -- refusal-of-requires
-    (λ c κs. search needs)
+    (λ c κs. tt)
     -- reading-refused-requires
-    (λ c κs. search needs)
+    (λ c κs. tt)
     -- returns
     (λ c. λ k h. let a = c .before .before .before .before .before .before .before .before .args in let f = a .file .now in let p = a .program in let r = c .before .before .enum-told2 .given .0 .0 in let u : unlessEnd f (a .at) (checked (startNumber (p .shape) f (a .at)) (a .at)) ≡ Refused r = sym (ap (unlessEnd f (a .at)) (c .before .before .before .before .before .check-start .ensures)) ∙ sym (c .before .before .before .before .unless-end .ensures) ∙ c .before .before .enum-told2 .given .1 in c .reading-refused .ensures ∙ ap (readingRefused InEvidence) (c .before .refusal-of .ensures ∙ ap refusalOf (c .before .before .enum-told2 .given .1)) ∙ sym (ap (evidenceReading k p) (start-refused f (a .claim) (a .at) p r u)))
     -- memory-at-requires
-    (λ c κs. search needs)
+    (λ c κs. tt)
     -- add-first
     (λ c. omega (arith, start-fits (c .before .before .before .before .before .before .before .before .args .file .now) (c .before .before .before .before .before .before .before .before .args .claim) (c .before .before .before .before .before .before .before .before .args .at) (c .before .before .before .before .before .before .before .before .args .program) (fine (c .before .before))))
     -- steps-from-requires
-    (λ c κs. search needs)
+    (λ c κs. tt)
     -- reading-with-requires
-    (λ c κs. search needs)
+    (λ c κs. tt)
     -- returns-2
     (λ c. λ k h. let a = c .before .before .before .before .before .before .before .before .before .before .args in let f = a .file .now in let p = a .program in let e = run-steps f (a .claim) (a .at) p (fine (c .before .before .before .before)) in c .reading-with .ensures ∙ ap₂ (λ (m : List ℕ) (n : Counted). countReading p (a .claim) m (a .at + 5) n) (c .before .before .before .memory-at .ensures) (c .before .steps-from .ensures) ∙ ap (λ (i : ℕ). countReading p (a .claim) (memoryAt f (a .at)) (i + 5) (stepsFrom (p .shape) (p .transitions .count) f (a .at + 5))) h ∙ sym (ap (evidenceReading k p) e)))

@@ -41,13 +41,13 @@ entries-from-spec = tie.close (tie.spec
     -- loop-holds
     (λ c. listed-begin (c .before .before .args .shape) (c .before .before .args .states) (c .before .before .args .file .now) (c .before .before .args .at) (c .before .before .args .allowed) (c .before .before .args .list .now))
     -- check-entry-requires
-    (λ c κs. search needs)
+    (λ c κs. tt)
     -- enum-told
     (λ c. search needs)
     -- enum-told-2
     (λ c. search needs)
     -- refusal-of-requires
-    (λ c κs. search needs)
+    (λ c κs. tt)
     -- same-length
     (λ c. same (c .before .before .before .before .before .before .before .before .args .list .now) (c .before .before .before .before .before .loop .inv .offsets) (c .before .before .before .before .before .loop .inv .wrote))
     -- returns
@@ -66,7 +66,7 @@ entries-from-spec = tie.close (tie.spec
     -- enum-told-3
     (λ c. search needs)
     -- end-refusal-requires
-    (λ c κs. search needs)
+    (λ c κs. tt)
     -- same-length-2
     (λ c. same (c .before .before .before .before .before .before .before .before .before .before .before .args .list .now) (c .before .before .before .before .before .before .before .before .loop .inv .offsets) (c .before .before .before .before .before .before .before .before .loop .inv .wrote))
     -- returns-2
@@ -78,9 +78,9 @@ entries-from-spec = tie.close (tie.spec
     sym (L .reads) ∙ entry-refused (a .shape) (a .states) (a .file .now) (c .before .before .before .before .before .before .before .before .loop .k) (L .offsets) (L .entries) (a .allowed) (c .before .before .before .before .before .before .before .before .loop .n) (c .before .before .before .before .before .before .before .loop-test .taken) (head (c .before .before .before .before)) r d in
     (ap Stopped (c .end-refusal .ensures ∙ ap endRefusal (c .before .enum-told3 .given .1)) ∙ sym (ap countOf e), L .wrote ∙ sym (ap (λ (x : EntriesRead). wroteFrom 0 (x .offsets) (a .list .now)) e)))
     -- word-place-requires
-    (λ c κs. search needs)
+    (λ c κs. tt)
     -- store-number-requires
-    (λ c κs. search needs)
+    (λ c κs. tt)
     -- add-n
     (λ c. omega (arith, c .before .before .before .before .before .before .before .before .before .before .before .before .before .loop .inv .most, c .before .before .before .before .before .before .before .before .before .before .before .before .before .before .before .before .pre .2))
     -- loop-less

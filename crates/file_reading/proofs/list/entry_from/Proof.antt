@@ -37,17 +37,17 @@ entry-from-spec = tie.close (tie.spec
     -- loop-holds
     (λ c. sofar-begin (c .before .args .shape) (c .before .args .file .now) (c .before .args .start) (c .before .pre .0))
     -- at-boundary-requires
-    (λ c κs. search needs)
+    (λ c κs. tt)
     -- body-number-requires
-    (λ c κs. search needs)
+    (λ c κs. tt)
     -- answer-requires
-    (λ c κs. search needs)
+    (λ c κs. tt)
     -- enum-told
     (λ c. search needs)
     -- enum-told-2
     (λ c. search needs)
     -- refusal-of-requires
-    (λ c κs. search needs)
+    (λ c κs. tt)
     -- returns
     (λ c. let a = c .before .before .before .before .before .before .before .before .before .args in
     let f = a .file .now in
@@ -59,7 +59,7 @@ entry-from-spec = tie.close (tie.spec
     -- tallied-requires
     (λ c κs. sofar-room (c .before .before .before .before .before .before .before .before .args .shape) (c .before .before .before .before .before .before .before .before .pre .1) (c .before .before .before .before .before .before .before .before .pre .2) (c .before .before .before .before .before .before .before .before .args .file .now) (c .before .before .before .before .before .before .before .before .args .start) (c .before .before .before .before .before .before .loop .tally) (c .before .before .before .before .before .before .loop .k) (c .before .before .before .before .before .before .loop .inv) (beyond (c .before .before .before .before .before) (not-true _ (c .before .before .before .before .if1 .taken))) (found c))
     -- body-size-requires
-    (λ c κs. search needs)
+    (λ c κs. tt)
     -- add-k-2
     (λ c. omega (arith, c .body-size .ensures, sofar-fits (c .before .before .before .before .before .before .before .before .before .before .args .shape) (c .before .before .before .before .before .before .before .before .before .before .pre .1) (c .before .before .before .before .before .before .before .before .before .before .pre .2) (c .before .before .before .before .before .before .before .before .before .before .args .file .now) (c .before .before .before .before .before .before .before .before .before .before .args .start) (c .before .before .before .before .before .before .before .before .loop .tally) (c .before .before .before .before .before .before .before .before .loop .k) (c .before .before .before .before .before .before .before .before .loop .inv) (beyond (c .before .before .before .before .before .before .before) (not-true _ (c .before .before .before .before .before .before .if1 .taken))) (found (c .before .before)) .0))
     -- loop-less

@@ -30,19 +30,19 @@ names-of s f at e a b g =
 
 -- src/list.rt:87:9
 message-at-requires : tie.Need-message-at-requires
-message-at-requires c κs = search needs
+message-at-requires c κs = tt
 
 -- src/list.rt:90:9
 pair-exists-requires : tie.Need-pair-exists-requires
-pair-exists-requires c κs = search needs
+pair-exists-requires c κs = tt
 
 -- src/list.rt:91:9
 value-names-requires : tie.Need-value-names-requires
-value-names-requires c κs = search needs
+value-names-requires c κs = tt
 
 -- src/list.rt:89:5
 both-requires : tie.Need-both-requires
-both-requires c κs = search needs
+both-requires c κs = tt
 
 -- src/list.rt:84:1
 returns : tie.Need-returns

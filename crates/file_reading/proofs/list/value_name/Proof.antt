@@ -12,6 +12,6 @@ value-name-spec = tie.close (tie.spec
     -- returns-2
     (λ c. rw (lt-ltb _ _ (c .before .if1 .left), eq-eqb _ _ (c .if2 .taken)))
     -- value-count-requires
-    (λ c κs. search needs)
+    (λ c κs. tt)
     -- returns-3
     (λ c. rw (lt-ltb _ _ (c .before .before .if1 .left), ne-eqb _ _ (c .before .if2 .left), c .value-count .ensures)))

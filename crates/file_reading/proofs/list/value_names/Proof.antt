@@ -13,7 +13,7 @@ array-read-value-name c = search needs
 
 -- src/list.rt:77:9
 value-name-requires : tie.Need-value-name-requires
-value-name-requires c κs = search needs
+value-name-requires c κs = tt
 
 -- src/list.rt:78:34
 array-read-value-name-2 : tie.Need-array-read-value-name-2
@@ -21,7 +21,7 @@ array-read-value-name-2 c = search needs
 
 -- src/list.rt:78:9
 value-name-requires-2 : tie.Need-value-name-requires-2
-value-name-requires-2 c κs = search needs
+value-name-requires-2 c κs = tt
 
 -- src/list.rt:79:34
 array-read-value-name-3 : tie.Need-array-read-value-name-3
@@ -29,7 +29,7 @@ array-read-value-name-3 c = search needs
 
 -- src/list.rt:79:9
 value-name-requires-3 : tie.Need-value-name-requires-3
-value-name-requires-3 c κs = search needs
+value-name-requires-3 c κs = tt
 
 -- src/list.rt:80:34
 array-read-value-name-4 : tie.Need-array-read-value-name-4
@@ -37,19 +37,19 @@ array-read-value-name-4 c = search needs
 
 -- src/list.rt:80:9
 value-name-requires-4 : tie.Need-value-name-requires-4
-value-name-requires-4 c κs = search needs
+value-name-requires-4 c κs = tt
 
 -- src/list.rt:81:21
 both-requires : tie.Need-both-requires
-both-requires c κs = search needs
+both-requires c κs = tt
 
 -- src/list.rt:81:13
 both-requires-2 : tie.Need-both-requires-2
-both-requires-2 c κs = search needs
+both-requires-2 c κs = tt
 
 -- src/list.rt:81:5
 both-requires-3 : tie.Need-both-requires-3
-both-requires-3 c κs = search needs
+both-requires-3 c κs = tt
 
 -- src/list.rt:74:1
 returns : tie.Need-returns

@@ -8,7 +8,7 @@ pub start-name-spec : {M : Type 1} → statement M
 unfolding startName
 start-name-spec = tie.close (tie.spec
     -- value-count-requires
-    (λ c κs. search needs)
+    (λ c κs. tt)
     -- returns
     (λ c. rw (lt-ltb _ _ (c .before .if1 .taken), c .value-count .ensures))
     -- returns-2

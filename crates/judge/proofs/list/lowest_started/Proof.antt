@@ -25,7 +25,7 @@ lowest-started-spec = tie.close (tie.spec
     -- loop-holds 38:5
     (λ c. so-far-begin _ _)
     -- entry-started-requires
-    (λ c κs. search needs)
+    (λ c κs. tt)
     -- returns 41:13
     (λ c. so-far-fails (c .before .before .before .loop .inv) (c .before .before .loop-test .taken) (sym (start-by (c .before .before .before .before .before .before .before .before .before .before .args .code .now) (c .before .before .before .before .before .before .before .before .before .before .args .file .now) (c .before .before .before .before .before .before .before .before .before .before .args .list .now) (c .before .before .before .before .before .before .before .before .before .before .args .sum .now) (c .before .before .before .before .before .before .before .before .before .before .args .n) (c .before .before .before .before .before .before .before .before .before .before .args .program) (c .before .before .before .before .before .before .before .before .before .before .pre) (c .before .before .before .loop .k) (c .before .before .loop-test .taken) _ (c .before .entry-started .ensures)) ∙ ap not (c .if1 .taken)))
     -- add-k 38:9

@@ -13,9 +13,9 @@ put-others-spec = tie.close (tie.spec
     -- returns
     (λ c. (refl, λ P e R S F. F))
     -- least-entries-requires
-    (λ c κs. search needs)
+    (λ c κs. tt)
     -- put-groups-requires
-    (λ c κs. search needs)
+    (λ c κs. tt)
     -- same-length
     (λ c. search needs)
     -- returns-2

@@ -19,9 +19,9 @@ put-targets-spec = tie.close (tie.spec
     -- loop-holds
     (λ c. targeted-begin (c .before .before .before .args .code .now) (c .before .before .before .args .program) (c .before .before .before .args .table .now))
     -- target-of-requires
-    (λ c κs. search needs)
+    (λ c κs. tt)
     -- put-full-requires
-    (λ c κs. search needs)
+    (λ c κs. tt)
     -- add-k
     (λ c. search needs)
     -- loop-less

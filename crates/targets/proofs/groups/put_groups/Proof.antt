@@ -19,7 +19,7 @@ put-groups-spec = tie.close (tie.spec
     -- loop-holds
     (λ c. putting-begin (c .before .before .before .before .args .file .now) (c .before .before .before .before .args .list .now) (c .before .before .before .before .args .sum .now) (c .before .before .before .before .args .n) (c .before .before .before .before .args .shape) (c .before .before .before .before .args .least) (c .before .before .before .before .args .table .now))
     -- put-group-requires
-    (λ c κs. search needs)
+    (λ c κs. tt)
     -- add-k
     (λ c. search needs)
     -- loop-less

@@ -9,9 +9,9 @@ use Rattle.targets.proofs.starts.looks_started.Tie as tie
 pub looks-started-spec : {M : Type 1} → statement M
 looks-started-spec = tie.close (tie.spec
     -- least-requires
-    (λ c κs. search needs)
+    (λ c κs. tt)
     -- least-requires-2
-    (λ c κs. search needs)
+    (λ c κs. tt)
     -- same-bytes-requires
     (λ c κs. omega (arith, c .before .before .least .ensures))
     -- returns

@@ -32,7 +32,7 @@ row-empty-spec = tie.close (tie.spec
     -- array-copy-out-queue
     (λ c. search needs)
     -- is-empty-requires
-    (λ c κs. search needs)
+    (λ c κs. tt)
     -- returns
     (λ c. sym (all-false (c .before .before .before .before .before .args .n) (λ k. isEmpty (queueOf (c .before .before .before .before .before .args .t2) (c .before .before .before .before .before .args .p) k)) (c .before .before .before .before .loop .v) (c .before .before .before .loop-test .taken)
     (ap isEmpty (queue-of (c .before .before .before .before .before .args .t2) (c .before .before .before .before .before .args .p) (c .before .before .before .before .loop .v) (omega arith) (omega arith)) ∙ sym (c .before .is-empty .ensures) ∙ not-true _ (c .if1 .taken))))
