@@ -170,6 +170,7 @@ fn main() {
     for (first, second) in [(1, 1), (2, 1), (5, 1), (5, 2), (5, 4)] {
         bench.list(&format!("(2, 1; {})", first * second), &inputs::rounds(first, second));
     }
+    bench.list("(2, 1; 900), 60 transitions", &inputs::rounds(30, 30));
     bench.list("(1, 4; 12)", &inputs::chain(1, 4, 12));
     bench.list("(3, 1; 1)", &inputs::chain(3, 1, 1));
     bench.list("(2, 2; 1)", &inputs::chain(2, 2, 1));
