@@ -12,7 +12,7 @@ clear-used-spec = tie.close (tie.spec
     -- slice-aggregate-clear 24:11
     (λ c. sym (length-take-le (c .before .before .args .n) (c .before .before .args .work .now) (c .before .before .pre)))
     -- clear-requires 24:5
-    (λ c κs. search needs)
+    (λ c κs. tt)
     -- same-length 20:1
     (λ c. search needs)
     -- returns 20:1

@@ -17,7 +17,7 @@ judge-and-clear-spec = tie.close (tie.spec
     -- judge-file-requires 72:9
     (λ c κs. search needs)
     -- used-of-requires 73:22
-    (λ c κs. search needs)
+    (λ c κs. tt)
     -- clear-used-requires 73:5
     (λ c κs. omega (arith, used-fits (length (c .before .before .before .before .before .before .before .before .before .before .args .work .now)) (omega (arith, c .before .before .before .before .before .before .if1 .left)), c .used-of .ensures))
     -- same-length 61:1

@@ -21,6 +21,6 @@ alike-older-spec = tie.close (tie.spec
     -- array-copy-out-message 479:19
     (λ c. search needs)
     -- values-related-requires 481:5
-    (λ c κs. search needs)
+    (λ c κs. tt)
     -- returns-3 467:1
     (λ c l. let z : suc (c .before .before .before .before .before .before .args .cube .count - 2) ≡ c .before .before .before .before .before .before .args .cube .count - 1 = omega (arith, c .before .before .before .before .before .if1 .left) in c .values-related .ensures ∙ ap (λ (n : ℕ). alikeNewest (channelOf (c .before .before .before .before .before .before .args .cube .messages) n) (c .before .before .before .before .before .before .args .values)) z ∙ sym (ap (λ (ms : List Message). alikeNewest ms (c .before .before .before .before .before .before .args .values)) (older-channel (c .before .before .before .before .before .before .args .cube .messages) (c .before .before .before .before .before .before .args .cube .count)))))

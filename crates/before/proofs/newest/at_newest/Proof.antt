@@ -8,7 +8,7 @@ use Rattle.before.proofs.newest.at_newest.Tie as tie
 pub at-newest-spec : {M : Type 1} → statement M
 at-newest-spec = tie.close (tie.spec
     -- of-four-requires 554:19
-    (λ c κs. search needs)
+    (λ c κs. tt)
     -- cast-pointer 554:19
     (λ c. search needs)
     -- returns 550:1

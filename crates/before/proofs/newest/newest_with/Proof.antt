@@ -8,8 +8,8 @@ use Rattle.before.proofs.newest.newest_with.Tie as tie
 pub newest-with-spec : {M : Type 1} → statement M
 newest-with-spec = tie.close (tie.spec
     -- newest-requires 461:9
-    (λ c κs. search needs)
+    (λ c κs. tt)
     -- with-value-requires 463:5
-    (λ c κs. search needs)
+    (λ c κs. tt)
     -- returns 458:1
     (λ c s w. c .with-value .ensures ∙ ap (λ (m : Message). set (m .snapshot) (c .before .before .before .args .v) (c .before .before .before .args .x)) (c .before .before .newest .ensures s w)))

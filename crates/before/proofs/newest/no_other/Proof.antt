@@ -24,9 +24,9 @@ no-other-spec = tie.close (tie.spec
     -- loop-holds 563:5
     (λ c. each-begin (λ k. eqb k (c .args .p) || not (atNewest (configurationOf (c .args .cube) .memory) k)) true (c .args .shape .processes))
     -- at-newest-requires 564:29
-    (λ c κs. search needs)
+    (λ c κs. tt)
     -- either-requires 564:13
-    (λ c κs. search needs)
+    (λ c κs. tt)
     -- returns 565:13
     (λ c. sym (all-false (c .before .before .before .before .before .args .shape .processes) (λ k. eqb k (c .before .before .before .before .before .args .p) || not (atNewest (configurationOf (c .before .before .before .before .before .args .cube) .memory) k)) (c .before .before .before .before .loop .q) (c .before .before .before .loop-test .taken) (ap (λ (b : Bool). eqb (c .before .before .before .before .loop .q) (c .before .before .before .before .before .args .p) || not b) (sym (c .before .before .at-newest .ensures)) ∙ sym (c .before .either .ensures) ∙ not-true (c .before .either .result) (c .if1 .taken))))
     -- add-q 563:9

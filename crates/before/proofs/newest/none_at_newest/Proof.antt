@@ -22,7 +22,7 @@ none-at-newest-spec = tie.close (tie.spec
     -- loop-holds 752:5
     (λ c. each-begin (λ k. not (atNewest (configurationOf (c .args .cube) .memory) k)) true (c .args .shape .processes))
     -- at-newest-requires 753:12
-    (λ c κs. search needs)
+    (λ c κs. tt)
     -- returns 754:13
     (λ c. sym (all-false (c .before .before .before .before .args .shape .processes) (λ k. not (atNewest (configurationOf (c .before .before .before .before .args .cube) .memory) k)) (c .before .before .before .loop .q) (c .before .before .loop-test .taken) (ap not (sym (c .before .at-newest .ensures) ∙ c .if1 .taken))))
     -- add-q 752:9

@@ -11,7 +11,7 @@ use Rattle.before.proofs.queues.newest_or.Tie as tie
 pub newest-or-spec : {M : Type 1} → statement M
 newest-or-spec = tie.close (tie.spec
     -- waiting-requires 210:9
-    (λ c κs. search needs)
+    (λ c κs. tt)
     -- returns 212:9
     (λ c. newest-none (waitingOf (c .before .before .args .t1)) (c .before .before .args .other) (sym (c .before .waiting .ensures) ∙ c .if1 .taken))
     -- sub-result 214:18

@@ -16,19 +16,19 @@ use Rattle.file_reading.proofs.evidence.read.Tie as tie
 pub read-spec : {M : Type 1} → statement M
 read-spec = tie.close (tie.spec
     -- reading-refused-requires 547:9
-    (λ c κs. search needs)
+    (λ c κs. tt)
     -- returns 547:9
     (λ c. let a = c .before .before .before .before .before .args in let x = input (a .alone) (a .code .now) (a .file .now) in let w = a .work .now in let e = parts-short x (length w) (c .before .if1 .taken) in (c .reading-refused .ensures ∙ sym (ap (readingOf x) e), sym (ap (λ (y : Parts). areaRead y w) e)))
     -- read-program-requires 552:9
-    (λ c κs. search needs)
+    (λ c κs. tt)
     -- enum-told 0:0
     (λ c. search needs)
     -- enum-told-2 555:32
     (λ c. search needs)
     -- refusal-of-requires 555:32
-    (λ c κs. search needs)
+    (λ c κs. tt)
     -- reading-refused-requires-2 555:9
-    (λ c κs. search needs)
+    (λ c κs. tt)
     -- returns-2 555:9
     (λ c. let a = c .before .before .before .before .before .before .before .before .before .args in let x = input (a .alone) (a .code .now) (a .file .now) in let w = a .work .now in let r = c .before .before .enum-told2 .given .0 .0 in let e = parts-refused x (length w) r (c .before .before .before .before .before .if1 .left) (sym (ap (λ (x : ProgramRead). x .answer) (c .before .before .before .before .read-program .ensures)) ∙ c .before .before .enum-told2 .given .1) in (c .reading-refused2 .ensures ∙ ap (readingRefused InProgram) (c .before .refusal-of .ensures ∙ ap refusalOf (c .before .before .enum-told2 .given .1)) ∙ sym (ap (readingOf x) e), sym (ap (λ (y : Parts). areaRead y w) e)))
     -- evidence-at-requires

@@ -14,23 +14,23 @@ few c = omega (arith, c .entries-allowed .ensures)
 pub read-evidence-spec : {M : Type 1} → statement M
 read-evidence-spec = tie.close (tie.spec
     -- check-claim-requires 525:38
-    (λ c κs. search needs)
+    (λ c κs. tt)
     -- unless-end-requires 525:9
-    (λ c κs. search needs)
+    (λ c κs. tt)
     -- enum-told 0:0
     (λ c. search needs)
     -- enum-told-2 527:32
     (λ c. search needs)
     -- refusal-of-requires 527:32
-    (λ c κs. search needs)
+    (λ c κs. tt)
     -- reading-refused-requires 527:9
-    (λ c κs. search needs)
+    (λ c κs. tt)
     -- returns 527:9
     (λ c. refused-returned (c .before .before .before .before .before .before .before .before .args .file .now) (c .before .before .before .before .before .before .before .before .args .at) (c .before .before .before .before .before .before .before .before .args .program) (c .before .before .before .before .before .before .before .before .args .work .now) _ _ (c .before .before .before .before .before .check-claim .ensures) (c .before .before .before .before .unless-end .ensures) (c .before .before .enum-told2 .given .0 .0) _ (c .before .before .enum-told2 .given .1) (c .before .refusal-of .ensures) _ (c .reading-refused .ensures))
     -- field-requires 530:8
-    (λ c κs. search needs)
+    (λ c κs. tt)
     -- entries-allowed-requires 532:13
-    (λ c κs. search needs)
+    (λ c κs. tt)
     -- add-entries-from 533:41
     (λ c. omega (arith, claim-room (c .before .before .before .before .before .before .before .before .before .before .before .args .file .now) (c .before .before .before .before .before .before .before .before .before .before .before .args .at) (c .before .before .before .before .before .before .before .before .before .before .before .args .program) (c .before .before .before .before .before .before .before .before .before .before .before .args .work .now) _ _ (c .before .before .before .before .before .before .before .before .check-claim .ensures) (c .before .before .before .before .before .before .before .unless-end .ensures) (c .before .before .before .before .before .enum-told .given .1)))
     -- sub-entries-from 533:70

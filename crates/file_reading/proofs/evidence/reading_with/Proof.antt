@@ -13,9 +13,9 @@ reading-with-spec = tie.close (tie.spec
     -- enum-told 492:32
     (λ c. search needs)
     -- stop-of-requires 492:32
-    (λ c κs. search needs)
+    (λ c κs. tt)
     -- reading-refused-requires 492:9
-    (λ c κs. search needs)
+    (λ c κs. tt)
     -- returns
     (λ c. let a = c .before .before .before .before .args in c .reading-refused .ensures ∙ ap (readingRefused InEvidence) (c .before .stop-of .ensures ∙ ap stopOf (c .before .before .enum-told .given .1)) ∙ sym (ap (countReading (a .program) (a .claim) (a .memory) (a .at)) (c .before .before .enum-told .given .1)))
     -- returns-2

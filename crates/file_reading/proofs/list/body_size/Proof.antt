@@ -8,7 +8,7 @@ pub body-size-spec : {M : Type 1} → statement M
 unfolding bodySize
 body-size-spec = tie.close (tie.spec
     -- is-kind-requires 174:8
-    (λ c κs. search needs)
+    (λ c κs. tt)
     -- returns 171:1
     (λ c. rw (sym (c .before .is-kind .ensures) ∙ c .if1 .taken))
     -- returns-2 171:1

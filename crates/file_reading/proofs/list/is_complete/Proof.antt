@@ -11,8 +11,8 @@ is-complete-spec = tie.close (tie.spec
     -- some-first-requires
     (λ c κs. c .before .before .pre)
     -- both-requires 299:25
-    (λ c κs. search needs)
+    (λ c κs. tt)
     -- both-requires-2 299:5
-    (λ c κs. search needs)
+    (λ c κs. tt)
     -- returns 296:1
     (λ c. rw (c .both2 .ensures, c .before .both .ensures, c .before .before .some-first .ensures, c .before .before .before .pointers-fit .ensures)))

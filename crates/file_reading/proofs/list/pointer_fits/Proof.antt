@@ -8,9 +8,9 @@ pub pointer-fits-spec : {M : Type 1} → statement M
 unfolding pointerInside
 pointer-fits-spec = tie.close (tie.spec
     -- wide-requires 263:35
-    (λ c κs. search needs)
+    (λ c κs. tt)
     -- both-requires 263:9
-    (λ c κs. search needs)
+    (λ c κs. tt)
     -- returns 263:9
     (λ c. rw (lt-ltb _ _ (c .before .before .if1 .taken), c .both .ensures, c .before .wide .ensures))
     -- returns-2 259:1

@@ -7,6 +7,6 @@ pub pointer-name-spec : {M : Type 1} → statement M
 unfolding pointerName
 pointer-name-spec = tie.close (tie.spec
     -- either-requires 124:5
-    (λ c κs. search needs)
+    (λ c κs. tt)
     -- returns 121:1
     (λ c. rw (c .either .ensures)))

@@ -7,6 +7,6 @@ pub points-first-spec : {M : Type 1} → statement M
 unfolding pointsFirst
 points-first-spec = tie.close (tie.spec
     -- both-requires 271:5
-    (λ c κs. search needs)
+    (λ c κs. tt)
     -- returns 268:1
     (λ c. rw (c .both .ensures)))

@@ -15,13 +15,13 @@ pub tallied-spec : {M : Type 1} → statement M
 unfolding tallied
 tallied-spec = tie.close (tie.spec
     -- is-kind-requires 249:8
-    (λ c κs. search needs)
+    (λ c κs. tt)
     -- add-next 250:25
     (λ c. omega (arith, c .before .before .before .pre .messages (sym (c .before .is-kind .ensures) ∙ c .if1 .taken)))
     -- returns 251:9
     (λ c. rw (sym (c .before .is-kind .ensures) ∙ c .if1 .taken))
     -- queue-at-requires 253:9
-    (λ c κs. search needs)
+    (λ c κs. tt)
     -- element-copy-out-n 254:13
     (λ c. let k : isKind (c .before .before .before .before .args .file .now) (c .before .before .before .before .args .at) 17 ≡ false = sym (c .before .before .is-kind .ensures) ∙ c .before .if1 .left in omega (arith, c .queue-at .ensures, c .before .before .before .before .pre .place k))
     -- add-next-2 255:23

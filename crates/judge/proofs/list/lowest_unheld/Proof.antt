@@ -22,9 +22,9 @@ lowest-unheld-spec = tie.close (tie.spec
     -- loop-holds 22:5
     (λ c. so-far-begin _ _)
     -- target-of-requires 23:13
-    (λ c κs. search needs)
+    (λ c κs. tt)
     -- target-held-requires 24:13
-    (λ c κs. search needs)
+    (λ c κs. tt)
     -- returns 25:13
     (λ c. so-far-fails (c .before .before .before .before .loop .inv) (c .before .before .before .loop-test .taken) (sym (held-by (c .before .before .before .before .before .before .before .before .before .before .before .args .code .now) (c .before .before .before .before .before .before .before .before .before .before .before .args .file .now) (c .before .before .before .before .before .before .before .before .before .before .before .args .list .now) (c .before .before .before .before .before .before .before .before .before .before .before .args .sum .now) (c .before .before .before .before .before .before .before .before .before .before .before .args .n) (c .before .before .before .before .before .before .before .before .before .before .before .args .program) (c .before .before .before .before .before .before .before .before .before .before .before .pre) (c .before .before .before .before .loop .k) (c .before .before .before .loop-test .taken) _ _ (c .before .before .target-of .ensures) (c .before .target-held .ensures)) ∙ not-true _ (c .if1 .taken)))
     -- add-k 22:9
