@@ -51,13 +51,13 @@ pub fn either(a: bool, b: bool) -> bool
     if a { true } else { b }
 }
 
+// Four bytes as a number, least significant first, and the same of a slice.
 fn of_bytes(a: u8, b: u8, c: u8, d: u8) -> usize
     ensures { λ r. ⌜ r ≡ a + 256 * b + 65536 * c + 16777216 * d ⌝ }
 {
     wide(a) + 256 * wide(b) + 65536 * wide(c) + 16777216 * wide(d)
 }
 
-// Four bytes as a number, least significant first.
 pub fn number_at(s: &[u8], at: usize) -> usize
     ensures { λ r. ⌜ r ≡ le32 (now (s .entry)) at ⌝ }
 {
