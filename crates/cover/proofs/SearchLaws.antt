@@ -1,6 +1,6 @@
 -- The search: the walk over what may match, where to split, and what the parts say of the whole.
 use Prim.Native.Nat.{ℕ, zero, suc, _+_, _*_, _-_, _<_, _≤_, min}
-use mathlib.Core.Path.{_≡_, refl, sym, ap, subst, _∙_}
+use mathlib.Core.Path.{_≡_, refl, sym, ap, subst, subst₂, _∙_}
 use mathlib.Core.Logic.{_⊎_, inl, inr, ⊎-elim, _≢_}
 use mathlib.Core.Bool.{Bool, true, false, cond, _&&_}
 use mathlib.Core.List.{List, [], _∷_}
@@ -20,8 +20,9 @@ use Rattle.whole_file.specs.Cube.{configurationOf}
 use Rattle.by_number.specs.Again.{offsetAt, cubeAt, entriesOf}
 use Rattle.matching.specs.Relation.{relation}
 use Rattle.matching.specs.Tags.{tagsOf}
-use Rattle.matching.specs.Number.{numberOf}
-use Rattle.matching.proofs.NumberLaws.{match-number}
+use Rattle.matching.specs.Signature.{Contained}
+use Rattle.matching.specs.Number.{widened, Agrees, numberOf}
+use Rattle.matching.proofs.NumberLaws.{match-number, match-signature, number-signature, agrees-widened, signature-any}
 use Rattle.summary.specs.declared.walking.Walk.{Walk}
 use Rattle.summary.specs.Slots.{headLink, homeOf}
 use Rattle.summary.specs.Groups.{sameStates, statesAt}
@@ -113,12 +114,24 @@ module _ {f list sum : List ℕ} {n : ℕ} {s : Shape} {c : Cube} (Z : Searchabl
       (λ p l. eqb-true (getD (a .states) p 0) (getD (c .states) p 0)
       (all-at (s .processes) (λ p. eqb (getD (a .states) p 0) (getD (c .states) p 0)) (both-left _ _ (both-left _ _ e)) p (omega arith)))
 
-  pub all-unmatched : (exact : Bool)
-      → ((k : ℕ) → Start f list sum n s (c .states) (numberOf s c) k → matches (shapeOf s) (relation exact) (configurationOf (cubeAt f list k)) (configurationOf c) ≡ false)
-      → (k : ℕ) → k < n → matches (shapeOf s) (relation exact) (configurationOf (cubeAt f list k)) (configurationOf c) ≡ false
-  all-unmatched exact g =
-      all-walked (Z .summed) (c .states) (numberOf s c) (λ k. matches (shapeOf s) (relation exact) (configurationOf (cubeAt f list k)) (configurationOf c))
-      (λ k l e. (match-number s exact (cubeAt f list k) c (Z .plain .shape) (Z .plain .entries k l) (Z .plain .fits) (load-few f (offsetAt list k)) (Z .plain .messages) e, same-of exact (cubeAt f list k) e)) g
+  match-agrees : (exact : Bool) (k : ℕ) → k < n → matches (shapeOf s) (relation exact) (configurationOf (cubeAt f list k)) (configurationOf c) ≡ true → Agrees (numberOf s (cubeAt f list k)) (numberOf s c)
+  match-agrees exact k l e = match-number s exact (cubeAt f list k) c (Z .plain .shape) (Z .plain .entries k l) (Z .plain .fits) (load-few f (offsetAt list k)) (Z .plain .messages) e
+
+  -- an entry that covers the cube has no bit in its signature that the cube has not
+  pub all-uncovered : ((k : ℕ) → Start f list sum n s (c .states) (numberOf s c) k → matches (shapeOf s) fills (configurationOf (cubeAt f list k)) (configurationOf c) ≡ false)
+      → (k : ℕ) → k < n → matches (shapeOf s) fills (configurationOf (cubeAt f list k)) (configurationOf c) ≡ false
+  all-uncovered =
+      all-walked (Z .summed) (c .states) (numberOf s c) (λ k. matches (shapeOf s) fills (configurationOf (cubeAt f list k)) (configurationOf c)) (match-agrees true)
+      (λ k l e. subst₂ Contained (sym (number-signature s (cubeAt f list k))) (sym (number-signature s c))
+      (match-signature s (cubeAt f list k) c (Z .plain .shape) (Z .plain .entries k l) (Z .plain .fits) (load-few f (offsetAt list k)) (Z .plain .messages) e))
+      (λ k l e. same-of true (cubeAt f list k) e)
+
+  -- one that may meet it may have any
+  pub all-unmet : ((k : ℕ) → Start f list sum n s (c .states) (widened (numberOf s c)) k → matches (shapeOf s) alike (configurationOf (cubeAt f list k)) (configurationOf c) ≡ false)
+      → (k : ℕ) → k < n → matches (shapeOf s) alike (configurationOf (cubeAt f list k)) (configurationOf c) ≡ false
+  all-unmet =
+      all-walked (Z .summed) (c .states) (widened (numberOf s c)) (λ k. matches (shapeOf s) alike (configurationOf (cubeAt f list k)) (configurationOf c))
+      (λ k l e. agrees-widened (match-agrees false k l e)) (λ k l e. signature-any (numberOf s (cubeAt f list k)) (numberOf s c)) (λ k l e. same-of false (cubeAt f list k) e)
 
 -- ---- a place to split at
 
@@ -190,12 +203,12 @@ module _ (f list sum : List ℕ) (n : ℕ) (s : Shape) (c : Cube) (cues : List �
         → held (shapeOf s) (entriesOf f list n) (configurationOf c) ≡ false
     cube-out m g q Z =
         let A = against (sized Z) in
-        let at : (R : ℕ → Bool) → ((k : ℕ) → Start f list sum n s (c .states) number k → R k ≡ false) → (k : ℕ) → Start f list sum n s (c .states) (numberOf s c) k → R k ≡ false =
-        λ R g k l. g k (subst (λ (y : ℕ). Start f list sum n s (c .states) y k) (sym m) l) in
+        let at : (x y : ℕ) (R : ℕ → Bool) → x ≡ y → ((k : ℕ) → Start f list sum n s (c .states) x k → R k ≡ false) → (k : ℕ) → Start f list sum n s (c .states) y k → R k ≡ false =
+        λ x y R e g k l. g k (subst (λ (y : ℕ). Start f list sum n s (c .states) y k) (sym e) l) in
         cube-stuck (Z .plain)
-        (all-unmatched Z true (at (λ k. matches (shapeOf s) fills (configurationOf (cubeAt f list k)) (configurationOf c)) (g A)))
+        (all-uncovered Z (at number (numberOf s c) (λ k. matches (shapeOf s) fills (configurationOf (cubeAt f list k)) (configurationOf c)) m (g A)))
         (⊎-elim
-        (λ u. inl (all-unmatched Z false (at (λ k. matches (shapeOf s) alike (configurationOf (cubeAt f list k)) (configurationOf c)) (u A))))
+        (λ u. inl (all-unmet Z (at (widened number) (widened (numberOf s c)) (λ k. matches (shapeOf s) alike (configurationOf (cubeAt f list k)) (configurationOf c)) (ap widened m) (u A))))
         (λ u. inr u) q)
 
 -- ---- the parts in turn

@@ -16,7 +16,7 @@ use Rattle.whole_file.specs.declared.entry.Cube.{Cube}
 use Rattle.program_part.specs.ProgramPart.{shapeOf}
 use Rattle.whole_file.specs.Cube.{configurationOf}
 use Rattle.by_number.specs.Again.{cubeAt, entriesOf}
-use Rattle.matching.specs.Number.{numberOf}
+use Rattle.matching.specs.Number.{widened}
 use Rattle.by_bytes.specs.Against.{Sized, Against}
 use Rattle.summary.specs.Slots.{headLink, homeOf}
 use Rattle.summary.specs.Summary.{Summed}
@@ -69,6 +69,6 @@ Uncovered = Unrelated fills
 abbrev pub Unmet : List ℕ → List ℕ → List ℕ → ℕ → Shape → Cube → List ℕ → ℕ → Type 0
 Unmet = Unrelated alike
 
--- and so it can't be held, or it has no free value
+-- and so it can't be held, or it has no free value. What may meet it may have any signature.
 abbrev pub Stuck : List ℕ → List ℕ → List ℕ → ℕ → Shape → Cube → List ℕ → ℕ → Type 0
-Stuck f list sum n s c cues number = Unmet f list sum n s c cues number ⊎ NoneFree s c
+Stuck f list sum n s c cues number = Unmet f list sum n s c cues (widened number) ⊎ NoneFree s c

@@ -20,6 +20,7 @@ use crate::place::is_free;
 use crate::place::is_whole;
 use by_number::entry_at;
 use matching::tags_of;
+use matching::widened;
 use program_part::bytes::both;
 use program_part::program::Shape;
 use summary::onward;
@@ -146,7 +147,9 @@ pub(crate) fn place_for(
     ensures { λ r. ⌜ proper shape cube r ≡ true ⌝ }
     ensures { λ r. ⌜ (isWhole r ≡ true → Stuck (now (file .entry)) (now (list .entry)) (now (sum .entry)) n shape cube (now (cues .entry)) number) ⌝ }
 {
-    let split = best_split(file, list, sum, n, shape, cube, cues, number);
+    // an entry that may meet the cube may have any signature
+    let any = widened(number);
+    let split = best_split(file, list, sum, n, shape, cube, cues, any);
     let place = split.place;
     if !split.met {
         return Place::Whole;

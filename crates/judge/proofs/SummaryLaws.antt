@@ -20,8 +20,8 @@ use Rattle.whole_file.specs.Cube.{configurationOf, loadEntry}
 use Rattle.by_number.specs.Again.{offsetAt, cubeAt, entriesOf}
 use Rattle.by_number.specs.Contents.{EntryRange, CubeRange}
 use Rattle.matching.specs.Number.{numberOf, statesMixed}
-use Rattle.summary.specs.Slots.{word, putWord, linked, headLink, nextLink, countAt, hung, putCount, homeOf, markIn}
-use Rattle.summary.specs.Groups.{statesAt, sameStates, leaderFrom, leaderOf, added, addedFrom, summarised}
+use Rattle.summary.specs.Slots.{word, putWord, linked, headLink, nextLink, countAt, hung, putField, homeOf, markIn}
+use Rattle.summary.specs.Groups.{statesAt, sameStates, leaderFrom, leaderOf, joinedAt, added, addedFrom, summarised}
 use Rattle.summary.specs.Summary.{Summed}
 use Rattle.summary.proofs.ChainLaws.{home-below}
 use Rattle.summary.proofs.AddedLaws.{all-added}
@@ -88,9 +88,9 @@ drop-hung : (sum : List ℕ) (n home k mark : ℕ) → home < n → k < n → dr
 unfolding hung
 drop-hung sum n home k mark a b = drop-word _ (8 * n) (2 * k + 1) _ (omega arith) ∙ drop-word sum (8 * n) (2 * home) _ (omega arith)
 
-drop-counted : (sum : List ℕ) (n k x : ℕ) → k < n → drop (8 * n) (putCount sum k x) ≡ drop (8 * n) sum
-unfolding putCount
-drop-counted sum n k x b = drop-word _ (8 * n) (2 * k + 1) _ (omega arith) ∙ drop-word sum (8 * n) (2 * k) _ (omega arith)
+drop-field : (sum : List ℕ) (n k x : ℕ) → k < n → drop (8 * n) (putField sum k x) ≡ drop (8 * n) sum
+unfolding putField
+drop-field sum n k x b = drop-word _ (8 * n) (2 * k + 1) _ (omega arith) ∙ drop-word sum (8 * n) (2 * k) _ (omega arith)
 
 module _ (f list : List ℕ) (s : Shape) where
   leader-most : (sum states : List ℕ) (n fuel below link : ℕ) → below ≤ n → leaderFrom f list s sum states fuel below link ≤ n
@@ -107,7 +107,7 @@ module _ (f list : List ℕ) (s : Shape) where
       go ih false false e false = let u = ltb-false below (linked link) e in ih (linked link - 1) (nextLink sum (linked link - 1)) (omega arith)
 
   drop-added : (sum : List ℕ) (n k : ℕ) → k < n → drop (8 * n) (added f list s sum n k) ≡ drop (8 * n) sum
-  unfolding added leaderOf
+  unfolding added joinedAt leaderOf
   drop-added sum n k l = go (eqb leader 0) refl
     where
       leader : ℕ
@@ -117,12 +117,12 @@ module _ (f list : List ℕ) (s : Shape) where
       most = leader-most sum (statesAt f list s k) n (suc n) n (headLink sum (homeOf (statesMixed s (statesAt f list s k)) n)) (omega arith)
 
       go : (b : Bool) → eqb leader 0 ≡ b
-          → drop (8 * n) (choose b (λ _. putCount (hung sum (homeOf (statesMixed s (statesAt f list s k)) n) k (markIn (statesMixed s (statesAt f list s k)))) k 1)
-          (λ _. hung (putCount sum (leader - 1) (countAt sum (leader - 1) + 1)) (homeOf (numberOf s (cubeAt f list k)) n) k (markIn (numberOf s (cubeAt f list k))))) ≡ drop (8 * n) sum
-      go true e = drop-counted _ n k 1 l ∙ drop-hung sum n _ k _ (home-below _ n (omega arith)) l
+          → drop (8 * n) (choose b (λ _. putField (hung sum (homeOf (statesMixed s (statesAt f list s k)) n) k (markIn (statesMixed s (statesAt f list s k)))) k 1)
+          (λ _. joinedAt sum (leader - 1) (numberOf s (cubeAt f list k)) n k)) ≡ drop (8 * n) sum
+      go true e = drop-field _ n k 1 l ∙ drop-hung sum n _ k _ (home-below _ n (omega arith)) l
       go false e =
           let u = eqb-false leader 0 e in
-          drop-hung _ n _ k _ (home-below _ n (omega arith)) l ∙ drop-counted sum n (leader - 1) _ (omega (arith, most, u))
+          drop-field _ n k _ l ∙ drop-hung _ n _ k _ (home-below _ n (omega arith)) l ∙ drop-field sum n (leader - 1) _ (omega (arith, most, u))
 
   drop-all-added : (sum : List ℕ) (n m : ℕ) → m ≤ n → drop (8 * n) (addedFrom f list s sum n m) ≡ drop (8 * n) sum
   unfolding addedFrom

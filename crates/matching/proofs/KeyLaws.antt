@@ -35,7 +35,7 @@ countRoles : List (List Bool) → ℕ
 countRoles [] = 0
 countRoles (row ∷ rows) = countTrue row + countRoles rows
 
-total : List Tagged → ℕ
+pub total : List Tagged → ℕ
 total [] = 0
 total (x ∷ xs) = countRoles (x .roles) + total xs
 
@@ -157,7 +157,19 @@ module _ (r : ℕ → ℕ → Bool) where
       let u = sub-marks s (omega (arith, ap countRoles (w .roles))) in
       λ i. cond (someRole (w .roles i)) (record { process = w .process i; variable = w .variable i; roles = w .roles i } ∷ u i) (u i)
 
+  -- so of a message that is passed over the roles are none, and what is left still has as many
+  pub passed-over : (y : Tagged) (xs ys : List Tagged) → Subsequence (tagMatches r) xs ys → total xs ≡ total (y ∷ ys) → (someRole (y .roles) ≡ false) × (total xs ≡ total ys)
+  unfolding total
+  passed-over y xs ys s e = (none-role (y .roles) (omega (arith, sub-total s)), omega (arith, sub-total s))
+
+  pub kept-on : (x y : Tagged) (xs ys : List Tagged) → T (tagMatches r x y) → total (x ∷ xs) ≡ total (y ∷ ys) → total xs ≡ total ys
+  unfolding total
+  kept-on x y xs ys t e = omega (arith, ap countRoles (tag-match r x y .0 t .roles))
+
 -- ---- configurations
+
+pub same-total : (S : Shape) (e d : Configuration) → Proper S (e .memory) → Proper S (d .memory) → total (tagged S (e .memory)) ≡ total (tagged S (d .memory))
+same-total S e d g h = total-all S (e .memory) g ∙ sym (total-all S (d .memory) h)
 
 waits-newest : (x : ℕ) (xs : List ℕ) → (y : ℕ) × (newestWaiting (x ∷ xs) ≡ some y)
 waits-newest x [] = (x, refl)
@@ -176,5 +188,5 @@ match-key S r e d g h M =
       states = table-ext (S .processes) (e .state) (d .state) (M .states) i;
       empty = table-ext (S .processes) (λ p. table (S .variables) (λ v. isEmpty (e .queue p v))) (λ p. table (S .variables) (λ v. isEmpty (d .queue p v)))
           (λ p a. table-ext (S .variables) (λ v. isEmpty (e .queue p v)) (λ v. isEmpty (d .queue p v)) (λ v b. both-empty r (e .queue p v) (d .queue p v) (M .queues p v a b))) i;
-      marks = sub-marks r (M .channel) (total-all S (e .memory) g ∙ sym (total-all S (d .memory) h)) i;
+      marks = sub-marks r (M .channel) (same-total S e d g h) i;
     }

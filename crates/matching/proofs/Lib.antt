@@ -9,3 +9,4 @@ pub mod MatchLaws
 pub mod KeyLaws
 pub mod NumberLaws
 pub mod PackLaws
+pub mod SignatureLaws

@@ -1,18 +1,20 @@
--- Equal keys have equal numbers, so a match has.
-use Prim.Native.Nat.{ℕ, zero, suc, _+_, _-_, _*_, _<_, _≤_, min}
-use mathlib.Core.Path.{_≡_, refl, sym, ap, ap₂, subst, _∙_}
+-- Equal keys have equal numbers but for the signatures, so a match has.
+use Prim.Native.Nat.{ℕ, zero, suc, _+_, _-_, _*_, _/_, _%_, _<_, _≤_, min}
+use mathlib.Core.Path.{_≡_, refl, sym, ap, ap₂, subst, subst₂, _∙_}
 use mathlib.Core.Bool.{Bool, true, false, cond}
 use mathlib.Core.List.{List, [], _∷_, cons≢nil, head-eq-of-cons-eq, tail-eq-of-cons-eq}
 use native.Mathlib.Omega.{arith}
-use lib.Bits.{bitXor}
+use native.Mathlib.Decide.{decLe}
+use lib.Bits.{bitXor, bitOr}
 use lib.ListN.{getD}
 use lib.Dec.{T, leb}
+use borrow.Author.Tests.{le-leb, lt-leb}
 use Rattle.pws.specs.declared.Message.{Message}
 use Rattle.pws.specs.Program.{ShapeInRange}
 use Rattle.pws.specs.Machine.{Memory, noMessage, message, isEmpty}
 use Rattle.pws.specs.Configurations.{Fits}
 use Rattle.pws.specs.Entries.{ValueOrFF}
-use Rattle.pws.specs.Tagged.{Tagged, table, roles, hasRole, isLive, taggedFrom}
+use Rattle.pws.specs.Tagged.{Tagged, table, roles, hasRole, isLive, taggedFrom, tagged}
 use Rattle.pws.proofs.Facts.{Proper, proper}
 use Rattle.pws.proofs.Tagged.{table-at, yes-live, role-live}
 use Rattle.program_part.specs.declared.program.Shape.{Shape}
@@ -21,15 +23,19 @@ use Rattle.whole_file.specs.declared.entry.Queue.{Queue}
 use Rattle.whole_file.specs.declared.entry.Cube.{Cube}
 use Rattle.whole_file.specs.Cube.{noQueue, channelOf, configurationOf}
 use Rattle.whole_file.proofs.CubeParts.{channel-length, channel-message, queue-of}
-use Rattle.lists.specs.Matching.{matches}
+use Rattle.lists.specs.Values.{fills}
+use Rattle.lists.specs.Matching.{matches, Match, QueueMatch}
 use Rattle.lists.proofs.Matching.{matches-exact}
 use Rattle.matching.specs.Relation.{relation}
-use Rattle.matching.specs.Tags.{tagOf, tagsOf}
+use Rattle.matching.specs.Tags.{tagOf, tagsOf, lowestPointer}
+use Rattle.matching.specs.Signature.{Contained, messageBits, signed, queueBits, signatureOf}
 use Rattle.matching.specs.Key.{Mark, markOf, someRole, marksOf, Key, key}
-use Rattle.matching.specs.Number.{stir, behind, packedStates, emptyBit, packedRow, packedQueues, withTags, statesMixed, numberOf}
+use Rattle.matching.specs.Number.{stir, behind, packedStates, emptyBit, packedRow, packedQueues, withTags, statesMixed, withSignature, widened, signatureIn, Agrees, keyMixed, numberOf}
 use Rattle.matching.proofs.TagLaws.{mask-roles, ByteLabel, tag-is, tag-role, some-role}
 use Rattle.matching.proofs.MarkLaws.{tags-at}
-use Rattle.matching.proofs.KeyLaws.{match-key}
+use Rattle.matching.proofs.KeyLaws.{match-key, same-total}
+use Rattle.matching.proofs.ChannelLaws.{upTo, up-none, up-some}
+use Rattle.matching.proofs.SignatureLaws.{signedTags, signature-small, channel-contained, queues-contained, contained-all}
 
 -- ---- states and queues
 
@@ -95,6 +101,40 @@ module _ (s : Shape) (few : s .processes ≤ 4) (narrow : s .variables ≤ 4) wh
     tested : (i : ℕ) → i < c .count → leb 65536 (getD (tagsOf s c) i 0) ≡ someRole (roles (shapeOf s) m (suc i))
     tested i l = ap (leb 65536) (tags-at s c i l (omega arith)) ∙ tag-role s few narrow c short (suc i) (omega arith) (label i l)
 
+    -- the signature, by the messages with their roles
+    abbrev entry : ℕ → ℕ → Tagged
+    entry i k = record { message = getD (c .messages) k noMessage; roles = roles (shapeOf s) m (suc i) }
+
+    signed-tagged : (i : ℕ) → i ≤ c .count → (n r b : ℕ) → signed n (lowestPointer s (c .pointers)) (tagsOf s c) (c .messages) i r b ≡ signedTags n r b (upTo s c i)
+    unfolding signedTags
+    signed-tagged zero l n r b = refl
+    signed-tagged (suc i) l n r b = elim (decLe (lowestPointer s (c .pointers)) (suc i)) [
+      | yes d ↦
+          ap (λ (x : Bool). cond x (on (leb 65536 (getD (tagsOf s c) i 0))) b) (le-leb (lowestPointer s (c .pointers)) (suc i) d)
+          ∙ ap on (tested i l)
+          ∙ signed-tagged i (omega arith) n (cond role (suc r) r) (bitOr b (messageBits n r role (getD (c .messages) i noMessage)))
+          ∙ sym (ap (signedTags n r b) (up-some s few c (suc i) (omega arith) d ∙ ap (λ (k : ℕ). entry i k ∷ upTo s c k) z))
+      | no d ↦
+          ap (λ (x : Bool). cond x (on (leb 65536 (getD (tagsOf s c) i 0))) b) (lt-leb (lowestPointer s (c .pointers)) (suc i) (omega arith))
+          ∙ sym (ap (signedTags n r b) (up-none s few c (suc i) (omega arith) (omega arith)))
+    ]
+      where
+        z : suc i - 1 ≡ i
+        z = omega arith
+
+        role : Bool
+        role = someRole (roles (shapeOf s) m (suc i))
+
+        on : Bool → ℕ
+        on t = signed n (lowestPointer s (c .pointers)) (tagsOf s c) (c .messages) i (cond t (suc r) r) (bitOr b (messageBits n r t (getD (c .messages) i noMessage)))
+
+    signature-is : signatureOf s c ≡ signedTags (min (s .variables) 4) 0 (queueBits (min (s .variables) 4) (c .queues) (min (s .processes) 4)) (tagged (shapeOf s) m)
+    unfolding signatureOf
+    signature-is =
+        let e : min (c .count) 20 ≡ c .count = omega arith in
+        ap (λ (i : ℕ). signed (min (s .variables) 4) (lowestPointer s (c .pointers)) (tagsOf s c) (c .messages) i 0 (queueBits (min (s .variables) 4) (c .queues) (min (s .processes) 4))) e
+        ∙ signed-tagged (c .count) (omega arith) (min (s .variables) 4) 0 (queueBits (min (s .variables) 4) (c .queues) (min (s .processes) 4))
+
     -- nothing before the lowest pointer has a role
     no-tags : (n k : ℕ) → n ≤ c .count → isLive (shapeOf s) m n ≡ false → k ≤ n → keyTags (tagsOf s c) k ≡ []
     unfolding keyTags
@@ -150,6 +190,23 @@ module _ (s : Shape) (few : s .processes ≤ 4) (narrow : s .variables ≤ 4) wh
     same-tags (one-more i x w) (one-more j y v) e =
         ap₂ {C = List ℕ} (λ t r. t ∷ r) (same-tag i j x y (head-eq-of-cons-eq e)) (same-tags w v (tail-eq-of-cons-eq e))
 
+-- ---- signatures in numbers
+
+put-upper : (h x : ℕ) → x < 262144 → withSignature h x / 1048576 ≡ h / 1048576
+unfolding withSignature
+put-upper h x l = omega arith
+
+put-lowest : (h x : ℕ) → withSignature h x % 4 ≡ h % 4
+unfolding withSignature
+put-lowest h x = omega arith
+
+put-agrees : {h g x y : ℕ} → h ≡ g → x < 262144 → y < 262144 → Agrees (withSignature h x) (withSignature g y)
+put-agrees {h} {g} {x} {y} e l k =
+    record {
+      upper = put-upper h x l ∙ ap (λ (n : ℕ). n / 1048576) e ∙ sym (put-upper g y k);
+      lowest = put-lowest h x ∙ ap (λ (n : ℕ). n % 4) e ∙ sym (put-lowest g y);
+    }
+
 -- ---- cubes
 
 module _ (s : Shape) (exact : Bool) (a b : Cube) (R : ShapeInRange (shapeOf s))
@@ -182,9 +239,9 @@ module _ (s : Shape) (exact : Bool) (a b : Cube) (R : ShapeInRange (shapeOf s))
     same-roles = same-tags s few narrow a b k l (beside s few narrow a k (proper (A .memory)) (a .count) (omega arith)) (beside s few narrow b l (proper (B .memory)) (b .count) (omega arith))
         (ap (λ (z : Key). z .marks) same-key)
 
-    pub match-number : numberOf s a ≡ numberOf s b
-    unfolding numberOf
-    match-number =
+    same-mixed : keyMixed s a ≡ keyMixed s b
+    unfolding keyMixed
+    same-mixed =
         let x : min (a .count) 20 ≡ a .count = omega arith in
         let y : min (b .count) 20 ≡ b .count = omega arith in
         ap stir (ap₂ (withTags (tagsOf s a)) x
@@ -195,6 +252,42 @@ module _ (s : Shape) (exact : Bool) (a b : Cube) (R : ShapeInRange (shapeOf s))
         h : ℕ
         h = packedQueues (min (s .variables) 4) (b .queues) (min (s .processes) 4) (packedStates (min (s .processes) 4) (b .states))
 
+    pub match-number : Agrees (numberOf s a) (numberOf s b)
+    unfolding numberOf
+    match-number = put-agrees same-mixed (signature-small s a) (signature-small s b)
+
     pub match-states : statesMixed s (a .states) ≡ statesMixed s (b .states)
     unfolding statesMixed
     match-states = ap stir same-states
+
+-- an entry that covers a cube
+pub match-signature : (s : Shape) (a b : Cube) → ShapeInRange (shapeOf s) → Fits (ValueOrFF (shapeOf s)) (shapeOf s) (configurationOf a) → Fits (ValueOrFF (shapeOf s)) (shapeOf s) (configurationOf b)
+    → a .count ≤ 20 → b .count ≤ 20 → matches (shapeOf s) fills (configurationOf a) (configurationOf b) ≡ true → Contained (signatureOf s a) (signatureOf s b)
+match-signature s a b R A B k l t =
+    subst₂ Contained (sym (signature-is s few narrow a k (proper (A .memory)))) (sym (signature-is s few narrow b l (proper (B .memory))))
+    (channel-contained (min (s .variables) 4) (M .channel) (same-total (shapeOf s) (configurationOf a) (configurationOf b) (proper (A .memory)) (proper (B .memory))) 0
+    (queues-contained (a .queues) (b .queues) (min (s .variables) 4) (min (s .processes) 4)
+    (λ p v d e. subst₂ (QueueMatch fills) (queue-of (a .queues) p v (omega arith) (omega arith)) (queue-of (b .queues) p v (omega arith) (omega arith)) (M .queues p v (omega arith) (omega arith)))))
+  where
+    few : s .processes ≤ 4
+    few = R .processes
+
+    narrow : s .variables ≤ 4
+    narrow = R .variables
+
+    M : Match (shapeOf s) fills (configurationOf a) (configurationOf b)
+    M = matches-exact (shapeOf s) fills (configurationOf a) (configurationOf b) .0 (subst T (sym t) tt)
+
+-- the signature in a cube's number
+pub number-signature : (s : Shape) (c : Cube) → signatureIn (numberOf s c) ≡ signatureOf s c
+unfolding numberOf withSignature
+number-signature s c = omega (arith, signature-small s c)
+
+-- a number with every bit of a signature agrees with what the number does
+pub agrees-widened : {x y : ℕ} → Agrees x y → Agrees x (widened y)
+unfolding widened
+agrees-widened {x} {y} w = record { upper = w .upper ∙ sym (put-upper y 262143 (omega arith)); lowest = w .lowest ∙ sym (put-lowest y 262143) }
+
+pub signature-any : (x y : ℕ) → Contained (signatureIn x) (signatureIn (widened y))
+unfolding widened withSignature
+signature-any x y = let e : signatureIn (1048576 * (y / 1048576) + (4 * 262143 + y % 4)) ≡ 262143 = omega arith in subst (Contained (signatureIn x)) (sym e) (contained-all (signatureIn x) (omega arith))

@@ -1,5 +1,5 @@
 -- Loops that gather: one more of what they go over.
-use Prim.Native.Nat.{ℕ, zero, suc, _+_, _-_, _*_, _%_, _^_, _<_, _≤_, min}
+use Prim.Native.Nat.{ℕ, zero, suc, _+_, _-_, _*_, _/_, _%_, _^_, _<_, _≤_, min}
 use mathlib.Core.Path.{_≡_, refl, sym, ap, ap₂, subst, _∙_}
 use mathlib.Core.Bool.{Bool, true, false, cond}
 use mathlib.Core.List.{List, [], _∷_}
@@ -12,7 +12,7 @@ use Rattle.pws.specs.Machine.{isEmpty}
 use Rattle.whole_file.specs.declared.entry.Queue.{Queue}
 use Rattle.whole_file.specs.Cube.{noQueue}
 use Rattle.matching.specs.Tags.{lowestBelow}
-use Rattle.matching.specs.Number.{stir, behind, packedStates, emptyBit, packedRow, packedQueues, withTags}
+use Rattle.matching.specs.Number.{stir, behind, packedStates, emptyBit, packedRow, packedQueues, withTags, withSignature}
 
 pub lowest-next : (zs : List ℕ) (p : ℕ) {low x : ℕ} → low ≡ lowestBelow p zs → x ≡ min low (getD zs p 0) → x ≡ lowestBelow (p + 1) zs
 lowest-next zs p e f = simp unary-clauses (f ∙ ap (λ (k : ℕ). min k (getD zs p 0)) e)
@@ -62,3 +62,7 @@ module _ (ts : List ℕ) where
       ap (λ (k : ℕ). withTags ts k h) z
       ∙ ap (λ (b : Bool). withTags ts j (cond b (bitXor (stir h) (getD ts j 0)) h)) (sym (lt-leb 65536 (getD ts j 0) l))
       ∙ e
+
+pub signature-put : (h x : ℕ) → h - h % 1048576 + 4 * x + h % 4 ≡ withSignature h x
+unfolding withSignature
+signature-put h x = omega arith

@@ -1,5 +1,7 @@
--- The number of a cube's key, and of its local states: only that equal keys have equal numbers is ever used (`match-number`, `match-states`).
+-- The number of a cube, and of its local states. Only this is ever used: an entry that matches a cube has its number but for the signature
+-- (`match-number`, `match-states`), and no bit of a signature that a cube has not which it covers (`match-signature`).
 use Prim.Native.Nat.{ℕ, zero, suc, _+_, _*_, _/_, _%_, _^_, min}
+use mathlib.Core.Path.{_≡_}
 use mathlib.Core.Bool.{cond}
 use mathlib.Core.List.{List}
 use lib.Bits.{bitXor}
@@ -11,6 +13,7 @@ use Rattle.whole_file.specs.declared.entry.Queue.{Queue}
 use Rattle.whole_file.specs.declared.entry.Cube.{Cube}
 use Rattle.whole_file.specs.Cube.{noQueue, waitingOf}
 use Rattle.matching.specs.Tags.{tagsOf}
+use Rattle.matching.specs.Signature.{signatureOf}
 
 -- in 64 bits
 unfoldable pub mixLeft : ℕ → ℕ → ℕ
@@ -55,8 +58,29 @@ withTags ts (suc n) h = withTags ts n (withTag (getD ts n 0) h)
 unfoldable pub statesMixed : Shape → List ℕ → ℕ
 statesMixed s zs = stir (packedStates (min (s .processes) 4) zs)
 
-unfoldable pub numberOf : Shape → Cube → ℕ
-numberOf s c =
+-- a number with a signature of eighteen bits above its lowest two
+unfoldable pub withSignature : ℕ → ℕ → ℕ
+withSignature h x = 1048576 * (h / 1048576) + (4 * x + h % 4)
+
+-- with every bit of one
+unfoldable pub widened : ℕ → ℕ
+widened x = withSignature x 262143
+
+-- that signature
+abbrev pub signatureIn : ℕ → ℕ
+signatureIn x = x / 4 % 262144
+
+-- two numbers that differ in their signatures alone
+pub record Agrees (x y : ℕ) : Type 0 where
+  pub upper : x / 1048576 ≡ y / 1048576
+  pub lowest : x % 4 ≡ y % 4
+
+-- of the key alone
+unfoldable pub keyMixed : Shape → Cube → ℕ
+keyMixed s c =
     stir
     (withTags (tagsOf s c) (min (c .count) 20)
     (packedQueues (min (s .variables) 4) (c .queues) (min (s .processes) 4) (packedStates (min (s .processes) 4) (c .states))))
+
+unfoldable pub numberOf : Shape → Cube → ℕ
+numberOf s c = withSignature (keyMixed s c) (signatureOf s c)

@@ -4,12 +4,14 @@
 mod channel;
 mod number;
 mod queues;
+mod signature;
 mod tags;
 mod values;
 
 pub use channel::channel_matches;
 pub use number::number_of;
 pub use number::states_number;
+pub use number::widened;
 pub use queues::queue_matches;
 pub use queues::queues_match;
 pub use queues::states_match;

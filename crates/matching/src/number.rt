@@ -1,8 +1,9 @@
-// The number of a cube's key, by shifting and xor only: no sum that could overflow, and no product.
+// The number of a cube: its key is mixed by shifting and xor only, with no sum that could overflow and no product.
 ghost use mathlib.Core.Path.{_≡_};
-ghost use Prim.Native.Nat.{min};
+ghost use Prim.Native.Nat.{_<_, min};
 ghost use Rattle.matching.specs.Tags.{tagsOf};
-ghost use Rattle.matching.specs.Number.{stir, packedStates, emptyBit, packedQueues, statesMixed, numberOf};
+ghost use Rattle.matching.specs.Number.{stir, packedStates, emptyBit, packedQueues, statesMixed, withSignature, widened, numberOf};
+use crate::signature::signature_of;
 use crate::values::least;
 use crate::values::waiting;
 use program_part::program::Shape;
@@ -68,7 +69,16 @@ pub fn states_number(shape: Shape, states: [u8; 4]) -> u64
     stir(packed_states(shape.processes, states))
 }
 
-// The number of a cube's key: states, which queues are empty, and the tags with a role, newest first.
+// A number with a signature in its lower bits, above the lowest two.
+fn with_signature(h: u64, signature: usize) -> u64
+    requires { ⌜ signature < 262144 ⌝ }
+    ensures { λ r. ⌜ r ≡ withSignature h signature ⌝ }
+{
+    h - h % 1048576 + 4 * signature as u64 + h % 4
+}
+
+// The number of a cube: of its key in the upper bits and the lowest two, that is of states, which queues are empty, and the tags with a role, newest
+// first; and its signature between them.
 pub fn number_of(shape: Shape, cube: Cube, tags: [u64; 20]) -> u64
     ensures { λ r. ⌜ (tags ≡ tagsOf shape cube → r ≡ numberOf shape cube) ⌝ }
 {
@@ -84,5 +94,12 @@ pub fn number_of(shape: Shape, cube: Cube, tags: [u64; 20]) -> u64
             h = stir(h) ^ tag;
         }
     }
-    stir(h)
+    with_signature(stir(h), signature_of(shape, cube, tags))
+}
+
+// The number with every bit of a signature: any entry with the cube's key is looked for.
+pub fn widened(number: u64) -> u64
+    ensures { λ r. ⌜ r ≡ widened number ⌝ }
+{
+    with_signature(number, 262143)
 }

@@ -14,12 +14,12 @@ use Rattle.program_part.specs.declared.program.Shape.{Shape}
 use Rattle.program_part.specs.Bytes.{choose, byte, le32}
 use Rattle.by_number.specs.Again.{cubeAt}
 use Rattle.matching.specs.Tags.{sumBelow}
-use Rattle.matching.specs.Number.{numberOf, statesMixed}
+use Rattle.matching.specs.Number.{signatureIn, numberOf, statesMixed}
 use Rattle.matching.proofs.SumLaws.{sum-zero}
-use Rattle.summary.specs.Slots.{word, linked, linkTo, headLink, nextLink, countAt, hung, putCount, homeOf, markIn, Met}
-use Rattle.summary.specs.Groups.{sameStates, statesAt, leads, inGroup, leaderOf, added, addedFrom, summaryOf}
+use Rattle.summary.specs.Slots.{word, linked, linkTo, headLink, nextLink, fieldAt, countAt, signatureAt, hung, putField, homeOf, markIn, Met}
+use Rattle.summary.specs.Groups.{sameStates, statesAt, leads, inGroup, leaderOf, joinedAt, added, addedFrom, summaryOf}
 use Rattle.summary.specs.Summary.{Grouped, Summed}
-use Rattle.summary.proofs.WordLaws.{put-is, put-is-not, put-ext, hung-length, hung-head, hung-next, hung-count, counted-length, counted-head, counted-next, counted-count}
+use Rattle.summary.proofs.WordLaws.{put-is, put-is-not, put-ext, put-own, hung-length, hung-head, hung-next, hung-count, hung-signature, counted-length, counted-head, counted-next, counted-count, signed-count, put-signature}
 use Rattle.summary.proofs.ChainLaws.{home-below, met-new, met-old, heads-new}
 use Rattle.summary.proofs.GroupLaws.{true-false, same-sym, same-false, same-trans, leads-none, none-leads, one-leads, in-none, in-more, in-same, in-most, same-refl, sum-one}
 use Rattle.summary.proofs.LeaderLaws.{leader-is, leader-leads, no-leader, leads-counted}
@@ -56,8 +56,9 @@ module _ {f list sum : List ℕ} {n : ℕ} {s : Shape} {m : ℕ} (G : Grouped f 
 
     -- the entry goes where it is looked for, and the group is its own
     pub grouped-more : ((k : ℕ) → k < n → countAt new k ≡ cond (ltb k (suc m) && leads f list s k) (inGroup f list s (suc m) (st k)) 0)
-        → (leads f list s m ≡ true → number ≡ statesMixed s (st m)) → (leads f list s m ≡ false → number ≡ numberOf s (cubeAt f list m)) → Grouped f list new n s (suc m)
-    grouped-more numbers a b =
+        → (leads f list s m ≡ true → number ≡ statesMixed s (st m)) → (leads f list s m ≡ false → number ≡ numberOf s (cubeAt f list m))
+        → ((k : ℕ) → k < m → leads f list s k ≡ false → signatureAt new k ≡ signatureAt sum k) → (leads f list s m ≡ false → signatureAt new m ≡ signatureIn number) → Grouped f list new n s (suc m)
+    grouped-more numbers a b c d =
         record {
           most = l;
           room = omega (arith, G .room);
@@ -70,6 +71,10 @@ module _ {f list sum : List ℕ} {n : ℕ} {s : Shape} {m : ℕ} (G : Grouped f 
           others = λ k x e. elim (ℕ-discrete k m) [
             | yes d ↦ rw d (subst (λ (h : ℕ). Met new n (headLink new (homeOf h n)) m (markIn h)) (b (sym (ap (leads f list s) d) ∙ e)) joins)
             | no d ↦ old (numberOf s (cubeAt f list k)) k (markIn (numberOf s (cubeAt f list k))) (G .others k (omega arith) e)
+          ];
+          signed = λ k x e. elim (ℕ-discrete k m) [
+            | yes q ↦ rw q (let y = sym (ap (leads f list s) q) ∙ e in d y ∙ ap signatureIn (b y))
+            | no q ↦ c k (omega arith) e ∙ G .signed k (omega arith) e
           ];
           heads = heads;
         }
@@ -97,7 +102,7 @@ module _ {f list sum : List ℕ} {n : ℕ} {s : Shape} {m : ℕ} (G : Grouped f 
     hangs = hung sum (homeOf number n) m (markIn number)
 
     leading : List ℕ
-    leading = putCount hangs m 1
+    leading = putField hangs m 1
 
     led-home : homeOf number n < n
     led-home = home-below number n (omega arith)
@@ -115,7 +120,7 @@ module _ {f list sum : List ℕ} {n : ℕ} {s : Shape} {m : ℕ} (G : Grouped f 
     led-numbers : (i : ℕ) → countAt leading i ≡ put (countAt sum) m (countAt sum m + 1) i
     unfolding leading hangs
     led-numbers i =
-        counted-count hangs n led-room m 1 l (omega arith) i
+        counted-count hangs n led-room m 1 l (omega arith) (omega arith) i
         ∙ put-ext (countAt hangs) (countAt sum) m 1 (countAt sum m + 1) i (omega (arith, m-none))
         (hung-count sum n (G .room) (homeOf number n) m (markIn number) led-home l (omega arith) (omega arith) i)
 
@@ -133,6 +138,9 @@ module _ {f list sum : List ℕ} {n : ℕ} {s : Shape} {m : ℕ} (G : Grouped f 
               ∙ kept-number k x d (λ y e. same-false s (st m) (st k) (λ q. no-same k y (same-sym s (st m) (st k) q)))
         ])
         (λ e. refl) (λ e. absurd (true-false (sym m-leads ∙ e)))
+        (λ k x e. put-signature hangs n led-room m 1 l (omega arith) k ∙ put-is-not (signatureAt hangs) m 1 k (λ z. omega arith)
+        ∙ hung-signature sum n (G .room) (homeOf number n) m (markIn number) led-home l (omega arith) (omega arith) k)
+        (λ e. absurd (true-false (sym m-leads ∙ e)))
 
   -- ---- one that joins the group of entry j
 
@@ -149,28 +157,74 @@ module _ {f list sum : List ℕ} {n : ℕ} {s : Shape} {m : ℕ} (G : Grouped f 
     j-number : countAt sum j ≡ inGroup f list s m (st j)
     j-number = leads-counted G j jm j-leads
 
-    fits : countAt sum j + 1 < 1048576
+    fits : countAt sum j + 1 < 786432
     fits = omega (arith, j-number, in-most f list s m (st j))
 
     key : ℕ
     key = numberOf s (cubeAt f list m)
 
     counts : List ℕ
-    counts = putCount sum j (countAt sum j + 1)
+    counts = putField sum j (countAt sum j + 1)
+
+    wide : countAt sum j + 1 < 1048576
+    wide = omega (arith, fits)
+
+    hung-on : List ℕ
+    hung-on = hung counts (homeOf key n) m (markIn key)
+
+    field : ℕ
+    field = 786432 + signatureIn key
+
+    field-small : field < 1048576
+    unfolding field
+    field-small = omega arith
+
+    field-signed : 786432 ≤ field
+    unfolding field
+    field-signed = omega arith
 
     joined : List ℕ
-    joined = hung counts (homeOf key n) m (markIn key)
+    joined = putField hung-on m field
 
     join-room : 8 * n ≤ length counts
     unfolding counts
-    join-room = omega (arith, counted-length sum n (G .room) j (countAt sum j + 1) (omega (arith, jm)) fits, G .room)
+    join-room = omega (arith, counted-length sum n (G .room) j (countAt sum j + 1) (omega (arith, jm)) wide, G .room)
 
     key-home : homeOf key n < n
     key-home = home-below key n (omega arith)
 
+    on-length : length hung-on ≡ length counts
+    unfolding hung-on
+    on-length = hung-length counts n join-room (homeOf key n) m (markIn key) key-home l (omega arith) (omega arith)
+
+    on-room : 8 * n ≤ length hung-on
+    on-room = omega (arith, on-length, join-room)
+
+    on-numbers : (i : ℕ) → countAt hung-on i ≡ put (countAt sum) j (countAt sum j + 1) i
+    unfolding hung-on counts
+    on-numbers i = hung-count counts n join-room (homeOf key n) m (markIn key) key-home l (omega arith) (omega arith) i ∙ counted-count sum n (G .room) j (countAt sum j + 1) (omega (arith, jm)) wide fits i
+
+    m-other : m ≢ j
+    m-other e = omega (arith, jm)
+
     join-numbers : (i : ℕ) → countAt joined i ≡ put (countAt sum) j (countAt sum j + 1) i
-    unfolding joined counts
-    join-numbers i = hung-count counts n join-room (homeOf key n) m (markIn key) key-home l (omega arith) (omega arith) i ∙ counted-count sum n (G .room) j (countAt sum j + 1) (omega (arith, jm)) fits i
+    unfolding joined
+    join-numbers i =
+        signed-count hung-on n on-room m field l field-small field-signed i
+        ∙ put-own (countAt hung-on) m 0 i (sym (on-numbers m ∙ put-is-not (countAt sum) j (countAt sum j + 1) m m-other ∙ m-none))
+        ∙ on-numbers i
+
+    -- only the signature of entry m is new, and that of entry j, which leads a group, is no more
+    join-signature : (k : ℕ) → k ≢ j → k ≢ m → signatureAt joined k ≡ signatureAt sum k
+    unfolding joined hung-on counts
+    join-signature k d e =
+        put-signature hung-on n on-room m field l field-small k ∙ put-is-not (signatureAt hung-on) m (field % 262144) k e
+        ∙ hung-signature counts n join-room (homeOf key n) m (markIn key) key-home l (omega arith) (omega arith) k
+        ∙ put-signature sum n (G .room) j (countAt sum j + 1) (omega (arith, jm)) wide k ∙ put-is-not (signatureAt sum) j ((countAt sum j + 1) % 262144) k d
+
+    own-signature : signatureAt joined m ≡ signatureIn key
+    unfolding joined field
+    own-signature = put-signature hung-on n on-room m field l field-small m ∙ put-is (signatureAt hung-on) m (field % 262144) ∙ omega arith
 
     m-follows : leads f list s m ≡ true → ⊥
     m-follows e = leads-none f list s m e j jm j-same
@@ -183,15 +237,17 @@ module _ {f list sum : List ℕ} {n : ℕ} {s : Shape} {m : ℕ} (G : Grouped f 
         go false e = refl
 
     grouped-next : Grouped f list joined n s (suc m)
-    unfolding joined counts key
+    unfolding joined hung-on counts key
     grouped-next =
-        let head = counted-head sum n (G .room) j (countAt sum j + 1) (omega (arith, jm)) fits in
-        let next = counted-next sum n (G .room) j (countAt sum j + 1) (omega (arith, jm)) fits in
+        let head = counted-head sum n (G .room) j (countAt sum j + 1) (omega (arith, jm)) wide in
+        let next = counted-next sum n (G .room) j (countAt sum j + 1) (omega (arith, jm)) wide in
         grouped-more joined key j
-        (hung-length counts n join-room (homeOf key n) m (markIn key) key-home l (omega arith) (omega arith) ∙ counted-length sum n (G .room) j (countAt sum j + 1) (omega (arith, jm)) fits) (omega (arith, jm))
-        (λ i. hung-head counts n join-room (homeOf key n) m (markIn key) key-home l (omega arith) (omega arith) i
+        (counted-length hung-on n on-room m field l field-small ∙ on-length ∙ counted-length sum n (G .room) j (countAt sum j + 1) (omega (arith, jm)) wide) (omega (arith, jm))
+        (λ i. counted-head hung-on n on-room m field l field-small i
+        ∙ hung-head counts n join-room (homeOf key n) m (markIn key) key-home l (omega arith) (omega arith) i
         ∙ put-ext (headLink counts) (headLink sum) (homeOf key n) (linkTo m (markIn key)) (linkTo m (markIn key)) i refl (head i))
-        (λ i. hung-next counts n join-room (homeOf key n) m (markIn key) key-home l (omega arith) (omega arith) i
+        (λ i. counted-next hung-on n on-room m field l field-small i
+        ∙ hung-next counts n join-room (homeOf key n) m (markIn key) key-home l (omega arith) (omega arith) i
         ∙ put-ext (nextLink counts) (nextLink sum) m (headLink counts (homeOf key n)) (headLink sum (homeOf key n)) i (head (homeOf key n)) (next i)) join-numbers
         (λ k x. elim (ℕ-discrete k j) [
           | yes d ↦ rw d (join-numbers j ∙ put-is (countAt sum) j (countAt sum j + 1) ∙ rw (lt-ltb j (suc m) (omega (arith, jm)), j-leads)
@@ -202,9 +258,10 @@ module _ {f list sum : List ℕ} {n : ℕ} {s : Shape} {m : ℕ} (G : Grouped f 
           ]
         ])
         (λ e. absurd (m-follows e)) (λ e. refl)
+        (λ k x e. join-signature k (λ z. true-false (sym j-leads ∙ sym (ap (leads f list s) z) ∙ e)) (λ z. omega arith)) (λ e. own-signature)
 
   pub grouped-added : Grouped f list (added f list s sum n m) n s (suc m)
-  unfolding added leading hangs number joined counts key
+  unfolding added joinedAt leading hangs number joined hung-on field counts key
   grouped-added = go (leaderOf f list s sum n (st m)) refl
     where
       go : (x : ℕ) → leaderOf f list s sum n (st m) ≡ x → Grouped f list (added f list s sum n m) n s (suc m)
@@ -222,7 +279,7 @@ module _ (f list sum : List ℕ) (s : Shape) (n : ℕ) (few : n ≤ 524288) (roo
       (omega (arith, blank (4 * i) (omega arith), blank (4 * i + 1) (omega arith), blank (4 * i + 2) (omega arith), blank (4 * i + 3) (omega arith)))
 
   count-blank : (k : ℕ) → k < n → countAt sum k ≡ 0
-  unfolding countAt
+  unfolding countAt fieldAt
   count-blank k l = rw (word-blank (2 * k) (omega arith), word-blank (2 * k + 1) (omega arith))
 
   head-blank : (k : ℕ) → k < n → headLink sum k ≡ 0
@@ -238,6 +295,7 @@ module _ (f list sum : List ℕ) (s : Shape) (n : ℕ) (few : n ≤ 524288) (roo
         total = sum-zero n (countAt sum) count-blank;
         first = λ k l e. absurd (omega arith);
         others = λ k l e. absurd (omega arith);
+        signed = λ k l e. absurd (omega arith);
         heads = λ h l. rw (head-blank h l) (omega arith);
       }
 

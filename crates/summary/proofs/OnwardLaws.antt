@@ -1,21 +1,38 @@
 -- The walk over what may match: nothing that is still to come is left out.
-use Prim.Native.Nat.{ℕ, zero, suc, _+_, _-_, _<_, _≤_}
-use mathlib.Core.Path.{_≡_, refl, sym, ap, subst, _∙_}
+use Prim.Native.Nat.{ℕ, zero, suc, _+_, _-_, _/_, _^_, _<_, _≤_}
+use mathlib.Core.Path.{_≡_, refl, sym, ap, ap₂, subst, subst₂, _∙_}
 use mathlib.Core.Logic.{_⊎_, inl, inr, ⊎-elim}
-use mathlib.Core.Bool.{Bool, true, false, cond}
+use mathlib.Core.Bool.{Bool, true, false, cond, _&&_}
 use mathlib.Core.List.{List}
 use native.Mathlib.Omega.{arith}
+use native.Mathlib.Decide.{decLe}
+use lib.Bits.{bitOr}
+use lib.Dec.{eqb, ltb}
+use lib.Count.{leadingZeros, leading-top}
+use lib.Pow.{shr-shr, pow-mono}
+use borrow.Author.Tests.{lt-ltb, eqb-true, eq-eqb}
+use Rattle.program_part.proofs.ProgramLaws.{and-true}
 use Rattle.program_part.specs.declared.program.Shape.{Shape}
+use Rattle.program_part.specs.Bytes.{choose}
 use Rattle.by_number.specs.Again.{cubeAt}
-use Rattle.matching.specs.Number.{numberOf, statesMixed}
+use Rattle.matching.specs.Signature.{Contained}
+use Rattle.matching.specs.Number.{signatureIn, Agrees, numberOf, statesMixed}
 use Rattle.summary.specs.declared.walking.Walk.{Walk}
-use Rattle.summary.specs.Slots.{linked, marked, headLink, nextLink, homeOf, markIn, Met, here, later}
+use Rattle.summary.specs.Slots.{linked, marked, headLink, nextLink, signatureAt, homeOf, markIn, Met, here, later}
 use Rattle.summary.specs.Groups.{sameStates, statesAt, leads, leaderOf}
 use Rattle.summary.specs.Summary.{Grouped, Summed}
 use Rattle.summary.specs.Walks.{Left, ahead, Led, Onward}
 use Rattle.summary.proofs.ChainLaws.{met-cases, met-none, met-past}
 use Rattle.summary.proofs.GroupLaws.{true-false, leader-before, same-trans}
 use Rattle.summary.proofs.LeaderLaws.{leader-is}
+
+-- the code's test of a link: its mark and the signature of the entry
+pub mark-met : (x y : ℕ) (b : Bool) {r : Bool} → r ≡ (eqb x y && b) → r ≡ true → x ≡ y
+mark-met x y b f g = eqb-true x y (and-true (eqb x y) b (sym f ∙ g) .0)
+
+pub link-missed : (x y : ℕ) {b r : Bool} {signature bits : ℕ} → b ≡ eqb (bitOr signature bits) bits → r ≡ (eqb x y && b) → r ≡ false → x ≡ y → Contained signature bits → ⊥
+link-missed x y {signature = signature} {bits = bits} d f g q w =
+    true-false (sym (f ∙ ap₂ _&&_ (eq-eqb x y q) (d ∙ eq-eqb (bitOr signature bits) bits (w .are))) ∙ g)
 
 module _ (f list sum : List ℕ) (n : ℕ) (s : Shape) (states : List ℕ) (number below link : ℕ) (led : Bool) where
   -- so far only entries with other marks were passed
@@ -31,7 +48,7 @@ module _ (f list sum : List ℕ) (n : ℕ) (s : Shape) (states : List ℕ) (numb
     -- the chain ends here
     chain-over : (next ≡ 0) ⊎ (under < next) → (k : ℕ) → Left f list sum n s states number below link led k → (led ≡ false) × (leaderOf f list s sum n states ≡ suc k)
     chain-over o k r = ⊎-elim
-        (λ m. absurd (⊎-elim (λ z. met-none m (sym e ∙ z)) (λ z. met-past m (omega arith)) o))
+        (λ m. absurd (⊎-elim (λ z. met-none (m .0) (sym e ∙ z)) (λ z. met-past (m .0) (omega arith)) o))
         (λ m. m)
         (w .kept k r)
 
@@ -65,34 +82,61 @@ module _ (f list sum : List ℕ) (n : ℕ) (s : Shape) (states : List ℕ) (numb
             none = λ z. absurd (d z);
             exists = omega (arith, w .most, w .few);
             shorter = λ z. let u = w .most in less led;
-            rest = λ z k x. ⊎-elim (λ m. ⊎-elim (λ y. inl (y .0)) (λ y. inr (inl y)) (split k (markIn number) m)) (λ m. inr (inr m)) (w .kept k x);
+            rest = λ z k x. ⊎-elim (λ m. ⊎-elim (λ y. inl (y .0)) (λ y. inr (inl (y, m .1))) (split k (markIn number) (m .0))) (λ m. inr (inr m)) (w .kept k x);
           }
         where
           less : (b : Bool) → (next - 1) + cond b 0 1 < below + cond b 0 1
           less true = omega (arith, w .most, d)
           less false = omega (arith, w .most, d)
 
-      pub passing-on : (marked at ≡ markIn number → ⊥) → Passing (next - 1) after
+      pub passing-on : (marked at ≡ markIn number → Contained (signatureAt sum (next - 1)) (signatureIn number) → ⊥) → Passing (next - 1) after
       passing-on q =
           record {
             few = w .few;
             most = omega (arith, w .most);
-            kept = λ k x. ⊎-elim (λ m. ⊎-elim (λ y. absurd (q (sym (y .1)))) (λ y. inl y) (split k (markIn number) m)) (λ m. inr m) (w .kept k x);
+            kept = λ k x. ⊎-elim
+                (λ m. ⊎-elim
+                (λ y. absurd (q (sym (y .1)) (let z : next - 1 ≡ k = omega (arith, y .0) in subst (λ (i : ℕ). Contained (signatureAt sum i) (signatureIn number)) (sym z) (m .1))))
+                (λ y. inl (y, m .1)) (split k (markIn number) (m .0)))
+                (λ m. inr m) (w .kept k x);
           }
 
 -- ---- what was not met does not match
 
--- a test that only entries with this number and these local states pass
+-- numbers that differ in their signatures alone have one home
+pub home-agrees : (x y n : ℕ) → n ≤ 524288 → x / 1048576 ≡ y / 1048576 → homeOf x n ≡ homeOf y n
+unfolding homeOf
+home-agrees x y n few e = elim (decLe 2 n) [
+  | no d ↦ rw (lt-ltb n 2 (omega arith))
+  | yes d ↦ ap (λ (z : ℕ). choose (ltb n 2) (λ _. 0) (λ _. choose (ltb z n) (λ _. z) (λ _. choose (ltb (z - n) n) (λ _. z - n) (λ _. 0)))) (shifted d)
+]
+  where
+    shifted : 2 ≤ n → x / 2 ^ leadingZeros 64 (n - 1) ≡ y / 2 ^ leadingZeros 64 (n - 1)
+    shifted d =
+        let r = leading-top 64 (n - 1) (omega arith) (omega arith) in
+        let few-bits : r .0 < 20 = low (r .0) (r .2) in
+        let z : leadingZeros 64 (n - 1) ≡ 20 + (leadingZeros 64 (n - 1) - 20) = omega (arith, r .1) in
+        let k = leadingZeros 64 (n - 1) - 20 in
+        ap (λ (i : ℕ). x / 2 ^ i) z ∙ sym (shr-shr x 20 k) ∙ ap (λ (v : ℕ). v / 2 ^ k) e ∙ shr-shr y 20 k ∙ sym (ap (λ (i : ℕ). y / 2 ^ i) z)
+      where
+        low : (j : ℕ) → 2 ^ j ≤ n - 1 → j < 20
+        low j b = elim (decLe 20 j) [ yes g ↦ absurd (omega (arith, b, pow-mono {i = 20} {j = j} g)) | no g ↦ omega arith ]
+
+-- a test that only entries pass whose number differs from this one in the signature alone, which has no bit that this one has not, and with these
+-- local states
 module _ {f list sum : List ℕ} {n : ℕ} {s : Shape} (Z : Summed f list sum n s) (states : List ℕ) (number : ℕ) (test : ℕ → Bool)
-    (only : (k : ℕ) → k < n → test k ≡ true → (numberOf s (cubeAt f list k) ≡ number) × (sameStates s (statesAt f list s k) states ≡ true)) where
+    (agrees : (k : ℕ) → k < n → test k ≡ true → Agrees (numberOf s (cubeAt f list k)) number)
+    (contained : (k : ℕ) → k < n → test k ≡ true → Contained (signatureIn (numberOf s (cubeAt f list k))) (signatureIn number))
+    (same : (k : ℕ) → k < n → test k ≡ true → sameStates s (statesAt f list s k) states ≡ true) where
   pub all-walked : ((k : ℕ) → Left f list sum n s states number n (headLink sum (homeOf number n)) false k → test k ≡ false) → (k : ℕ) → k < n → test k ≡ false
   all-walked g k l = go (test k) refl (leads f list s k) refl
     where
       go : (b : Bool) → test k ≡ b → (x : Bool) → leads f list s k ≡ x → b ≡ false
       go false e x q = refl
-      go true e true q =
-          let r = only k l e in
-          absurd (true-false (sym e ∙ g k (inr (refl, leader-is (Z .grouped) states k l q (r .1)))))
+      go true e true q = absurd (true-false (sym e ∙ g k (inr (refl, leader-is (Z .grouped) states k l q (same k l e)))))
       go true e false q =
-          let r = only k l e in
-          absurd (true-false (sym e ∙ g k (inl (subst (λ (x : ℕ). Met sum n (headLink sum (homeOf x n)) k (markIn x)) (r .0) (Z .grouped .others k l q)))))
+          let r = agrees k l e in
+          absurd (true-false (sym e ∙ g k (inl (
+            subst₂ (λ (h m : ℕ). Met sum n (headLink sum h) k m) (home-agrees (numberOf s (cubeAt f list k)) number n (Z .count) (r .upper)) (r .lowest) (Z .grouped .others k l q),
+            subst (λ (b : ℕ). Contained b (signatureIn number)) (sym (Z .grouped .signed k l q)) (contained k l e),
+          ))))

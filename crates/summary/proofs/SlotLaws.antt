@@ -5,11 +5,12 @@ use mathlib.Core.Bool.{Bool, true, false, cond}
 use mathlib.Core.List.{List}
 use native.Mathlib.Omega.{arith}
 use lib.ListN.{length}
-use lib.Dec.{ltb}
+use lib.Bits.{bitOr}
+use lib.Dec.{eqb, ltb}
 use lib.Count.{leadingZeros, leading-top}
 use borrow.Author.Tests.{lt-ltb, le-ltb}
 use Rattle.program_part.specs.Bytes.{choose, le32, put32}
-use Rattle.summary.specs.Slots.{word, putWord, linkTo, headLink, withLink, withDigit, hung, putCount, homeOf}
+use Rattle.summary.specs.Slots.{word, putWord, linkTo, headLink, fieldAt, countAt, signatureAt, withLink, withDigit, hung, putField, homeOf}
 
 pub word-far : (sum : List ℕ) (i : ℕ) → length sum / 4 ≤ i → word sum i ≡ 0
 unfolding word
@@ -66,9 +67,23 @@ hang-is sum led new home k mark old first link upper own lower a b i x d e y g =
     rw (← b, ← a, ← u, ← e) v
 
 pub count-is : (sum led new : List ℕ) (k x low high upper lower : ℕ) → low ≡ word sum (2 * k) → upper ≡ withDigit low (x % 1024) → led ≡ putWord sum (2 * k) upper
-    → high ≡ word led (2 * k + 1) → lower ≡ withDigit high (x / 1024 % 1024) → new ≡ putWord led (2 * k + 1) lower → new ≡ putCount sum k x
-unfolding putCount
+    → high ≡ word led (2 * k + 1) → lower ≡ withDigit high (x / 1024 % 1024) → new ≡ putWord led (2 * k + 1) lower → new ≡ putField sum k x
+unfolding putField
 count-is sum led new k x low high upper lower a i b d y e =
     let u : led ≡ putWord sum (2 * k) (withDigit low (x % 1024)) = b ∙ ap (putWord sum (2 * k)) i in
     let v : new ≡ putWord led (2 * k + 1) (withDigit high (x / 1024 % 1024)) = e ∙ ap (putWord led (2 * k + 1)) y in
     rw (← a, ← u, ← d) v
+
+-- ---- fields
+
+pub count-some : (sum : List ℕ) (k : ℕ) {x : ℕ} → x ≡ fieldAt sum k → x < 786432 → x ≡ countAt sum k
+unfolding countAt
+count-some sum k {x} e l = rw (← e) (rw (lt-ltb x 786432 l) refl)
+
+pub count-none : (sum : List ℕ) (k : ℕ) {x : ℕ} → x ≡ fieldAt sum k → 786432 ≤ x → 0 ≡ countAt sum k
+unfolding countAt
+count-none sum k {x} e l = rw (← e) (rw (le-ltb x 786432 l) refl)
+
+pub fits-tested : (sum : List ℕ) (k bits : ℕ) {x : ℕ} → x ≡ fieldAt sum k → eqb (bitOr (x % 262144) bits) bits ≡ eqb (bitOr (signatureAt sum k) bits) bits
+unfolding signatureAt
+fits-tested sum k bits e = ap (λ (y : ℕ). eqb (bitOr (y % 262144) bits) bits) e

@@ -17,8 +17,8 @@ use Rattle.by_number.specs.Again.{cubeAt}
 use Rattle.matching.specs.Tags.{tagsOf}
 use Rattle.matching.specs.Number.{numberOf, statesMixed}
 use Rattle.summary.proofs.WordLaws.{put-length}
-use Rattle.summary.specs.Slots.{linked, headLink, nextLink, countAt, hung, putCount, homeOf, markIn}
-use Rattle.summary.specs.Groups.{sameStates, statesAt, leaderFrom, leaderOf, added, addedFrom, summaryOf, summarised, Joins}
+use Rattle.summary.specs.Slots.{linked, headLink, nextLink, countAt, hung, putField, homeOf, markIn}
+use Rattle.summary.specs.Groups.{sameStates, statesAt, leaderFrom, leaderOf, added, joinedAt, addedFrom, summaryOf, summarised, Joins}
 
 pub leads-no : (x : ℕ) (b : Bool) → x ≡ 0 → false ≡ (not (eqb x 0) && b)
 leads-no x b e = rw (eq-eqb x 0 e)
@@ -118,14 +118,14 @@ module _ (f upper : List ℕ) (s : Shape) (at n : ℕ) where
       }
 
   pub joined-first : {k leader number : ℕ} {new : List ℕ} → Joins f list s (drop at upper) n k leader number → leader ≡ 0
-      → new ≡ putCount (hung lent (homeOf number n) k (markIn number)) k 1 → list ++ (new ++ drop (length upper - at) (drop at upper)) ≡ list ++ added f list s (drop at upper) n k
+      → new ≡ putField (hung lent (homeOf number n) k (markIn number)) k 1 → list ++ (new ++ drop (length upper - at) (drop at upper)) ≡ list ++ added f list s (drop at upper) n k
   unfolding added
   joined-first {k = k} J e d =
       ap (λ (x : List ℕ). list ++ x)
       (past _ ∙ d ∙ rw (rest-part at upper, J .first e, eq-eqb (leaderOf f list s (drop at upper) n (statesAt f list s k)) 0 (sym (J .leading) ∙ e)))
 
   pub joined-group : {k leader number : ℕ} {new : List ℕ} → Joins f list s (drop at upper) n k leader number → (leader ≡ 0 → ⊥)
-      → new ≡ hung (putCount lent (leader - 1) (countAt lent (leader - 1) + 1)) (homeOf number n) k (markIn number)
+      → new ≡ joinedAt lent (leader - 1) number n k
       → list ++ (new ++ drop (length upper - at) (drop at upper)) ≡ list ++ added f list s (drop at upper) n k
   unfolding added
   joined-group {k = k} J e d =
@@ -138,21 +138,21 @@ hung-same : (sum : List ℕ) (home k mark : ℕ) → length (hung sum home k mar
 unfolding hung
 hung-same sum home k mark = simp put-length
 
-counted-same : (sum : List ℕ) (k x : ℕ) → length (putCount sum k x) ≡ length sum
-unfolding putCount
+counted-same : (sum : List ℕ) (k x : ℕ) → length (putField sum k x) ≡ length sum
+unfolding putField
 counted-same sum k x = simp put-length
 
 pub added-length : (f list : List ℕ) (s : Shape) (sum : List ℕ) (n k : ℕ) → length (added f list s sum n k) ≡ length sum
-unfolding added
+unfolding added joinedAt
 added-length f list s sum n k = go (eqb (leaderOf f list s sum n (statesAt f list s k)) 0)
   where
     a : List ℕ
-    a = putCount (hung sum (homeOf (statesMixed s (statesAt f list s k)) n) k (markIn (statesMixed s (statesAt f list s k)))) k 1
+    a = putField (hung sum (homeOf (statesMixed s (statesAt f list s k)) n) k (markIn (statesMixed s (statesAt f list s k)))) k 1
 
     j : ℕ
     j = leaderOf f list s sum n (statesAt f list s k) - 1
 
-    go : (b : Bool) → length (choose b (λ _. a) (λ _. hung (putCount sum j (countAt sum j + 1)) (homeOf (numberOf s (cubeAt f list k)) n) k (markIn (numberOf s (cubeAt f list k))))) ≡ length sum
+    go : (b : Bool) → length (choose b (λ _. a) (λ _. joinedAt sum j (numberOf s (cubeAt f list k)) n k)) ≡ length sum
     go true = simp (counted-same, hung-same)
     go false = simp (hung-same, counted-same)
 

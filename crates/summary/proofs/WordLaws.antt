@@ -12,7 +12,7 @@ use borrow.Author.Tests.{lt-ltb, le-ltb, eq-eqb, ne-eqb}
 use Rattle.program_part.specs.Bytes.{choose, le32, put32}
 use Rattle.program_part.proofs.ByteLaws.{put32-length, le32-put32, le32-elsewhere}
 use Rattle.pws.specs.Machine.{put}
-use Rattle.summary.specs.Slots.{word, putWord, linked, marked, linkTo, headLink, nextLink, countAt, withLink, withDigit, hung, putCount}
+use Rattle.summary.specs.Slots.{word, putWord, linked, marked, linkTo, headLink, nextLink, fieldAt, numberIn, countAt, signatureAt, withLink, withDigit, hung, putField}
 
 -- ---- words
 
@@ -82,7 +82,7 @@ put-ext g h k x y j e d = go (eqb j k)
     go true = e
     go false = d
 
-put-own {ℓ} : {A : Type ℓ} (g : ℕ → A) (k : ℕ) (x : A) (j : ℕ) → x ≡ g k → put g k x j ≡ g j
+pub put-own {ℓ} : {A : Type ℓ} (g : ℕ → A) (k : ℕ) (x : A) (j : ℕ) → x ≡ g k → put g k x j ≡ g j
 put-own g k x j e = elim (ℕ-discrete j k) [ yes d ↦ rw (d, eq-eqb k k refl) e | no d ↦ rw (ne-eqb j k d) ]
 
 -- the link and the digit of a word
@@ -150,9 +150,17 @@ module _ (sum : List ℕ) (n : ℕ) (room : 8 * n ≤ length sum) where
         ap upper (second-word led n led-room k W kl (r .2) j) ∙ put-ap upper (λ i. word led (2 * i + 1)) k W j ∙ put-own (λ i. upper (word led (2 * i + 1))) k (upper W) j (r .1)
         ∙ ap upper (first-not sum home (withLink (word sum (2 * home)) (linkTo k mark)) j)
 
+    hung-field : (j : ℕ) → fieldAt (hung sum home k mark) j ≡ fieldAt sum j
+    unfolding fieldAt
+    hung-field j = ap₂ (λ a b. a + 1024 * b) (low-digit j) (high-digit j)
+
     pub hung-count : (j : ℕ) → countAt (hung sum home k mark) j ≡ countAt sum j
     unfolding countAt
-    hung-count j = ap₂ (λ a b. a + 1024 * b) (low-digit j) (high-digit j)
+    hung-count j = ap numberIn (hung-field j)
+
+    pub hung-signature : (j : ℕ) → signatureAt (hung sum home k mark) j ≡ signatureAt sum j
+    unfolding signatureAt
+    hung-signature j = ap (λ (x : ℕ). x % 262144) (hung-field j)
 
   module _ (k x : ℕ) (kl : k < n) (b : x < 1048576) where
     low : List ℕ
@@ -162,36 +170,36 @@ module _ (sum : List ℕ) (n : ℕ) (room : 8 * n ≤ length sum) where
     unfolding low
     low-room = omega (arith, put-length sum (2 * k) (withDigit (word sum (2 * k)) (x % 1024)))
 
-    pub counted-length : length (putCount sum k x) ≡ length sum
-    unfolding putCount
+    pub counted-length : length (putField sum k x) ≡ length sum
+    unfolding putField
     counted-length = simp put-length
 
-    pub counted-head : (j : ℕ) → headLink (putCount sum k x) j ≡ headLink sum j
-    unfolding putCount headLink low
+    pub counted-head : (j : ℕ) → headLink (putField sum k x) j ≡ headLink sum j
+    unfolding putField headLink low
     counted-head j =
         let W = withDigit (word sum (2 * k)) (x % 1024) in
         let r = digit-of (word sum (2 * k)) (x % 1024) (omega arith) in
         ap lower (second-not low k (withDigit (word low (2 * k + 1)) (x / 1024 % 1024)) j) ∙ ap lower (first-word sum n room k W kl (r .2) j)
         ∙ put-ap lower (λ i. word sum (2 * i)) k W j ∙ put-own (λ i. lower (word sum (2 * i))) k (lower W) j (r .0)
 
-    pub counted-next : (j : ℕ) → nextLink (putCount sum k x) j ≡ nextLink sum j
-    unfolding putCount nextLink low
+    pub counted-next : (j : ℕ) → nextLink (putField sum k x) j ≡ nextLink sum j
+    unfolding putField nextLink low
     counted-next j =
         let W = withDigit (word low (2 * k + 1)) (x / 1024 % 1024) in
         let r = digit-of (word low (2 * k + 1)) (x / 1024 % 1024) (omega arith) in
         ap lower (second-word low n low-room k W kl (r .2) j) ∙ put-ap lower (λ i. word low (2 * i + 1)) k W j ∙ put-own (λ i. lower (word low (2 * i + 1))) k (lower W) j (r .0)
         ∙ ap lower (first-not sum k (withDigit (word sum (2 * k)) (x % 1024)) j)
 
-    low-counted : (j : ℕ) → upper (word (putCount sum k x) (2 * j)) ≡ put (λ i. upper (word sum (2 * i))) k (x % 1024) j
-    unfolding putCount low
+    low-counted : (j : ℕ) → upper (word (putField sum k x) (2 * j)) ≡ put (λ i. upper (word sum (2 * i))) k (x % 1024) j
+    unfolding putField low
     low-counted j =
         let W = withDigit (word sum (2 * k)) (x % 1024) in
         let r = digit-of (word sum (2 * k)) (x % 1024) (omega arith) in
         ap upper (second-not low k (withDigit (word low (2 * k + 1)) (x / 1024 % 1024)) j) ∙ ap upper (first-word sum n room k W kl (r .2) j)
         ∙ put-ap upper (λ i. word sum (2 * i)) k W j ∙ put-ext (λ i. upper (word sum (2 * i))) (λ i. upper (word sum (2 * i))) k (upper W) (x % 1024) j (r .1) refl
 
-    high-counted : (j : ℕ) → upper (word (putCount sum k x) (2 * j + 1)) ≡ put (λ i. upper (word sum (2 * i + 1))) k (x / 1024) j
-    unfolding putCount low
+    high-counted : (j : ℕ) → upper (word (putField sum k x) (2 * j + 1)) ≡ put (λ i. upper (word sum (2 * i + 1))) k (x / 1024) j
+    unfolding putField low
     high-counted j =
         let W = withDigit (word low (2 * k + 1)) (x / 1024 % 1024) in
         let r = digit-of (word low (2 * k + 1)) (x / 1024 % 1024) (omega arith) in
@@ -200,11 +208,24 @@ module _ (sum : List ℕ) (n : ℕ) (room : 8 * n ≤ length sum) where
         ∙ put-ext (λ i. upper (word low (2 * i + 1))) (λ i. upper (word sum (2 * i + 1))) k (upper W) (x / 1024) j e
         (ap upper (first-not sum k (withDigit (word sum (2 * k)) (x % 1024)) j))
 
-    pub counted-count : (j : ℕ) → countAt (putCount sum k x) j ≡ put (countAt sum) k x j
-    unfolding countAt
-    counted-count j = ap₂ (λ a b. a + 1024 * b) (low-counted j) (high-counted j) ∙ go (eqb j k)
+    put-field : (j : ℕ) → fieldAt (putField sum k x) j ≡ put (fieldAt sum) k x j
+    unfolding fieldAt
+    put-field j = ap₂ (λ a b. a + 1024 * b) (low-counted j) (high-counted j) ∙ go (eqb j k)
       where
         go : (b : Bool) → cond b (x % 1024) (upper (word sum (2 * j))) + 1024 * cond b (x / 1024) (upper (word sum (2 * j + 1)))
             ≡ cond b x (upper (word sum (2 * j)) + 1024 * upper (word sum (2 * j + 1)))
         go true = omega arith
         go false = refl
+
+    pub counted-count : x < 786432 → (j : ℕ) → countAt (putField sum k x) j ≡ put (countAt sum) k x j
+    unfolding countAt
+    counted-count l j = ap numberIn (put-field j) ∙ put-ap numberIn (fieldAt sum) k x j ∙ ap (λ (y : ℕ). put (λ i. numberIn (fieldAt sum i)) k y j) (rw (lt-ltb x 786432 l) refl)
+
+    -- a signature is no number
+    pub signed-count : 786432 ≤ x → (j : ℕ) → countAt (putField sum k x) j ≡ put (countAt sum) k 0 j
+    unfolding countAt
+    signed-count l j = ap numberIn (put-field j) ∙ put-ap numberIn (fieldAt sum) k x j ∙ ap (λ (y : ℕ). put (λ i. numberIn (fieldAt sum i)) k y j) (rw (le-ltb x 786432 l) refl)
+
+    pub put-signature : (j : ℕ) → signatureAt (putField sum k x) j ≡ put (signatureAt sum) k (x % 262144) j
+    unfolding signatureAt
+    put-signature j = ap (λ (y : ℕ). y % 262144) (put-field j) ∙ put-ap (λ (y : ℕ). y % 262144) (fieldAt sum) k x j

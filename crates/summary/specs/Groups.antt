@@ -9,8 +9,13 @@ use Rattle.pws.specs.Machine.{allBelow}
 use Rattle.program_part.specs.declared.program.Shape.{Shape}
 use Rattle.program_part.specs.Bytes.{choose}
 use Rattle.by_number.specs.Again.{cubeAt}
-use Rattle.matching.specs.Number.{numberOf, statesMixed}
-use Rattle.summary.specs.Slots.{linked, nextLink, headLink, countAt, hung, putCount, homeOf, markIn, Met}
+use Rattle.matching.specs.Number.{signatureIn, numberOf, statesMixed}
+use Rattle.summary.specs.Slots.{linked, nextLink, headLink, countAt, hung, putField, homeOf, markIn, Met}
+
+-- entry k, which has this number, joins the group that entry j leads: the group has one more, the entry hangs on the chain of its number, and its
+-- signature is kept
+unfoldable pub joinedAt : List ℕ → ℕ → ℕ → ℕ → ℕ → List ℕ
+joinedAt sum j number n k = putField (hung (putField sum j (countAt sum j + 1)) (homeOf number n) k (markIn number)) k (786432 + signatureIn number)
 
 -- ---- groups
 
@@ -49,9 +54,9 @@ module _ (f list : List ℕ) (s : Shape) where
   -- entry k joins the summary of the entries before it; there will be n
   unfoldable pub added : List ℕ → ℕ → ℕ → List ℕ
   added sum n k =
-      choose (eqb (leaderOf sum n (statesAt k)) 0) (λ _. putCount (hung sum (homeOf (statesMixed s (statesAt k)) n) k (markIn (statesMixed s (statesAt k)))) k 1)
+      choose (eqb (leaderOf sum n (statesAt k)) 0) (λ _. putField (hung sum (homeOf (statesMixed s (statesAt k)) n) k (markIn (statesMixed s (statesAt k)))) k 1)
       (λ _. let j : ℕ = leaderOf sum n (statesAt k) - 1 in
-      hung (putCount sum j (countAt sum j + 1)) (homeOf (numberOf s (cubeAt f list k)) n) k (markIn (numberOf s (cubeAt f list k))))
+      joinedAt sum j (numberOf s (cubeAt f list k)) n k)
 
   -- the first entry of its group, counted from 1, or 0; and the number of the chain where it joins
   pub record Joins (sum : List ℕ) (n k leader number : ℕ) : Type 0 where

@@ -30,7 +30,7 @@ abbrev pub linkTo : ℕ → ℕ → ℕ
 linkTo k mark = k + 1 + 1048576 * mark
 
 -- ---- slots: slot k is words 2 k and 2 k + 1. In their lower 22 bits, the first link of chain k and the link after entry k; in their upper
--- ten, the number of entries in the group that entry k leads, 0 if it leads none.
+-- ten, a field of twenty bits: the number of entries in the group that entry k leads; or, if it leads none, 786,432 and its signature.
 
 unfoldable pub headLink : List ℕ → ℕ → ℕ
 headLink sum k = word sum (2 * k) % 4194304
@@ -38,10 +38,21 @@ headLink sum k = word sum (2 * k) % 4194304
 unfoldable pub nextLink : List ℕ → ℕ → ℕ
 nextLink sum k = word sum (2 * k + 1) % 4194304
 
-unfoldable pub countAt : List ℕ → ℕ → ℕ
-countAt sum k = word sum (2 * k) / 4194304 % 1024 + 1024 * (word sum (2 * k + 1) / 4194304 % 1024)
+unfoldable pub fieldAt : List ℕ → ℕ → ℕ
+fieldAt sum k = word sum (2 * k) / 4194304 % 1024 + 1024 * (word sum (2 * k + 1) / 4194304 % 1024)
 
--- a word with another link, and with another digit of a count
+-- the number in a field; none if it has a signature
+abbrev pub numberIn : ℕ → ℕ
+numberIn x = cond (ltb x 786432) x 0
+
+-- how many entries the group has that entry k leads, 0 if it leads none
+unfoldable pub countAt : List ℕ → ℕ → ℕ
+countAt sum k = numberIn (fieldAt sum k)
+
+unfoldable pub signatureAt : List ℕ → ℕ → ℕ
+signatureAt sum k = fieldAt sum k % 262144
+
+-- a word with another link, and with another digit of a field
 abbrev pub withLink : ℕ → ℕ → ℕ
 withLink w link = 4194304 * (w / 4194304 % 1024) + link
 
@@ -55,9 +66,9 @@ hung sum home k mark =
     let led : List ℕ = putWord sum (2 * home) (withLink (word sum (2 * home)) (linkTo k mark)) in
     putWord led (2 * k + 1) (withLink (word led (2 * k + 1)) old)
 
--- the group of entry k has x entries
-unfoldable pub putCount : List ℕ → ℕ → ℕ → List ℕ
-putCount sum k x =
+-- x is the field of slot k
+unfoldable pub putField : List ℕ → ℕ → ℕ → List ℕ
+putField sum k x =
     let low : List ℕ = putWord sum (2 * k) (withDigit (word sum (2 * k)) (x % 1024)) in
     putWord low (2 * k + 1) (withDigit (word low (2 * k + 1)) (x / 1024 % 1024))
 

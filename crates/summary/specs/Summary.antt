@@ -9,8 +9,8 @@ use lib.Dec.{ltb}
 use Rattle.program_part.specs.declared.program.Shape.{Shape}
 use Rattle.by_number.specs.Again.{cubeAt}
 use Rattle.matching.specs.Tags.{sumBelow}
-use Rattle.matching.specs.Number.{numberOf, statesMixed}
-use Rattle.summary.specs.Slots.{linked, headLink, countAt, homeOf, markIn, Met}
+use Rattle.matching.specs.Number.{signatureIn, numberOf, statesMixed}
+use Rattle.summary.specs.Slots.{linked, headLink, countAt, signatureAt, homeOf, markIn, Met}
 use Rattle.summary.specs.Groups.{statesAt, leads, inGroup}
 
 -- after m of n additions
@@ -25,6 +25,8 @@ pub record Grouped (f list sum : List ℕ) (n : ℕ) (s : Shape) (m : ℕ) : Typ
   pub first : (k : ℕ) → k < m → leads f list s k ≡ true → (mark : ℕ) × Met sum n (headLink sum (homeOf (statesMixed s (statesAt f list s k)) n)) k mark
   pub others : (k : ℕ) → k < m → leads f list s k ≡ false
       → Met sum n (headLink sum (homeOf (numberOf s (cubeAt f list k)) n)) k (markIn (numberOf s (cubeAt f list k)))
+  -- an entry that leads no group has its signature in its slot
+  pub signed : (k : ℕ) → k < m → leads f list s k ≡ false → signatureAt sum k ≡ signatureIn (numberOf s (cubeAt f list k))
   pub heads : (h : ℕ) → h < n → linked (headLink sum h) ≤ m
 
 -- `sum` is the summary of the n entries of `list`

@@ -1,4 +1,5 @@
--- The entries that may match a cube, one after another: those of the chain of its key's number, and then the first entry of the group of its states.
+-- The entries that may match a cube, one after another: those of the chain of its key's number with no bit in their signatures that the number has not,
+-- and then the first entry of the group of its states.
 use Prim.Native.Nat.{ℕ, suc, _+_, _<_, _≤_}
 use mathlib.Core.Path.{_≡_}
 use mathlib.Core.Logic.{_⊎_}
@@ -6,13 +7,15 @@ use mathlib.Core.Bool.{Bool, true, false, cond}
 use mathlib.Core.List.{List}
 use Rattle.program_part.specs.declared.program.Shape.{Shape}
 use Rattle.summary.specs.declared.walking.Walk.{Walk}
-use Rattle.summary.specs.Slots.{markIn, Met}
+use Rattle.matching.specs.Signature.{Contained}
+use Rattle.matching.specs.Number.{signatureIn}
+use Rattle.summary.specs.Slots.{signatureAt, markIn, Met}
 use Rattle.summary.specs.Groups.{leaderOf}
 
 module _ (f list sum : List ℕ) (n : ℕ) (s : Shape) (states : List ℕ) where
   -- entry k is still to come
   abbrev pub Left : ℕ → ℕ → ℕ → Bool → ℕ → Type 0
-  Left number below link led k = Met sum below link k (markIn number) ⊎ ((led ≡ false) × (leaderOf f list s sum n states ≡ suc k))
+  Left number below link led k = (Met sum below link k (markIn number) × Contained (signatureAt sum k) (signatureIn number)) ⊎ ((led ≡ false) × (leaderOf f list s sum n states ≡ suc k))
 
   -- how far a walk can still go
   abbrev pub ahead : ℕ → Bool → ℕ

@@ -5,9 +5,8 @@ ghost use mathlib.Core.List.{_++_};
 ghost use Prim.Native.Nat.{ℕ, _+_, _≤_, _<_};
 ghost use lib.ListN.{length, take, drop};
 ghost use lib.Dec.{eqb};
-ghost use Rattle.summary.specs.Slots.{countAt, hung, putCount, homeOf, markIn};
-ghost use Rattle.summary.specs.Groups.{sameStates, statesAt, leaderOf, added, summarised, Joins};
-use crate::slots::count;
+ghost use Rattle.summary.specs.Slots.{countAt, hung, putField, homeOf, markIn};
+ghost use Rattle.summary.specs.Groups.{sameStates, statesAt, leaderOf, joinedAt, added, summarised, Joins};
 use crate::slots::count_at;
 use crate::slots::first_link;
 use crate::slots::hang;
@@ -15,6 +14,8 @@ use crate::slots::home_of;
 use crate::slots::linked;
 use crate::slots::mark_of;
 use crate::slots::next_link;
+use crate::slots::put_field;
+use crate::slots::signature_in;
 use by_number::entry_at;
 use by_number::offset_at;
 use matching::number_of;
@@ -82,20 +83,21 @@ pub(crate) fn leader_of(
 // Entry k is the first of its group.
 fn join_first(sum: &mut [u8], number: u64, n: usize, k: usize)
     requires { ⌜ (k < n) × (n ≤ 524288) ⌝ }
-    ensures { λ _. ⌜ now (sum .exit) ≡ putCount (hung (now (sum .entry)) (homeOf number n) k (markIn number)) k 1 ⌝ }
+    ensures { λ _. ⌜ now (sum .exit) ≡ putField (hung (now (sum .entry)) (homeOf number n) k (markIn number)) k 1 ⌝ }
 {
     hang(sum, home_of(number, n), k, mark_of(number));
-    count(sum, k, 1);
+    put_field(sum, k, 1);
 }
 
 // Entry k joins the group that entry j leads.
 fn join_group(sum: &mut [u8], j: usize, number: u64, n: usize, k: usize)
     requires { ⌜ (k < n) × (n ≤ 524288) × (j < 1048575) ⌝ }
-    ensures { λ _. ⌜ now (sum .exit) ≡ hung (putCount (now (sum .entry)) j (countAt (now (sum .entry)) j + 1)) (homeOf number n) k (markIn number) ⌝ }
+    ensures { λ _. ⌜ now (sum .exit) ≡ joinedAt (now (sum .entry)) j number n k ⌝ }
 {
     let old = count_at(sum, j);
-    count(sum, j, old + 1);
+    put_field(sum, j, old + 1);
     hang(sum, home_of(number, n), k, mark_of(number));
+    put_field(sum, k, 786432 + signature_in(number));
 }
 
 // Where an entry joins: the first entry of its group, counted from 1, or 0 if it is the first itself; and the number of its chain.

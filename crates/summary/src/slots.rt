@@ -1,10 +1,13 @@
-// Slots of a summary, two words of four bytes each: the first link of a chain, the link after an entry, and the number in a group. Places, links
+// Slots of a summary, two words of four bytes each: the first link of a chain, the link after an entry, and the number in a group or a signature. Places, links
 // and digits are made by adding and shifting: no product stands in this crate (request N4).
 ghost use mathlib.Core.Path.{_≡_};
 ghost use Prim.Native.Nat.{ℕ, suc, _+_, _*_, _/_, _%_, _^_, _≤_, _<_};
+ghost use lib.Bits.{bitOr};
 ghost use lib.ListN.{length};
+ghost use lib.Dec.{eqb};
 ghost use Rattle.program_part.specs.Bytes.{le32};
-ghost use Rattle.summary.specs.Slots.{word, putWord, linked, marked, linkTo, headLink, nextLink, countAt, withLink, withDigit, hung, putCount, homeOf, markIn};
+ghost use Rattle.matching.specs.Number.{signatureIn};
+ghost use Rattle.summary.specs.Slots.{word, putWord, linked, marked, linkTo, headLink, nextLink, fieldAt, countAt, signatureAt, withLink, withDigit, hung, putField, homeOf, markIn};
 use program_part::bytes::store_number;
 use program_part::places::slot_word;
 use program_part::places::word_place;
@@ -112,7 +115,7 @@ fn link_to(k: usize, mark: usize) -> usize
     k + 1 + (mark << 20)
 }
 
-// A word with another link, and with another digit of a count.
+// A word with another link, and with another digit of a field.
 fn with_link(w: usize, link: usize) -> usize
     requires { ⌜ link < 4194304 ⌝ }
     ensures { λ r. ⌜ r ≡ withLink w link ⌝ }
@@ -143,12 +146,28 @@ pub(crate) fn next_link(sum: &[u8], k: usize) -> usize
     high_word(sum, k) % 4194304
 }
 
+// The field of slot k: a number, or a signature.
+fn field_at(sum: &[u8], k: usize) -> usize
+    ensures { λ r. ⌜ r ≡ fieldAt (now (sum .entry)) k ⌝ }
+    ensures { λ r. ⌜ r < 1048576 ⌝ }
+{
+    low_word(sum, k) / 4194304 % 1024 + (high_word(sum, k) / 4194304 % 1024 << 10)
+}
+
 // The number in the group that entry k leads; 0 if it leads none.
 pub fn count_at(sum: &[u8], k: usize) -> usize
     ensures { λ r. ⌜ r ≡ countAt (now (sum .entry)) k ⌝ }
     ensures { λ r. ⌜ r < 1048576 ⌝ }
 {
-    low_word(sum, k) / 4194304 % 1024 + (high_word(sum, k) / 4194304 % 1024 << 10)
+    let x = field_at(sum, k);
+    if x < 786432 { x } else { 0 }
+}
+
+// The signature of entry k has no bit that is not one of these.
+pub(crate) fn fits_at(sum: &[u8], k: usize, bits: usize) -> bool
+    ensures { λ r. ⌜ r ≡ eqb (bitOr (signatureAt (now (sum .entry)) k) bits) bits ⌝ }
+{
+    field_at(sum, k) % 262144 | bits == bits
 }
 
 // Entry k becomes the first of a chain.
@@ -163,9 +182,8 @@ pub(crate) fn hang(sum: &mut [u8], home: usize, k: usize, mark: usize)
     put_high(sum, k, with_link(own, old));
 }
 
-// The group of entry k has x entries.
-pub(crate) fn count(sum: &mut [u8], k: usize, x: usize)
-    ensures { λ _. ⌜ now (sum .exit) ≡ putCount (now (sum .entry)) k x ⌝ }
+pub(crate) fn put_field(sum: &mut [u8], k: usize, x: usize)
+    ensures { λ _. ⌜ now (sum .exit) ≡ putField (now (sum .entry)) k x ⌝ }
 {
     let low = low_word(sum, k);
     put_low(sum, k, with_digit(low, x % 1024));
@@ -198,6 +216,14 @@ pub(crate) fn mark_of(number: u64) -> usize
     ensures { λ r. ⌜ r < 4 ⌝ }
 {
     (number % 4) as usize
+}
+
+// The signature in a number.
+pub(crate) fn signature_in(number: u64) -> usize
+    ensures { λ r. ⌜ r ≡ signatureIn number ⌝ }
+    ensures { λ r. ⌜ r < 262144 ⌝ }
+{
+    (number / 4 % 262144) as usize
 }
 
 // The first link of the chain of a number.

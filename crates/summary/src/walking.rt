@@ -6,11 +6,14 @@ ghost use Rattle.summary.specs.Slots.{headLink, homeOf};
 ghost use Rattle.summary.specs.Walks.{Onward, Led};
 use crate::adding::leader_of;
 use crate::slots::first_link;
+use crate::slots::fits_at;
 use crate::slots::linked;
 use crate::slots::mark_of;
 use crate::slots::marked;
 use crate::slots::next_link;
+use crate::slots::signature_in;
 use matching::least;
+use program_part::bytes::both;
 use program_part::program::Shape;
 
 // An entry, counted from 1, or 0 where the walk ends; and where it goes on: below which entry and with which link, and whether the first entry
@@ -66,6 +69,7 @@ pub fn onward(
     ensures { λ r. ⌜ Onward (now (file .entry)) (now (list .entry)) (now (sum .entry)) n shape states number (min below n) link led r ⌝ }
 {
     let mark = mark_of(number);
+    let bits = signature_in(number);
     let mut under = least(below, n);
     let mut at = link;
     loop {
@@ -78,7 +82,7 @@ pub fn onward(
         }
         let j = next - 1;
         let after = next_link(sum, j);
-        if marked(at) == mark {
+        if both(marked(at) == mark, fits_at(sum, j, bits)) {
             return Walk {
                 entry: next,
                 below: j,

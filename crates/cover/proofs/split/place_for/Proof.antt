@@ -1,9 +1,10 @@
-use mathlib.Core.Path.{refl}
+use mathlib.Core.Path.{refl, subst}
 use mathlib.Core.Logic.{inl, inr}
 use borrow.Author.Tests.{not-true}
 use Rattle.cover.proofs.PlaceLaws.{first-proper, whole-twice}
 use native.Mathlib.Omega.{arith}
 use borrow.Author.Needs.{needs}
+use Rattle.cover.specs.Search.{Unmet}
 use Rattle.cover.proofs.split.place_for.Statement.{statement}
 use Rattle.cover.proofs.split.place_for.Tie as tie
 use Rattle.cover.proofs.split.place_for.Reads as reads
@@ -13,12 +14,15 @@ use Rattle.cover.proofs.place.is_whole.Reads as is-whole-reads
 use Rattle.cover.proofs.split.best_split.Reads as best-split-reads
 
 -- src/split.rt:143:9
+widened-requires : tie.Need-widened-requires
+widened-requires c κs = search needs
+
 best-split-requires : tie.Need-best-split-requires
 best-split-requires c κs = search needs
 
 -- src/split.rt:146:9
 returns : tie.Need-returns
-returns c = (refl, λ w. inl (c .before .before .best-split .ensures .1 (not-true (c .before .before .best-split .result .met) (c .if1 .taken))))
+returns c = (refl, λ w. inl (subst (Unmet (c .before .before .before .before .before .before .before .args .file .now) (c .before .before .before .before .before .before .before .args .list .now) (c .before .before .before .before .before .before .before .args .sum .now) (c .before .before .before .before .before .before .before .args .n) (c .before .before .before .before .before .before .before .args .shape) (c .before .before .before .before .before .before .before .args .cube) (c .before .before .before .before .before .before .before .args .cues .now)) (c .before .before .before .widened .ensures) (c .before .before .best-split .ensures .1 (not-true (c .before .before .best-split .result .met) (c .if1 .taken)))))
 
 -- src/split.rt:148:9
 is-whole-requires : tie.Need-is-whole-requires
@@ -34,12 +38,13 @@ first-free-requires c κs = search needs
 
 -- src/split.rt:130:1
 returns-3 : tie.Need-returns-3
-returns-3 c = (first-proper (c .before .before .before .before .before .before .before .before .before .args .shape) (c .before .before .before .before .before .before .before .before .before .args .cube) (c .first-free .result) (c .first-free .ensures .0), λ w. inr (c .first-free .ensures .1 w))
+returns-3 c = (first-proper (c .before .before .before .before .before .before .before .before .before .before .args .shape) (c .before .before .before .before .before .before .before .before .before .before .args .cube) (c .first-free .result) (c .first-free .ensures .0), λ w. inr (c .first-free .ensures .1 w))
 
 pub place-for-spec : {M : Type 1} → statement M
 place-for-spec =
     tie.close
     (tie.spec
+    widened-requires
     best-split-requires
     returns
     is-whole-requires

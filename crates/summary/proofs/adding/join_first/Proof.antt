@@ -4,7 +4,7 @@ use Rattle.summary.proofs.adding.join_first.Statement.{statement}
 use Rattle.summary.proofs.adding.join_first.Tie as tie
 use Rattle.summary.proofs.adding.join_first.Reads as reads
 use Rattle.summary.proofs.adding.join_first.Lts as lts
-use Rattle.summary.proofs.slots.count.Reads as count-reads
+use Rattle.summary.proofs.slots.put_field.Reads as put-field-reads
 use Rattle.summary.proofs.slots.hang.Reads as hang-reads
 use Rattle.summary.proofs.slots.home_of.Reads as home-of-reads
 use Rattle.summary.proofs.slots.mark_of.Reads as mark-of-reads
@@ -22,8 +22,8 @@ hang-requires : tie.Need-hang-requires
 hang-requires c κs = (omega arith, c .mark-of .ensures .1)
 
 -- src/adding.rt:95:5
-count-requires : tie.Need-count-requires
-count-requires c κs = search needs
+put-field-requires : tie.Need-put-field-requires
+put-field-requires c κs = search needs
 
 -- src/adding.rt:90:1
 same-length : tie.Need-same-length
@@ -36,4 +36,4 @@ returns c = cc
 pub join-first-spec : {M : Type 1} → statement M
 join-first-spec =
     tie.close
-    (tie.spec home-of-requires mark-of-requires hang-requires count-requires same-length returns)
+    (tie.spec home-of-requires mark-of-requires hang-requires put-field-requires same-length returns)

@@ -1,17 +1,23 @@
+use Rattle.summary.proofs.SlotLaws.{count-some, count-none}
 use native.Mathlib.Omega.{arith}
-use Rattle.summary.specs.Slots.{countAt}
 use borrow.Author.Needs.{needs}
 use Rattle.summary.proofs.slots.count_at.Statement.{statement}
 use Rattle.summary.proofs.slots.count_at.Tie as tie
+use Rattle.summary.proofs.slots.count_at.Reads as reads
+use Rattle.summary.proofs.slots.count_at.Lts as lts
+use Rattle.summary.proofs.slots.field_at.Reads as field-at-reads
+
+-- src/slots.rt:162:9
+field-at-requires : tie.Need-field-at-requires
+field-at-requires c κs = search needs
+
+-- src/slots.rt:158:1
+returns : tie.Need-returns
+returns c = (count-some (c .before .before .before .args .sum .now) (c .before .before .before .args .k) (c .before .field-at .ensures .0) (c .if1 .taken), c .before .field-at .ensures .1)
+
+-- src/slots.rt:158:1
+returns-2 : tie.Need-returns-2
+returns-2 c = (count-none (c .before .before .before .args .sum .now) (c .before .before .before .args .k) (c .before .field-at .ensures .0) (c .if1 .left), omega arith)
 
 pub count-at-spec : {M : Type 1} → statement M
-unfolding countAt
-count-at-spec = tie.close (tie.spec
-    -- low-word-requires
-    (λ c κs. search needs)
-    -- high-word-requires
-    (λ c κs. search needs)
-    -- add-result
-    (λ c. search needs)
-    -- returns
-    (λ c. (omega (arith, c .before .low-word .ensures .0, c .high-word .ensures .0), omega arith)))
+count-at-spec = tie.close (tie.spec field-at-requires returns returns-2)

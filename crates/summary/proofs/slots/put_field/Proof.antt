@@ -1,10 +1,10 @@
 use Rattle.summary.proofs.SlotLaws.{count-is}
 use borrow.Author.Needs.{needs}
-use Rattle.summary.proofs.slots.count.Statement.{statement}
-use Rattle.summary.proofs.slots.count.Tie as tie
+use Rattle.summary.proofs.slots.put_field.Statement.{statement}
+use Rattle.summary.proofs.slots.put_field.Tie as tie
 
-pub count-spec : {M : Type 1} → statement M
-count-spec = tie.close (tie.spec
+pub put-field-spec : {M : Type 1} → statement M
+put-field-spec = tie.close (tie.spec
     -- low-word-requires
     (λ c κs. search needs)
     -- with-digit-requires
