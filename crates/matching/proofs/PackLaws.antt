@@ -9,10 +9,13 @@ use lib.Bits.{bitXor}
 use lib.ListN.{length, getD, replicate}
 use borrow.Author.Tests.{le-leb, lt-leb}
 use Rattle.pws.specs.Machine.{isEmpty}
+use Rattle.program_part.specs.declared.program.Shape.{Shape}
 use Rattle.whole_file.specs.declared.entry.Queue.{Queue}
+use Rattle.whole_file.specs.declared.entry.Cube.{Cube}
 use Rattle.whole_file.specs.Cube.{noQueue}
-use Rattle.matching.specs.Tags.{lowestBelow}
-use Rattle.matching.specs.Number.{stir, behind, packedStates, emptyBit, packedRow, packedQueues, withTags, withSignature}
+use Rattle.matching.specs.Tags.{tagsOf, lowestBelow}
+use Rattle.matching.specs.Signature.{signatureOf}
+use Rattle.matching.specs.Number.{stir, behind, packedStates, emptyBit, packedRow, packedQueues, withTags, withSignature, keyMixed, numberOf}
 
 pub lowest-next : (zs : List ℕ) (p : ℕ) {low x : ℕ} → low ≡ lowestBelow p zs → x ≡ min low (getD zs p 0) → x ≡ lowestBelow (p + 1) zs
 lowest-next zs p e f = simp unary-clauses (f ∙ ap (λ (k : ℕ). min k (getD zs p 0)) e)
@@ -63,6 +66,16 @@ module _ (ts : List ℕ) where
       ∙ ap (λ (b : Bool). withTags ts j (cond b (bitXor (stir h) (getD ts j 0)) h)) (sym (lt-leb 65536 (getD ts j 0) l))
       ∙ e
 
-pub signature-put : (h x : ℕ) → h - h % 1048576 + 4 * x + h % 4 ≡ withSignature h x
+pub signature-put : (h x : ℕ) → x < 262144 → h - h % 1048576 + (x * 2 ^ 2) % 2 ^ 64 + h % 4 ≡ withSignature h x
 unfolding withSignature
-signature-put h x = omega arith
+signature-put h x l = omega arith
+
+-- ---- a number that is gathered
+
+pub number-gathered : (s : Shape) (c : Cube) (ts : List ℕ) (h : ℕ) {n p q j k x r : ℕ} → ts ≡ tagsOf s c → n ≡ min (c .count) 20 → p ≡ packedStates (min (s .processes) 4) (c .states)
+    → q ≡ packedQueues (min (s .variables) 4) (c .queues) (min (s .processes) 4) p → j ≡ 0 → withTags ts j h ≡ withTags ts n q → k ≡ stir h → x ≡ signatureOf s c → r ≡ withSignature k x → r ≡ numberOf s c
+unfolding numberOf keyMixed
+number-gathered s c ts h e f a b z d g u v =
+    v ∙ ap₂ withSignature
+    (g ∙ ap stir (sym (ap (λ (i : ℕ). withTags ts i h) z) ∙ d ∙ (λ i. withTags (e i) (f i) (b i))
+    ∙ ap (λ (y : ℕ). withTags (tagsOf s c) (min (c .count) 20) (packedQueues (min (s .variables) 4) (c .queues) (min (s .processes) 4) y)) a)) u

@@ -6,6 +6,7 @@ use mathlib.Core.Bool.{Bool, true, false, cond, _||_}
 use mathlib.Core.Option.{Option, none, some}
 use mathlib.Core.List.{List, [], _∷_}
 use native.Mathlib.Omega.{arith}
+use native.Mathlib.Decide.{decLe}
 use native.Mathlib.Numerals.{unary-clauses}
 use native.Mathlib.Nat.{one-mul, mod-eq-of-lt}
 use lib.Arith.{bin-ind}
@@ -25,8 +26,9 @@ use Rattle.lists.specs.Values.{fills}
 use Rattle.lists.specs.Matching.{Subsequence, nothing, skip, keep, ends, QueueMatch, tagMatches}
 use Rattle.lists.proofs.Matching.{Pointwise, none-left, one-more, Related, tag-match}
 use Rattle.matching.specs.Key.{someRole}
-use Rattle.matching.specs.Signature.{Contained, bitAt, valueBit, valueBits, messageBits, signed, lastBit, waitBits, rowBits, queueBits, signatureOf}
+use Rattle.matching.specs.Signature.{Contained, FreeWord, bitAt, valueBit, valueBits, messageBits, signed, lastBit, waitBits, rowBits, queueBits, signatureOf}
 use Rattle.matching.specs.Tags.{tagsOf, lowestPointer}
+use Rattle.matching.specs.Word.{Word}
 use Rattle.matching.proofs.ValueLaws.{newest-at}
 use Rattle.matching.proofs.KeyLaws.{total, passed-over, kept-on}
 
@@ -104,6 +106,48 @@ pub values-next : (base : ℕ) (xs : List ℕ) (v : ℕ) {b x : ℕ} → b ≡ v
 unfolding valueBits
 values-next base xs v e f = simp unary-clauses (ap₂ bitOr e f)
 
+-- ---- messages all of whose values are free
+
+module _ (a b c d : ℕ) where
+  pub free-one : Word a b c d 255 → (v : ℕ) → v < 1 → getD (a ∷ b ∷ c ∷ d ∷ []) v 0 ≡ 255
+  free-one w zero l = omega (arith, w .is, w .first)
+  free-one w (suc v) l = absurd (omega arith)
+
+  pub free-two : Word a b c d 65535 → (v : ℕ) → v < 2 → getD (a ∷ b ∷ c ∷ d ∷ []) v 0 ≡ 255
+  free-two w zero l = omega (arith, w .is, w .first)
+  free-two w (suc zero) l = omega (arith, w .is, w .first, w .second)
+  free-two w (suc (suc v)) l = absurd (omega arith)
+
+  pub free-three : Word a b c d 16777215 → (v : ℕ) → v < 3 → getD (a ∷ b ∷ c ∷ d ∷ []) v 0 ≡ 255
+  free-three w zero l = omega (arith, w .is, w .first)
+  free-three w (suc zero) l = omega (arith, w .is, w .first, w .second)
+  free-three w (suc (suc zero)) l = omega (arith, w .is, w .first, w .second, w .third)
+  free-three w (suc (suc (suc v))) l = absurd (omega arith)
+
+  pub free-four : Word a b c d 4294967295 → (v : ℕ) → v < 4 → getD (a ∷ b ∷ c ∷ d ∷ []) v 0 ≡ 255
+  free-four w zero l = omega (arith, w .is, w .first)
+  free-four w (suc zero) l = omega (arith, w .is, w .first, w .second)
+  free-four w (suc (suc zero)) l = omega (arith, w .is, w .first, w .second, w .third)
+  free-four w (suc (suc (suc zero))) l = omega (arith, w .is, w .first, w .second, w .third)
+  free-four w (suc (suc (suc (suc v)))) l = absurd (omega arith)
+
+values-all-free : (n base : ℕ) (xs : List ℕ) → ((v : ℕ) → v < n → getD xs v 0 ≡ 255) → 0 ≡ valueBits n base xs
+unfolding valueBits
+values-all-free zero base xs f = refl
+values-all-free (suc v) base xs f = ap₂ bitOr (values-all-free v base xs (λ u l. f u (omega arith))) (value-free (base + 5 * v) (getD xs v 0) (f v (omega arith)))
+
+four-at : (xs : List ℕ) (v : ℕ) → v < 4 → getD (getD xs 0 0 ∷ getD xs 1 0 ∷ getD xs 2 0 ∷ getD xs 3 0 ∷ []) v 0 ≡ getD xs v 0
+four-at xs zero l = refl
+four-at xs (suc zero) l = refl
+four-at xs (suc (suc zero)) l = refl
+four-at xs (suc (suc (suc zero))) l = refl
+four-at xs (suc (suc (suc (suc v)))) l = absurd (omega arith)
+
+pub values-free : (n base : ℕ) (xs : List ℕ) {r w : ℕ} → n ≤ 4 → Word (getD xs 0 0) (getD xs 1 0) (getD xs 2 0) (getD xs 3 0) w → FreeWord n r → w ≡ r → 0 ≡ valueBits n base xs
+values-free n base xs l W f e =
+    values-all-free n base xs
+    (λ v k. sym (four-at xs v (omega arith)) ∙ f (getD xs 0 0) (getD xs 1 0) (getD xs 2 0) (getD xs 3 0) (subst (Word (getD xs 0 0) (getD xs 1 0) (getD xs 2 0) (getD xs 3 0)) e W) v k)
+
 pub message-role : (n r : ℕ) (b : Bool) (m : Message) {x : ℕ} → b ≡ true → x ≡ valueBits n r (m .snapshot) → x ≡ messageBits n r b m
 unfolding messageBits
 message-role n r true m e f = f
@@ -131,11 +175,7 @@ pub queue-bits-next : (variables : ℕ) (qs : List Queue) (p v : ℕ) {g x : ℕ
 queue-bits-next variables qs p v e f d = simp unary-clauses (f ∙ ap₂ (λ (n k : ℕ). rowBits qs p n k) d e)
 
 module _ (n low : ℕ) (ts : List ℕ) (ms : List Message) where
-  pub signed-done : (i r b y : ℕ) → signed n low ts ms i r b ≡ y → i < low → b ≡ y
-  signed-done zero r b y e l = e
-  signed-done (suc j) r b y e l = sym (ap (λ (t : Bool). cond t (signed n low ts ms j (cond (leb 65536 (getD ts j 0)) (suc r) r) (bitOr b (messageBits n r (leb 65536 (getD ts j 0)) (getD ms j noMessage)))) b) (lt-leb low (suc j) l)) ∙ e
-
-  pub signed-next : (i r b y : ℕ) {x : ℕ} (t : Bool) → signed n low ts ms i r b ≡ y → low ≤ i → 0 < i → t ≡ leb 65536 (getD ts (i - 1) 0) → x ≡ messageBits n r t (getD ms (i - 1) noMessage)
+  signed-next : (i r b y : ℕ) {x : ℕ} (t : Bool) → signed n low ts ms i r b ≡ y → low ≤ i → 0 < i → t ≡ leb 65536 (getD ts (i - 1) 0) → x ≡ messageBits n r t (getD ms (i - 1) noMessage)
       → signed n low ts ms (i - 1) (cond t (suc r) r) (bitOr b x) ≡ y
   signed-next zero r b y t e l z f g = absurd (omega arith)
   signed-next (suc j) r b y {x} t e l z f g =
@@ -234,20 +274,50 @@ module _ (n low : ℕ) (ts : List ℕ) (ms : List Message) (y i r bits : ℕ) {x
   next-role : suc r ≡ r + 1
   next-role = omega arith
 
-  pub signing-role : t ≡ true → Signing n low ts ms y (i - 1) (r + 1) (bitOr bits x)
+  signing-role : t ≡ true → Signing n low ts ms y (i - 1) (r + 1) (bitOr bits x)
   signing-role e =
       record { few = omega (arith, W .few); small = grown; rest = subst (λ (k : ℕ). signed n low ts ms (i - 1) k (bitOr bits x) ≡ y) (ap (λ (b : Bool). cond b (suc r) r) e ∙ next-role) next }
 
-  pub signing-none : t ≡ false → Signing n low ts ms y (i - 1) r (bitOr bits x)
+  signing-none : t ≡ false → Signing n low ts ms y (i - 1) r (bitOr bits x)
   signing-none e =
       record { few = omega (arith, W .few); small = grown; rest = subst (λ (b : Bool). signed n low ts ms (i - 1) (cond b (suc r) r) (bitOr bits x) ≡ y) e next }
 
-pub signing-end : (s : Shape) (c : Cube) {ts : List ℕ} {low i b j r bits : ℕ} → low ≡ lowestPointer s (c .pointers) → i ≡ min (c .count) 20 → b ≡ queueBits (min (s .variables) 4) (c .queues) (min (s .processes) 4)
-    → Signing (min (s .variables) 4) low ts (c .messages) (signed (min (s .variables) 4) low ts (c .messages) i 0 b) j r bits → j < low → ts ≡ tagsOf s c → bits ≡ signatureOf s c
+-- before the lowest pointer nothing is added any more
+signed-low : (n low : ℕ) (ts : List ℕ) (ms : List Message) (i r b : ℕ) → i < low → signed n low ts ms i r b ≡ b
+signed-low n low ts ms zero r b l = refl
+signed-low n low ts ms (suc j) r b l =
+    ap (λ (t : Bool). cond t (signed n low ts ms j (cond (leb 65536 (getD ts j 0)) (suc r) r) (bitOr b (messageBits n r (leb 65536 (getD ts j 0)) (getD ms j noMessage)))) b) (lt-leb low (suc j) l)
+
+module _ (n low : ℕ) (ts : List ℕ) (ms : List Message) (y i r bits : ℕ) {x : ℕ} (t : Bool) (W : Signing n low ts ms y i r bits) (z : 0 < low) (o : 0 < i) (f : t ≡ leb 65536 (getD ts (i - 1) 0))
+    (g : x ≡ cond (leb low i) (bitOr bits (messageBits n r t (getD ms (i - 1) noMessage))) bits) where
+  live : low ≤ i → x ≡ bitOr bits (messageBits n r t (getD ms (i - 1) noMessage))
+  live l = g ∙ rw (le-leb low i l) refl
+
+  dead : i < low → x ≡ bits
+  dead l = g ∙ rw (lt-leb low i l) refl
+
+  past : (q : ℕ) → i < low → signed n low ts ms (i - 1) q x ≡ y
+  past q l = signed-low n low ts ms (i - 1) q x (omega arith) ∙ dead l ∙ sym (signed-low n low ts ms i r bits l) ∙ W .rest
+
+  kept : i < low → x < 2 ^ 18
+  kept l = subst (λ (k : ℕ). k < 2 ^ 18) (sym (dead l)) (W .small)
+
+  pub message-signed : t ≡ true → Signing n low ts ms y (i - 1) (r + 1) x
+  message-signed e = elim (decLe low i) [
+    | yes l ↦ subst (Signing n low ts ms y (i - 1) (r + 1)) (sym (live l)) (signing-role n low ts ms y i r bits t W l z f refl e)
+    | no l ↦ record { few = omega (arith, W .few); small = kept (omega arith); rest = past (r + 1) (omega arith) }
+  ]
+
+  pub message-unsigned : t ≡ false → Signing n low ts ms y (i - 1) r x
+  message-unsigned e = elim (decLe low i) [
+    | yes l ↦ subst (Signing n low ts ms y (i - 1) r) (sym (live l)) (signing-none n low ts ms y i r bits t W l z f refl e)
+    | no l ↦ record { few = omega (arith, W .few); small = kept (omega arith); rest = past r (omega arith) }
+  ]
+
+pub signing-end : (s : Shape) (c : Cube) {ts : List ℕ} {low i b r bits : ℕ} → low ≡ lowestPointer s (c .pointers) → i ≡ min (c .count) 20 → b ≡ queueBits (min (s .variables) 4) (c .queues) (min (s .processes) 4)
+    → Signing (min (s .variables) 4) low ts (c .messages) (signed (min (s .variables) 4) low ts (c .messages) i 0 b) 0 r bits → ts ≡ tagsOf s c → bits ≡ signatureOf s c
 unfolding signatureOf
-signing-end s c {ts} {low} {i} {b} {j} {r} {bits} p q u W l e =
-    signed-done (min (s .variables) 4) low ts (c .messages) j r bits (signed (min (s .variables) 4) low ts (c .messages) i 0 b) (W .rest) l
-    ∙ (λ k. signed (min (s .variables) 4) (p k) (e k) (c .messages) (q k) 0 (u k))
+signing-end s c {ts} {low} {i} {b} {r} {bits} p q u W e = W .rest ∙ (λ k. signed (min (s .variables) 4) (p k) (e k) (c .messages) (q k) 0 (u k))
 
 -- ---- a match
 

@@ -1,10 +1,10 @@
 -- The signature of a cube: bits for what it says beyond its key, where values and messages without a role stand. No statement rests on it: only that
 -- an entry which covers a cube has no bit that the cube has not (`match-signature`) is ever used.
-use Prim.Native.Nat.{ℕ, zero, suc, _+_, _*_, _%_, _^_, min}
+use Prim.Native.Nat.{ℕ, zero, suc, _+_, _*_, _%_, _^_, _<_, min}
 use mathlib.Core.Path.{_≡_}
 use mathlib.Core.Bool.{Bool, true, false, cond}
 use mathlib.Core.Option.{Option, none, some}
-use mathlib.Core.List.{List}
+use mathlib.Core.List.{List, [], _∷_}
 use lib.Bits.{bitOr}
 use lib.ListN.{length, getD}
 use lib.Dec.{eqb, ltb, leb}
@@ -14,6 +14,7 @@ use Rattle.program_part.specs.declared.program.Shape.{Shape}
 use Rattle.whole_file.specs.declared.entry.Queue.{Queue}
 use Rattle.whole_file.specs.declared.entry.Cube.{Cube}
 use Rattle.whole_file.specs.Cube.{noQueue, waitingOf}
+use Rattle.matching.specs.Word.{Word}
 use Rattle.matching.specs.Tags.{tagsOf, lowestPointer}
 
 -- every bit of a is one of b
@@ -33,6 +34,10 @@ valueBit base x = cond (eqb x 255) 0 (bitAt (base + x))
 unfoldable pub valueBits : ℕ → ℕ → List ℕ → ℕ
 valueBits zero base xs = 0
 valueBits (suc v) base xs = bitOr (valueBits v base xs) (valueBit (base + 5 * v) (getD xs v 0))
+
+-- only four bytes of which the first n are FF are this number
+abbrev pub FreeWord : ℕ → ℕ → Type 0
+FreeWord n r = (a b c d : ℕ) → Word a b c d r → (v : ℕ) → v < n → getD (a ∷ b ∷ c ∷ d ∷ []) v 0 ≡ 255
 
 -- a message with or without a role, past r newer ones with a role
 unfoldable pub messageBits : ℕ → ℕ → Bool → Message → ℕ

@@ -2,10 +2,14 @@
 ghost use mathlib.Core.Path.{_≡_};
 ghost use Prim.Native.Nat.{_<_, min};
 ghost use Rattle.matching.specs.Tags.{tagsOf};
+ghost use Rattle.matching.specs.Signature.{queueBits};
 ghost use Rattle.matching.specs.Number.{stir, packedStates, emptyBit, packedQueues, statesMixed, withSignature, widened, numberOf};
-use crate::signature::signature_of;
+use crate::signature::wait_bits;
+use crate::signature::with_message;
+use crate::tags::lowest;
 use crate::values::least;
 use crate::values::waiting;
+use program_part::bytes::wide;
 use program_part::program::Shape;
 use whole_file::entry::Cube;
 use whole_file::entry::Queue;
@@ -46,20 +50,31 @@ fn empty_bit(queue: Queue) -> u64
     0
 }
 
-// h, with a bit behind it for each queue: is it empty?
-fn packed_queues(shape: Shape, queues: [Queue; 16], h: u64) -> u64
-    ensures { λ r. ⌜ r ≡ packedQueues (min (shape .variables) 4) queues (min (shape .processes) 4) h ⌝ }
+// h, with a bit behind it for each queue: is it empty? And the bits of queues in a signature.
+struct Queued {
+    packed: u64,
+    bits: usize,
+}
+
+fn queues_taken(shape: Shape, queues: [Queue; 16], h: u64) -> Queued
+    ensures { λ r. ⌜ r .packed ≡ packedQueues (min (shape .variables) 4) queues (min (shape .processes) 4) h ⌝ }
+    ensures { λ r. ⌜ r .bits ≡ queueBits (min (shape .variables) 4) queues (min (shape .processes) 4) ⌝ }
 {
     let n = least(shape.processes, 4);
     let m = least(shape.variables, 4);
     let mut packed = h;
+    let mut bits = 0;
     for p in 0..n {
         for v in 0..m {
             let queue = queues[4 * p + v];
             packed = packed << 1 ^ empty_bit(queue);
+            bits = bits | wait_bits(queue);
         }
     }
-    packed
+    Queued {
+        packed: packed,
+        bits: bits,
+    }
 }
 
 // The number of the local states.
@@ -74,7 +89,7 @@ fn with_signature(h: u64, signature: usize) -> u64
     requires { ⌜ signature < 262144 ⌝ }
     ensures { λ r. ⌜ r ≡ withSignature h signature ⌝ }
 {
-    h - h % 1048576 + 4 * signature as u64 + h % 4
+    h - h % 1048576 + (signature << 2) as u64 + h % 4
 }
 
 // The number of a cube: of its key in the upper bits and the lowest two, that is of states, which queues are empty, and the tags with a role, newest
@@ -84,17 +99,27 @@ pub fn number_of(shape: Shape, cube: Cube, tags: [u64; 20]) -> u64
 {
     let states = cube.states;
     let queues = cube.queues;
+    let pointers = cube.pointers;
+    let messages = cube.messages;
     let packed = packed_states(shape.processes, states);
-    let mut h = packed_queues(shape, queues, packed);
+    let waiting = queues_taken(shape, queues, packed);
+    let low = wide(lowest(shape, pointers));
+    let mut h = waiting.packed;
+    let mut bits = waiting.bits;
     let mut i = least(cube.count, 20);
+    let mut r = 0;
     while 0 < i {
         i -= 1;
         let tag = tags[i];
-        if 65536 <= tag {
+        let role = 65536 <= tag;
+        let message = messages[i];
+        bits = with_message(shape.variables, low, i, r, role, message, bits);
+        if role {
             h = stir(h) ^ tag;
+            r += 1;
         }
     }
-    with_signature(stir(h), signature_of(shape, cube, tags))
+    with_signature(stir(h), bits)
 }
 
 // The number with every bit of a signature: any entry with the cube's key is looked for.

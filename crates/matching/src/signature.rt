@@ -2,18 +2,16 @@
 // not, so most entries with a cube's key are told from it by one number.
 ghost use mathlib.Core.Path.{_≡_};
 ghost use mathlib.Core.Bool.{cond};
-ghost use Prim.Native.Nat.{_≤_, _<_, min};
-ghost use lib.Dec.{eqb, ltb};
+ghost use Prim.Native.Nat.{_+_, _≤_, _<_, min};
+ghost use lib.Bits.{bitOr};
+ghost use lib.Dec.{eqb, ltb, leb};
 ghost use Rattle.whole_file.specs.Cube.{waitingOf};
-ghost use Rattle.matching.specs.Tags.{tagsOf};
-ghost use Rattle.matching.specs.Signature.{bitAt, valueBit, valueBits, messageBits, waitBits, queueBits, signatureOf};
-use crate::tags::lowest;
+ghost use Rattle.matching.specs.Signature.{FreeWord, bitAt, valueBit, valueBits, messageBits, waitBits};
 use crate::values::least;
 use crate::values::waiting;
+use crate::values::word;
 use program_part::bytes::wide;
-use program_part::program::Shape;
 use pws::Message;
-use whole_file::entry::Cube;
 use whole_file::entry::Queue;
 
 fn bit_at(k: usize) -> usize
@@ -33,11 +31,30 @@ fn value_bit(base: usize, x: u8) -> usize
     bit_at(base + wide(x))
 }
 
+// Four values as a number, where all of the first n are free and the others 0.
+fn free_word(n: usize) -> usize
+    requires { ⌜ n ≤ 4 ⌝ }
+    ensures { λ r. ⌜ FreeWord n r ⌝ }
+{
+    match n {
+        1 => 255,
+        2 => 65535,
+        3 => 16777215,
+        4 => 4294967295,
+        // no four bytes are so much
+        _ => 4294967296,
+    }
+}
+
 fn value_bits(variables: usize, base: usize, values: [u8; 4]) -> usize
     requires { ⌜ base ≤ 60 ⌝ }
     ensures { λ r. ⌜ r ≡ valueBits (min variables 4) base values ⌝ }
 {
     let n = least(variables, 4);
+    // most messages of a cube are free
+    if word(values[0], values[1], values[2], values[3]) == free_word(n) {
+        return 0;
+    }
     let mut bits = 0;
     for v in 0..n {
         bits = bits | value_bit(base + 5 * v, values[v]);
@@ -71,7 +88,7 @@ fn long_bit(n: usize) -> usize
 }
 
 // A newest value that is not free, and whether two values wait.
-fn wait_bits(queue: Queue) -> usize
+pub(crate) fn wait_bits(queue: Queue) -> usize
     ensures { λ r. ⌜ r ≡ waitBits (waitingOf queue) ⌝ }
 {
     let n = waiting(queue);
@@ -81,40 +98,21 @@ fn wait_bits(queue: Queue) -> usize
     last_bit(queue.values[n - 1]) | long_bit(n)
 }
 
-fn queue_bits(shape: Shape, queues: [Queue; 16]) -> usize
-    ensures { λ r. ⌜ r ≡ queueBits (min (shape .variables) 4) queues (min (shape .processes) 4) ⌝ }
+// With the bits of message i + 1, past r newer ones with a role, if it is not before the lowest pointer.
+pub(crate) fn with_message(
+    variables: usize,
+    low: usize,
+    i: usize,
+    r: usize,
+    role: bool,
+    message: Message,
+    bits: usize,
+) -> usize
+    requires { ⌜ (r ≤ 20) × (i < 20) ⌝ }
+    ensures { λ s. ⌜ s ≡ cond (leb low (i + 1)) (bitOr bits (messageBits (min variables 4) r role message)) bits ⌝ }
 {
-    let n = least(shape.processes, 4);
-    let m = least(shape.variables, 4);
-    let mut bits = 0;
-    for p in 0..n {
-        for v in 0..m {
-            let queue = queues[4 * p + v];
-            bits = bits | wait_bits(queue);
-        }
+    if i + 1 < low {
+        return bits;
     }
-    bits
-}
-
-// The signature of a cube, with the tags of its messages.
-pub(crate) fn signature_of(shape: Shape, cube: Cube, tags: [u64; 20]) -> usize
-    ensures { λ s. ⌜ (tags ≡ tagsOf shape cube → s ≡ signatureOf shape cube) × (s < 262144) ⌝ }
-{
-    let pointers = cube.pointers;
-    let messages = cube.messages;
-    let queues = cube.queues;
-    let low = wide(lowest(shape, pointers));
-    let mut bits = queue_bits(shape, queues);
-    let mut i = least(cube.count, 20);
-    let mut r = 0;
-    while low <= i {
-        i -= 1;
-        let role = 65536 <= tags[i];
-        let message = messages[i];
-        bits = bits | message_bits(shape.variables, r, role, message);
-        if role {
-            r += 1;
-        }
-    }
-    bits
+    bits | message_bits(variables, r, role, message)
 }

@@ -18,17 +18,17 @@ channel-matches-spec = tie.close (tie.spec
     Inv-loop
     μ-loop
     -- lowest-requires
-    (λ c κs. search needs)
+    (λ c κs. tt)
     -- wide-requires
-    (λ c κs. search needs)
+    (λ c κs. tt)
     -- lowest-requires-2
-    (λ c κs. search needs)
+    (λ c κs. tt)
     -- wide-requires-2
-    (λ c κs. search needs)
+    (λ c κs. tt)
     -- least-requires
-    (λ c κs. search needs)
+    (λ c κs. tt)
     -- least-requires-2
-    (λ c κs. search needs)
+    (λ c κs. tt)
     -- loop-holds
     (λ c s a b h. newest-begin (c .before .before .before .before .before .before .before .before .before .before .args .exact) s a (c .before .before .before .before .before .before .before .before .before .before .args .t4) b (c .before .before .before .before .before .before .before .before .before .before .args .t6) (c .before .before .before .least .result) (c .before .before .least2 .result) (h .count) (h .counted))
     -- returns
@@ -60,7 +60,7 @@ channel-matches-spec = tie.close (tie.spec
     -- array-read-message-matches-2
     (λ c. let r = (let h : Reads (c .before .before .before .before .before .before .before .before .before .before .before .before .before .before .before .args .shape) (c .before .before .before .before .before .before .before .before .before .before .before .before .before .before .before .args .a) (c .before .before .before .before .before .before .before .before .before .before .before .before .before .before .before .args .b) (c .before .before .before .before .before .before .before .before .before .before .before .before .before .before .before .args .a .messages) (c .before .before .before .before .before .before .before .before .before .before .before .before .before .before .before .args .b .messages) (c .before .before .before .before .before .before .before .before .before .before .before .wide .result) (c .before .before .before .before .before .before .before .before .before .wide2 .result) (c .before .before .before .before .before .before .before .before .least .result) (c .before .before .before .before .before .before .before .least2 .result) = (record { messages = refl; others = refl; first = c .before .before .before .before .before .before .before .before .before .before .before .wide .ensures ∙ c .before .before .before .before .before .before .before .before .before .before .before .before .lowest .ensures; last = c .before .before .before .before .before .before .before .before .before .wide2 .ensures ∙ c .before .before .before .before .before .before .before .before .before .before .lowest2 .ensures; count = c .before .before .before .before .before .before .before .before .least .ensures; counted = c .before .before .before .before .before .before .before .least2 .ensures }) in last-room (c .before .before .before .before .before .before .before .before .before .before .before .before .before .before .before .args .exact) (c .before .before .before .before .before .before .before .before .before .before .before .before .before .before .before .args .shape) (c .before .before .before .before .before .before .before .before .before .before .before .before .before .before .before .args .a) (c .before .before .before .before .before .before .before .before .before .before .before .before .before .before .before .args .t4) (c .before .before .before .before .before .before .before .before .before .before .before .before .before .before .before .args .b) (c .before .before .before .before .before .before .before .before .before .before .before .before .before .before .before .args .t6) h (c .before .before .before .before .loop .inv (c .before .before .before .before .before .before .before .before .before .before .before .before .before .before .before .args .shape) (c .before .before .before .before .before .before .before .before .before .before .before .before .before .before .before .args .a) (c .before .before .before .before .before .before .before .before .before .before .before .before .before .before .before .args .b) h) (omega (arith, c .before .before .if2 .left))) in omega (arith, r .0, r .1))
     -- message-matches-requires
-    (λ c κs. search needs)
+    (λ c κs. tt)
     -- sub-i
     (λ c. (let h : Reads (c .before .before .before .before .before .before .before .before .before .before .before .before .before .before .before .before .before .args .shape) (c .before .before .before .before .before .before .before .before .before .before .before .before .before .before .before .before .before .args .a) (c .before .before .before .before .before .before .before .before .before .before .before .before .before .before .before .before .before .args .b) (c .before .before .before .before .before .before .before .before .before .before .before .before .before .before .before .before .before .args .a .messages) (c .before .before .before .before .before .before .before .before .before .before .before .before .before .before .before .before .before .args .b .messages) (c .before .before .before .before .before .before .before .before .before .before .before .before .before .wide .result) (c .before .before .before .before .before .before .before .before .before .before .before .wide2 .result) (c .before .before .before .before .before .before .before .before .before .before .least .result) (c .before .before .before .before .before .before .before .before .before .least2 .result) = (record { messages = refl; others = refl; first = c .before .before .before .before .before .before .before .before .before .before .before .before .before .wide .ensures ∙ c .before .before .before .before .before .before .before .before .before .before .before .before .before .before .lowest .ensures; last = c .before .before .before .before .before .before .before .before .before .before .before .wide2 .ensures ∙ c .before .before .before .before .before .before .before .before .before .before .before .before .lowest2 .ensures; count = c .before .before .before .before .before .before .before .before .before .before .least .ensures; counted = c .before .before .before .before .before .before .before .before .before .least2 .ensures }) in first-room (c .before .before .before .before .before .before .before .before .before .before .before .before .before .before .before .before .before .args .exact) (c .before .before .before .before .before .before .before .before .before .before .before .before .before .before .before .before .before .args .shape) (c .before .before .before .before .before .before .before .before .before .before .before .before .before .before .before .before .before .args .a) (c .before .before .before .before .before .before .before .before .before .before .before .before .before .before .before .before .before .args .t4) (c .before .before .before .before .before .before .before .before .before .before .before .before .before .before .before .before .before .args .b) (c .before .before .before .before .before .before .before .before .before .before .before .before .before .before .before .before .before .args .t6) h (c .before .before .before .before .before .before .loop .inv (c .before .before .before .before .before .before .before .before .before .before .before .before .before .before .before .before .before .args .shape) (c .before .before .before .before .before .before .before .before .before .before .before .before .before .before .before .before .before .args .a) (c .before .before .before .before .before .before .before .before .before .before .before .before .before .before .before .before .before .args .b) h) (omega (arith, c .before .before .before .before .before .if1 .left))) .0)
     -- sub-j

@@ -9,7 +9,7 @@ use Rattle.matching.proofs.number.empty_bit.Tie as tie
 pub empty-bit-spec : {M : Type 1} → statement M
 empty-bit-spec = tie.close (tie.spec
     -- waiting-requires
-    (λ c κs. search needs)
+    (λ c κs. tt)
     -- returns
     (λ c. sym (ap (λ (b : Bool). cond b 1 0) (empty-none (waitingOf (c .before .before .args .queue)) (sym (c .before .waiting .ensures) ∙ c .if1 .taken))))
     -- returns-2

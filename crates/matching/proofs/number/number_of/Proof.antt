@@ -1,57 +1,152 @@
-use Prim.Native.Nat.{ℕ, _≤_, min}
-use mathlib.Core.Path.{_≡_, refl, sym, ap, ap₂, _∙_}
-use mathlib.Core.List.{List}
+use Prim.Native.Nat.{ℕ, _+_, _-_, _<_, min}
+use mathlib.Core.Path.{_≡_, refl, sym, ap, subst, _∙_}
+use mathlib.Core.Bool.{cond}
+use lib.Bits.{bitOr}
+use lib.ListN.{getD}
+use lib.Dec.{leb}
+use borrow.Author.Tests.{leb-true, leb-false}
+use Rattle.pws.specs.Machine.{noMessage}
+use Rattle.matching.specs.Signature.{messageBits, signed}
+use Rattle.matching.specs.Number.{withTags}
+use Rattle.matching.proofs.ChannelLaws.{low-positive}
+use Rattle.matching.proofs.PackLaws.{tags-hit, tags-pass, number-gathered}
+use Rattle.matching.proofs.SignatureLaws.{Signing, signing-begin, message-signed, message-unsigned, signing-end, queues-small}
 use native.Mathlib.Omega.{arith}
-use Rattle.matching.specs.Tags.{tagsOf}
-use Rattle.matching.specs.Number.{stir, packedQueues, withTags, withSignature, keyMixed, numberOf}
-use Rattle.matching.proofs.PackLaws.{tags-hit, tags-pass}
 use borrow.Author.Needs.{needs}
 use Rattle.matching.proofs.number.number_of.Statement.{statement}
 use Rattle.matching.proofs.number.number_of.Tie as tie
+use Rattle.matching.proofs.number.number_of.Reads as reads
+use Rattle.matching.proofs.number.number_of.Lts as lts
+use Rattle.matching.proofs.number.packed_states.Reads as packed-states-reads
+use Rattle.matching.proofs.number.queues_taken.Reads as queues-taken-reads
+use Rattle.matching.proofs.number.stir.Reads as stir-reads
+use Rattle.matching.proofs.number.with_signature.Reads as with-signature-reads
+use Rattle.matching.proofs.signature.with_message.Reads as with-message-reads
+use Rattle.matching.proofs.tags.lowest.Reads as lowest-reads
+use Rattle.matching.proofs.values.least.Reads as least-reads
+use Rattle.program_part.proofs.bytes.wide.Reads as wide-reads
+
+again-one : {i : ℕ} → 0 < i → i - 1 + 1 ≡ i
+again-one l = omega arith
 
 abbrev Inv-loop : tie.InvT-loop
-Inv-loop shape cube tags packed h₀ i₀ h i = (i ≤ i₀) × (withTags tags i h ≡ withTags tags i₀ h₀)
+Inv-loop shape tags messages packed low h₀ bits₀ i₀ r₀ h bits i r = (withTags tags i h ≡ withTags tags i₀ h₀) × Signing (min (shape .variables) 4) low tags messages (signed (min (shape .variables) 4) low tags messages i₀ 0 bits₀) i r bits
 
 abbrev μ-loop : tie.MeasureT-loop
-μ-loop shape cube tags packed h₀ i₀ h i = i
+μ-loop shape tags messages packed low h₀ bits₀ i₀ r₀ h bits i r = i
+
+-- src/number.rt:104:9
+packed-states-requires : tie.Need-packed-states-requires Inv-loop μ-loop
+packed-states-requires c κs = tt
+
+-- src/number.rt:105:9
+queues-taken-requires : tie.Need-queues-taken-requires Inv-loop μ-loop
+queues-taken-requires c κs = tt
+
+-- src/number.rt:106:20
+lowest-requires : tie.Need-lowest-requires Inv-loop μ-loop
+lowest-requires c κs = tt
+
+-- src/number.rt:106:9
+wide-requires : tie.Need-wide-requires Inv-loop μ-loop
+wide-requires c κs = tt
+
+-- src/number.rt:109:9
+least-requires : tie.Need-least-requires Inv-loop μ-loop
+least-requires c κs = tt
+
+-- src/number.rt:111:5
+loop-holds : tie.Need-loop-holds Inv-loop μ-loop
+loop-holds c = (refl, signing-begin (min (c .before .before .before .before .before .before .before .before .before .args .shape .variables) 4) (c .before .wide .result) (c .before .before .before .before .before .before .before .before .before .args .t3) (c .before .before .before .before .before .before .before .before .before .args .cube .messages) (c .least .result) (omega (arith, c .least .ensures)) (subst (λ (k : ℕ). k < 262144) (sym (c .before .before .before .queues-taken .ensures .1)) (queues-small (min (c .before .before .before .before .before .before .before .before .before .args .shape .variables) 4) (c .before .before .before .before .before .before .before .before .before .args .cube .queues) (min (c .before .before .before .before .before .before .before .before .before .args .shape .processes) 4))))
+
+-- src/number.rt:112:9
+sub-i : tie.Need-sub-i Inv-loop μ-loop
+sub-i c = omega (arith, c .loop-test .taken)
+
+-- src/number.rt:113:19
+mul-tag : tie.Need-mul-tag Inv-loop μ-loop
+mul-tag c = omega (arith, c .before .loop .inv .1 .few)
+
+-- src/number.rt:113:19
+array-read-tag : tie.Need-array-read-tag Inv-loop μ-loop
+array-read-tag c = omega (arith, c .before .loop .inv .1 .few, c .loop-test .taken)
+
+-- src/number.rt:115:23
+mul-message : tie.Need-mul-message Inv-loop μ-loop
+mul-message c = omega (arith, c .before .loop .inv .1 .few)
+
+-- src/number.rt:115:23
+array-copy-out-message : tie.Need-array-copy-out-message Inv-loop μ-loop
+array-copy-out-message c = omega (arith, c .before .loop .inv .1 .few, c .loop-test .taken)
+
+-- src/number.rt:116:9
+with-message-requires : tie.Need-with-message-requires Inv-loop μ-loop
+with-message-requires c κs = (omega (arith, c .before .before .loop .inv .1 .few), omega (arith, c .before .before .loop .inv .1 .few, c .before .loop-test .taken))
+
+-- src/number.rt:118:17
+stir-requires : tie.Need-stir-requires Inv-loop μ-loop
+stir-requires c κs = tt
+
+-- src/number.rt:119:13
+add-r : tie.Need-add-r Inv-loop μ-loop
+add-r c = omega (arith, c .before .before .before .before .before .loop .inv .1 .few)
+
+-- src/number.rt:111:5
+loop-less : tie.Need-loop-less Inv-loop μ-loop
+loop-less c = omega (arith, c .before .before .before .before .loop-test .taken)
+
+-- src/number.rt:111:5
+loop-again : tie.Need-loop-again Inv-loop μ-loop
+loop-again c = (tags-hit (c .before .before .before .before .before .before .before .before .before .before .before .before .before .before .before .args .t3) (c .before .before .before .before .before .loop .i) (c .before .before .before .before .before .loop .h) (withTags (c .before .before .before .before .before .before .before .before .before .before .before .before .before .before .before .args .t3) (c .before .before .before .before .before .before .least .result) (c .before .before .before .before .before .before .before .before .before .queues-taken .result .packed)) (c .before .before .before .before .before .loop .inv .0) (c .before .before .before .before .loop-test .taken) (leb-true 65536 (getD (c .before .before .before .before .before .before .before .before .before .before .before .before .before .before .before .args .t3) (c .before .before .before .before .before .loop .i - 1) 0) (c .before .if1 .taken)) (c .stir .ensures), message-signed (min (c .before .before .before .before .before .before .before .before .before .before .before .before .before .before .before .args .shape .variables) 4) (c .before .before .before .before .before .before .before .wide .result) (c .before .before .before .before .before .before .before .before .before .before .before .before .before .before .before .args .t3) (c .before .before .before .before .before .before .before .before .before .before .before .before .before .before .before .args .cube .messages) (signed (min (c .before .before .before .before .before .before .before .before .before .before .before .before .before .before .before .args .shape .variables) 4) (c .before .before .before .before .before .before .before .wide .result) (c .before .before .before .before .before .before .before .before .before .before .before .before .before .before .before .args .t3) (c .before .before .before .before .before .before .before .before .before .before .before .before .before .before .before .args .cube .messages) (c .before .before .before .before .before .before .least .result) 0 (c .before .before .before .before .before .before .before .before .before .queues-taken .result .bits)) (c .before .before .before .before .before .loop .i) (c .before .before .before .before .before .loop .r) (c .before .before .before .before .before .loop .bits) (leb 65536 (getD (c .before .before .before .before .before .before .before .before .before .before .before .before .before .before .before .args .t3) (c .before .before .before .before .before .loop .i - 1) 0)) (c .before .before .before .before .before .loop .inv .1) (subst (λ (k : ℕ). 0 < k) (sym (c .before .before .before .before .before .before .before .wide .ensures ∙ c .before .before .before .before .before .before .before .before .lowest .ensures)) (low-positive (c .before .before .before .before .before .before .before .before .before .before .before .before .before .before .before .args .shape) (c .before .before .before .before .before .before .before .before .before .before .before .before .before .before .before .args .cube .pointers))) (c .before .before .before .before .loop-test .taken) refl (c .before .before .with-message .ensures ∙ ap (λ (j : ℕ). cond (leb (c .before .before .before .before .before .before .before .wide .result) j) (bitOr (c .before .before .before .before .before .loop .bits) (messageBits (min (c .before .before .before .before .before .before .before .before .before .before .before .before .before .before .before .args .shape .variables) 4) (c .before .before .before .before .before .loop .r) (leb 65536 (getD (c .before .before .before .before .before .before .before .before .before .before .before .before .before .before .before .args .t3) (c .before .before .before .before .before .loop .i - 1) 0)) (getD (c .before .before .before .before .before .before .before .before .before .before .before .before .before .before .before .args .cube .messages) (c .before .before .before .before .before .loop .i - 1) noMessage))) (c .before .before .before .before .before .loop .bits)) (again-one (c .before .before .before .before .loop-test .taken))) (c .before .if1 .taken))
+
+-- src/number.rt:111:5
+loop-less-2 : tie.Need-loop-less-2 Inv-loop μ-loop
+loop-less-2 c = omega (arith, c .before .before .before .loop-test .taken)
+
+-- src/number.rt:111:5
+loop-again-2 : tie.Need-loop-again-2 Inv-loop μ-loop
+loop-again-2 c = (tags-pass (c .before .before .before .before .before .before .before .before .before .before .before .before .before .before .args .t3) (c .before .before .before .before .loop .i) (c .before .before .before .before .loop .h) (withTags (c .before .before .before .before .before .before .before .before .before .before .before .before .before .before .args .t3) (c .before .before .before .before .before .least .result) (c .before .before .before .before .before .before .before .before .queues-taken .result .packed)) (c .before .before .before .before .loop .inv .0) (c .before .before .before .loop-test .taken) (leb-false 65536 (getD (c .before .before .before .before .before .before .before .before .before .before .before .before .before .before .args .t3) (c .before .before .before .before .loop .i - 1) 0) (c .if1 .left)), message-unsigned (min (c .before .before .before .before .before .before .before .before .before .before .before .before .before .before .args .shape .variables) 4) (c .before .before .before .before .before .before .wide .result) (c .before .before .before .before .before .before .before .before .before .before .before .before .before .before .args .t3) (c .before .before .before .before .before .before .before .before .before .before .before .before .before .before .args .cube .messages) (signed (min (c .before .before .before .before .before .before .before .before .before .before .before .before .before .before .args .shape .variables) 4) (c .before .before .before .before .before .before .wide .result) (c .before .before .before .before .before .before .before .before .before .before .before .before .before .before .args .t3) (c .before .before .before .before .before .before .before .before .before .before .before .before .before .before .args .cube .messages) (c .before .before .before .before .before .least .result) 0 (c .before .before .before .before .before .before .before .before .queues-taken .result .bits)) (c .before .before .before .before .loop .i) (c .before .before .before .before .loop .r) (c .before .before .before .before .loop .bits) (leb 65536 (getD (c .before .before .before .before .before .before .before .before .before .before .before .before .before .before .args .t3) (c .before .before .before .before .loop .i - 1) 0)) (c .before .before .before .before .loop .inv .1) (subst (λ (k : ℕ). 0 < k) (sym (c .before .before .before .before .before .before .wide .ensures ∙ c .before .before .before .before .before .before .before .lowest .ensures)) (low-positive (c .before .before .before .before .before .before .before .before .before .before .before .before .before .before .args .shape) (c .before .before .before .before .before .before .before .before .before .before .before .before .before .before .args .cube .pointers))) (c .before .before .before .loop-test .taken) refl (c .before .with-message .ensures ∙ ap (λ (j : ℕ). cond (leb (c .before .before .before .before .before .before .wide .result) j) (bitOr (c .before .before .before .before .loop .bits) (messageBits (min (c .before .before .before .before .before .before .before .before .before .before .before .before .before .before .args .shape .variables) 4) (c .before .before .before .before .loop .r) (leb 65536 (getD (c .before .before .before .before .before .before .before .before .before .before .before .before .before .before .args .t3) (c .before .before .before .before .loop .i - 1) 0)) (getD (c .before .before .before .before .before .before .before .before .before .before .before .before .before .before .args .cube .messages) (c .before .before .before .before .loop .i - 1) noMessage))) (c .before .before .before .before .loop .bits)) (again-one (c .before .before .before .loop-test .taken))) (c .if1 .left))
+
+-- src/number.rt:122:20
+stir-requires-2 : tie.Need-stir-requires-2 Inv-loop μ-loop
+stir-requires-2 c κs = search needs
+
+-- src/number.rt:122:5
+with-signature-requires : tie.Need-with-signature-requires Inv-loop μ-loop
+with-signature-requires c κs = c .before .before .loop .inv .1 .small
+
+-- src/number.rt:97:1
+returns : tie.Need-returns Inv-loop μ-loop
+returns c = λ e.
+    let z : c .before .before .before .loop .i ≡ 0 = omega (arith, c .before .before .loop-test .left) in
+    number-gathered (c .before .before .before .before .before .before .before .before .before .before .before .before .before .args .shape) (c .before .before .before .before .before .before .before .before .before .before .before .before .before .args .cube) (c .before .before .before .before .before .before .before .before .before .before .before .before .before .args .t3) (c .before .before .before .loop .h) e (c .before .before .before .before .least .ensures) (c .before .before .before .before .before .before .before .before .packed-states .ensures) (c .before .before .before .before .before .before .before .queues-taken .ensures .0) z (c .before .before .before .loop .inv .0) (c .before .stir2 .ensures)
+    (signing-end (c .before .before .before .before .before .before .before .before .before .before .before .before .before .args .shape) (c .before .before .before .before .before .before .before .before .before .before .before .before .before .args .cube) (c .before .before .before .before .before .wide .ensures ∙ c .before .before .before .before .before .before .lowest .ensures) (c .before .before .before .before .least .ensures) (c .before .before .before .before .before .before .before .queues-taken .ensures .1) (subst (λ (j : ℕ). Signing (min (c .before .before .before .before .before .before .before .before .before .before .before .before .before .args .shape .variables) 4) (c .before .before .before .before .before .wide .result) (c .before .before .before .before .before .before .before .before .before .before .before .before .before .args .t3) (c .before .before .before .before .before .before .before .before .before .before .before .before .before .args .cube .messages) (signed (min (c .before .before .before .before .before .before .before .before .before .before .before .before .before .args .shape .variables) 4) (c .before .before .before .before .before .wide .result) (c .before .before .before .before .before .before .before .before .before .before .before .before .before .args .t3) (c .before .before .before .before .before .before .before .before .before .before .before .before .before .args .cube .messages) (c .before .before .before .before .least .result) 0 (c .before .before .before .before .before .before .before .queues-taken .result .bits)) j (c .before .before .before .loop .r) (c .before .before .before .loop .bits)) z (c .before .before .before .loop .inv .1)) e)
+    (c .with-signature .ensures)
 
 pub number-of-spec : {M : Type 1} → statement M
-unfolding numberOf keyMixed
-number-of-spec = tie.close (tie.spec
+number-of-spec =
+    tie.close
+    (tie.spec
     Inv-loop
     μ-loop
-    -- packed-states-requires
-    (λ c κs. search needs)
-    -- packed-queues-requires
-    (λ c κs. search needs)
-    -- least-requires
-    (λ c κs. search needs)
-    -- loop-holds
-    (λ c. (omega arith, refl))
-    -- sub-i
-    (λ c. omega (arith, c .loop-test .taken))
-    -- mul-tag
-    (λ c. omega (arith, c .before .loop .inv .0, c .before .before .least .ensures))
-    -- array-read-tag
-    (λ c. omega (arith, c .loop-test .taken, c .before .loop .inv .0, c .before .before .least .ensures))
-    -- stir-requires
-    (λ c κs. search needs)
-    -- loop-less
-    (λ c. omega (arith, c .before .before .loop-test .taken))
-    -- loop-again
-    (λ c. (omega (arith, c .before .before .before .loop .inv .0), tags-hit (c .before .before .before .before .before .before .before .before .before .args .t3) (c .before .before .before .loop .i) (c .before .before .before .loop .h) (withTags (c .before .before .before .before .before .before .before .before .before .args .t3) (c .before .before .before .before .least .result) (c .before .before .before .before .before .packed-queues .result)) (c .before .before .before .loop .inv .1) (c .before .before .loop-test .taken) (c .before .if1 .taken) (c .stir .ensures)))
-    -- loop-less-2
-    (λ c. omega (arith, c .before .loop-test .taken))
-    -- loop-again-2
-    (λ c. (omega (arith, c .before .before .loop .inv .0), tags-pass (c .before .before .before .before .before .before .before .before .args .t3) (c .before .before .loop .i) (c .before .before .loop .h) (withTags (c .before .before .before .before .before .before .before .before .args .t3) (c .before .before .before .least .result) (c .before .before .before .before .packed-queues .result)) (c .before .before .loop .inv .1) (c .before .loop-test .taken) (omega (arith, c .if1 .left))))
-    -- stir-requires-2
-    (λ c κs. search needs)
-    -- signature-of-requires
-    (λ c κs. search needs)
-    -- with-signature-requires
-    (λ c κs. c .signature-of .ensures .1)
-    -- returns
-    (λ c e.
-    let z : c .before .before .before .before .loop .i ≡ 0 = omega (arith, c .before .before .before .loop-test .left) in
-    let h : c .before .before .before .before .loop .h ≡ withTags (c .before .before .before .before .before .before .before .before .before .before .args .t3) (c .before .before .before .before .before .least .result) (c .before .before .before .before .before .before .packed-queues .result) = ap (λ (n : ℕ). withTags (c .before .before .before .before .before .before .before .before .before .before .args .t3) n (c .before .before .before .before .loop .h)) (sym z) ∙ c .before .before .before .before .loop .inv .1 in
-    c .with-signature .ensures ∙ ap₂ withSignature (c .before .before .stir2 .ensures ∙ ap stir (h ∙ ap₂ (λ (ts : List ℕ) (n : ℕ). withTags ts n (c .before .before .before .before .before .before .packed-queues .result)) e (c .before .before .before .before .before .least .ensures) ∙ ap (withTags (tagsOf (c .before .before .before .before .before .before .before .before .before .before .args .shape) (c .before .before .before .before .before .before .before .before .before .before .args .cube)) (min (c .before .before .before .before .before .before .before .before .before .before .args .cube .count) 20)) (c .before .before .before .before .before .before .packed-queues .ensures ∙ ap (packedQueues (min (c .before .before .before .before .before .before .before .before .before .before .args .shape .variables) 4) (c .before .before .before .before .before .before .before .before .before .before .args .cube .queues) (min (c .before .before .before .before .before .before .before .before .before .before .args .shape .processes) 4)) (c .before .before .before .before .before .before .before .packed-states .ensures)))) (c .before .signature-of .ensures .0 e)))
+    packed-states-requires
+    queues-taken-requires
+    lowest-requires
+    wide-requires
+    least-requires
+    loop-holds
+    sub-i
+    mul-tag
+    array-read-tag
+    mul-message
+    array-copy-out-message
+    with-message-requires
+    stir-requires
+    add-r
+    loop-less
+    loop-again
+    loop-less-2
+    loop-again-2
+    stir-requires-2
+    with-signature-requires
+    returns)

@@ -8,8 +8,8 @@ pub states-number-spec : {M : Type 1} → statement M
 unfolding statesMixed
 states-number-spec = tie.close (tie.spec
     -- packed-states-requires
-    (λ c κs. search needs)
+    (λ c κs. tt)
     -- stir-requires
-    (λ c κs. search needs)
+    (λ c κs. tt)
     -- returns
     (λ c. c .stir .ensures ∙ ap stir (c .before .packed-states .ensures)))

@@ -10,10 +10,6 @@ use Rattle.matching.proofs.number.with_signature.Lts as lts
 sub-result : tie.Need-sub-result
 sub-result c = search needs
 
--- src/number.rt:77:23
-mul-result : tie.Need-mul-result
-mul-result c = search needs
-
 -- src/number.rt:77:5
 add-result : tie.Need-add-result
 add-result c = search needs
@@ -24,7 +20,7 @@ add-result-2 c = search needs
 
 -- src/number.rt:73:1
 returns : tie.Need-returns
-returns c = signature-put (c .args .h) (c .args .signature)
+returns c = signature-put (c .args .h) (c .args .signature) (c .pre)
 
 pub with-signature-spec : {M : Type 1} → statement M
-with-signature-spec = tie.close (tie.spec sub-result mul-result add-result add-result-2 returns)
+with-signature-spec = tie.close (tie.spec sub-result add-result add-result-2 returns)

@@ -23,9 +23,9 @@ queue-matches-spec = tie.close (tie.spec
     Inv-loop
     μ-loop
     -- waiting-requires 58:9
-    (λ c κs. search needs)
+    (λ c κs. tt)
     -- waiting-requires-2 59:9
-    (λ c κs. search needs)
+    (λ c κs. tt)
     -- returns 61:9
     (λ c. ap (λ (k : ℕ). eqb k 0) (c .before .waiting2 .ensures) ∙ queue-left (relation (c .before .before .before .args .exact)) (waitingOf (c .before .before .before .args .t2)) (waitingOf (c .before .before .before .args .t3)) (sym (c .before .before .waiting .ensures) ∙ c .if1 .taken))
     -- returns-2 64:9
@@ -41,7 +41,7 @@ queue-matches-spec = tie.close (tie.spec
     -- element-copy-out-related-2 71:47
     (λ c. omega (arith, waits (c .before .before .before .before .before .before .before .before .args .t3) (search needs), c .before .before .before .before .before .before .waiting2 .ensures, c .before .before .loop-test .taken))
     -- related-requires 71:19
-    (λ c κs. search needs)
+    (λ c κs. tt)
     -- add-i 72:13
     (λ c. omega (arith, waits (c .before .before .before .before .before .before .before .before .before .before .before .args .t2) (search needs), c .before .before .before .before .before .before .before .before .before .before .waiting .ensures, c .before .before .before .before .if3 .left))
     -- add-j 73:13
@@ -65,8 +65,8 @@ queue-matches-spec = tie.close (tie.spec
     -- element-copy-out-related-4 78:48
     (λ c. omega (arith, waits (c .before .before .before .before .before .before .before .args .t3) (search needs), c .before .before .before .before .before .waiting2 .ensures))
     -- related-requires-2 78:9
-    (λ c κs. search needs)
+    (λ c κs. tt)
     -- both-requires 79:5
-    (λ c κs. search needs)
+    (λ c κs. tt)
     -- returns-3 55:1
     (λ c. let x : length (waitingOf (c .before .before .before .before .before .before .before .before .before .before .args .t2)) ≢ 0 = λ e. c .before .before .before .before .before .before .before .if1 .left (c .before .before .before .before .before .before .before .before .before .waiting .ensures ∙ e) in let y : length (waitingOf (c .before .before .before .before .before .before .before .before .before .before .args .t3)) ≢ 0 = λ e. c .before .before .before .before .before .before .if2 .left (c .before .before .before .before .before .before .before .before .waiting2 .ensures ∙ e) in c .both .ensures ∙ ap (_&&_ (eqb (c .before .before .before .before .before .loop .i) (c .before .before .before .before .before .before .before .before .before .waiting .result))) (c .before .related2 .ensures ∙ ap₂ (relation (c .before .before .before .before .before .before .before .before .before .before .args .exact)) (value-waits (c .before .before .before .before .before .before .before .before .before .before .args .t2) ((c .before .before .before .before .before .before .before .before .before .waiting .result) - 1) (omega (arith, c .before .before .before .before .before .before .before .before .before .waiting .ensures))) (value-waits (c .before .before .before .before .before .before .before .before .before .before .args .t3) ((c .before .before .before .before .before .before .before .before .waiting2 .result) - 1) (omega (arith, c .before .before .before .before .before .before .before .before .waiting2 .ensures)))) ∙ queue-matched (relation (c .before .before .before .before .before .before .before .before .before .before .args .exact)) (waitingOf (c .before .before .before .before .before .before .before .before .before .before .args .t2)) (waitingOf (c .before .before .before .before .before .before .before .before .before .before .args .t3)) (c .before .before .before .before .before .loop .i) (c .before .before .before .before .before .loop .j) (c .before .before .before .before .before .before .before .before .before .waiting .result) (c .before .before .before .before .before .before .before .before .waiting2 .result) (c .before .before .before .before .before .before .before .before .before .waiting .ensures) (c .before .before .before .before .before .before .before .before .waiting2 .ensures) (c .before .before .before .before .before .before .before .if1 .left) (c .before .before .before .before .before .before .if2 .left) (c .before .before .before .before .before .loop .inv) (omega (arith, c .before .before .before .before .loop-test .left, c .before .before .before .before .before .before .before .before .waiting2 .ensures))))

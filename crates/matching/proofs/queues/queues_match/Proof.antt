@@ -30,9 +30,9 @@ queues-match-spec = tie.close (tie.spec
     Inv-loop
     μ-loop
     -- least-requires
-    (λ c κs. search needs)
+    (λ c κs. tt)
     -- least-requires-2
-    (λ c κs. search needs)
+    (λ c κs. tt)
     -- loop-holds
     (λ c x e. each-begin (queueRow x (c .before .before .args .exact) (c .before .before .args .t3) (c .before .before .args .t4)) true (c .before .least .result))
     -- loop2-holds
@@ -50,7 +50,7 @@ queues-match-spec = tie.close (tie.spec
     -- array-copy-out-queue-matches-2
     (λ c. omega (arith, c .before .loop2-test .taken, c .before .before .before .loop-test .taken, c .before .before .before .before .before .least2 .ensures, c .before .before .before .before .before .before .least .ensures))
     -- queue-matches-requires
-    (λ c κs. search needs)
+    (λ c κs. tt)
     -- returns
     (λ c. sym (ap (λ (n : ℕ). allBelow n (queueRow (c .before .before .before .before .before .before .before .before .before .before .args .shape .variables) (c .before .before .before .before .before .before .before .before .before .before .args .exact) (c .before .before .before .before .before .before .before .before .before .before .args .t3) (c .before .before .before .before .before .before .before .before .before .before .args .t4))) (sym (c .before .before .before .before .before .before .before .before .before .least .ensures)) ∙ all-false (c .before .before .before .before .before .before .before .before .before .least .result) (queueRow (c .before .before .before .before .before .before .before .before .before .before .args .shape .variables) (c .before .before .before .before .before .before .before .before .before .before .args .exact) (c .before .before .before .before .before .before .before .before .before .before .args .t3) (c .before .before .before .before .before .before .before .before .before .before .args .t4)) (c .before .before .before .before .before .before .before .loop .p) (c .before .before .before .before .before .before .loop-test .taken) (row-false (c .before .before .before .before .before .before .before .before .before .before .args .exact) (c .before .before .before .before .before .before .before .before .before .before .args .t3) (c .before .before .before .before .before .before .before .before .before .before .args .t4) (c .before .before .before .before .before .before .before .loop .p) (c .before .before .before .before .before .before .before .before .before .before .args .shape .variables) (c .before .before .before .before .before .before .before .before .least2 .ensures) (c .before .before .before .before .loop2-test .taken) (c .before .queue-matches .ensures) (not-true (c .before .queue-matches .result) (c .if1 .taken)))))
     -- add-v

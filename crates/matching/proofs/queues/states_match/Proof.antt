@@ -22,7 +22,7 @@ states-match-spec = tie.close (tie.spec
     Inv-loop
     μ-loop
     -- least-requires 261:9
-    (λ c κs. search needs)
+    (λ c κs. tt)
     -- loop-holds 262:5
     (λ c. each-begin (λ k. eqb (getD (c .before .args .t2) k 0) (getD (c .before .args .t3) k 0)) true (c .least .result))
     -- array-read-if1 263:12

@@ -17,7 +17,7 @@ returns c = message-role (min (c .before .before .before .args .variables) 4) (c
 
 -- src/signature.rt:57:21
 wide-requires : tie.Need-wide-requires
-wide-requires c κs = search needs
+wide-requires c κs = tt
 
 -- src/signature.rt:57:17
 mul-label : tie.Need-mul-label
@@ -25,7 +25,7 @@ mul-label c = search needs
 
 -- src/signature.rt:57:45
 wide-requires-2 : tie.Need-wide-requires-2
-wide-requires-2 c κs = search needs
+wide-requires-2 c κs = tt
 
 -- src/signature.rt:57:17
 add-label : tie.Need-add-label
@@ -53,7 +53,7 @@ add-bit-at-2 c = search needs
 
 -- src/signature.rt:58:44
 bit-at-requires : tie.Need-bit-at-requires
-bit-at-requires c κs = search needs
+bit-at-requires c κs = tt
 
 -- src/signature.rt:49:1
 returns-2 : tie.Need-returns-2

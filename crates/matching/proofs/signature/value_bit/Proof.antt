@@ -12,10 +12,10 @@ value-bit-spec = tie.close (tie.spec
     -- returns
     (λ c. value-free (c .before .args .base) (c .before .args .x) (c .if1 .taken))
     -- wide-requires
-    (λ c κs. search needs)
+    (λ c κs. tt)
     -- add-bit-at
     (λ c. search needs)
     -- bit-at-requires
-    (λ c κs. search needs)
+    (λ c κs. tt)
     -- returns-2
     (λ c. value-set (c .before .before .before .args .base) (c .before .before .before .args .x) (c .bit-at .result) (c .before .before .if1 .left) (c .bit-at .ensures ∙ ap (λ (y : ℕ). bitAt (c .before .before .before .args .base + y)) (c .before .wide .ensures))))

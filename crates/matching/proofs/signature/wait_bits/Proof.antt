@@ -16,7 +16,7 @@ use Rattle.matching.proofs.values.waiting.Reads as waiting-reads
 
 -- src/signature.rt:77:9
 waiting-requires : tie.Need-waiting-requires
-waiting-requires c κs = search needs
+waiting-requires c κs = tt
 
 -- src/signature.rt:79:9
 returns : tie.Need-returns
@@ -32,11 +32,11 @@ element-copy-out-last-bit c = omega (arith, waits (c .before .before .args .t1) 
 
 -- src/signature.rt:81:5
 last-bit-requires : tie.Need-last-bit-requires
-last-bit-requires c κs = search needs
+last-bit-requires c κs = tt
 
 -- src/signature.rt:81:37
 long-bit-requires : tie.Need-long-bit-requires
-long-bit-requires c κs = search needs
+long-bit-requires c κs = tt
 
 -- src/signature.rt:74:1
 returns-2 : tie.Need-returns-2

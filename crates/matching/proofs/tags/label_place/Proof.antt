@@ -12,11 +12,11 @@ use Rattle.matching.proofs.tags.label_place.Tie as tie
 pub label-place-spec : {M : Type 1} → statement M
 label-place-spec = tie.close (tie.spec
     -- wide-requires
-    (λ c κs. search needs)
+    (λ c κs. tt)
     -- wide-requires-2
-    (λ c κs. search needs)
+    (λ c κs. tt)
     -- both-requires
-    (λ c κs. search needs)
+    (λ c κs. tt)
     -- returns
     (λ c. (sym (place-none (c .before .before .before .before .args .message) (ap₂ (λ (a b : ℕ). ltb a 4 && ltb b 4) (sym (c .before .before .before .wide .ensures)) (sym (c .before .before .wide2 .ensures)) ∙ sym (c .before .both .ensures) ∙ not-true (c .before .both .result) (c .if1 .taken))), omega arith))
     -- mul-result

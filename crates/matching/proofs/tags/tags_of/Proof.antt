@@ -36,11 +36,11 @@ abbrev μ-loop2 : tie.MeasureT-loop2
 
 -- src/tags.rt:44:9
 least-requires : tie.Need-least-requires Inv-loop μ-loop Inv-loop2 μ-loop2
-least-requires c κs = search needs
+least-requires c κs = tt
 
 -- src/tags.rt:45:19
 least-requires-2 : tie.Need-least-requires-2 Inv-loop μ-loop Inv-loop2 μ-loop2
-least-requires-2 c κs = search needs
+least-requires-2 c κs = tt
 
 -- src/tags.rt:45:15
 mul-end : tie.Need-mul-end Inv-loop μ-loop Inv-loop2 μ-loop2
@@ -48,7 +48,7 @@ mul-end c = omega (arith, c .least2 .ensures)
 
 -- src/tags.rt:46:9
 least-requires-3 : tie.Need-least-requires-3 Inv-loop μ-loop Inv-loop2 μ-loop2
-least-requires-3 c κs = search needs
+least-requires-3 c κs = tt
 
 -- src/tags.rt:48:13
 array-read-a : tie.Need-array-read-a Inv-loop μ-loop Inv-loop2 μ-loop2
@@ -80,7 +80,7 @@ array-copy-out-message c = omega (arith, c .loop-test .taken, c .before .before 
 
 -- src/tags.rt:79:19
 label-number-requires : tie.Need-label-number-requires Inv-loop μ-loop Inv-loop2 μ-loop2
-label-number-requires c κs = search needs
+label-number-requires c κs = tt
 
 -- src/tags.rt:79:9
 mul-tags : tie.Need-mul-tags Inv-loop μ-loop Inv-loop2 μ-loop2
@@ -92,7 +92,7 @@ array-write-tags c = omega (arith, c .before .before .loop-test .taken, c .befor
 
 -- src/tags.rt:80:13
 label-place-requires : tie.Need-label-place-requires Inv-loop μ-loop Inv-loop2 μ-loop2
-label-place-requires c κs = search needs
+label-place-requires c κs = tt
 
 -- src/tags.rt:81:23
 add-number : tie.Need-add-number Inv-loop μ-loop Inv-loop2 μ-loop2
@@ -132,11 +132,11 @@ array-read-wide c = omega (arith, c .loop2-test .taken, c .before .before .befor
 
 -- src/tags.rt:89:13
 wide-requires : tie.Need-wide-requires Inv-loop μ-loop Inv-loop2 μ-loop2
-wide-requires c κs = search needs
+wide-requires c κs = tt
 
 -- src/tags.rt:90:12
 both-requires : tie.Need-both-requires Inv-loop μ-loop Inv-loop2 μ-loop2
-both-requires c κs = search needs
+both-requires c κs = tt
 
 -- src/tags.rt:91:28
 role-bit-requires : tie.Need-role-bit-requires Inv-loop μ-loop Inv-loop2 μ-loop2

@@ -8,12 +8,12 @@ use Rattle.matching.proofs.values.related.Tie as tie
 pub related-spec : {M : Type 1} → statement M
 related-spec = tie.close (tie.spec
     -- either-requires 21:9
-    (λ c κs. search needs)
+    (λ c κs. tt)
     -- returns 21:9
     (λ c. rw (c .before .if1 .taken) (c .either .ensures))
     -- either-requires-2 23:22
-    (λ c κs. search needs)
+    (λ c κs. tt)
     -- either-requires-3 23:5
-    (λ c κs. search needs)
+    (λ c κs. tt)
     -- returns-2 17:1
     (λ c. rw (c .before .before .if1 .left) (c .either3 .ensures ∙ ap (_||_ (eqb (c .before .before .before .args .a) 255)) (c .before .either2 .ensures))))

@@ -8,7 +8,7 @@ use Rattle.matching.proofs.values.waiting.Tie as tie
 pub waiting-spec : {M : Type 1} → statement M
 waiting-spec = tie.close (tie.spec
     -- wide-requires 47:9
-    (λ c κs. search needs)
+    (λ c κs. tt)
     -- returns 49:9
     (λ c. sym (take-most (c .before .before .args .queue .values) (c .before .before .args .queue .count) 9 (search needs) (omega (arith, c .if1 .taken, c .before .wide .ensures))))
     -- returns-2 44:1
