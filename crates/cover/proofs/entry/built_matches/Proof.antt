@@ -13,11 +13,11 @@ use Rattle.whole_file.proofs.entry.load_entry.Reads as load-entry-reads
 
 -- src/entry.rt:54:9
 load-entry-requires : tie.Need-load-entry-requires
-load-entry-requires c κs = search needs
+load-entry-requires c κs = tt
 
 -- src/entry.rt:57:9
 queues-match-requires : tie.Need-queues-match-requires
-queues-match-requires c κs = search needs
+queues-match-requires c κs = tt
 
 -- src/entry.rt:58:9
 returns : tie.Need-returns
@@ -25,14 +25,14 @@ returns c = λ Z. queues-differ (c .before .before .before .before .before .befo
 
 -- src/entry.rt:60:9
 tags-of-requires : tie.Need-tags-of-requires
-tags-of-requires c κs = search needs
+tags-of-requires c κs = tt
 
 tags-of-requires-2 : tie.Need-tags-of-requires-2
 tags-of-requires-2 c κs = tt
 
 -- src/entry.rt:62:5
 channel-matches-requires : tie.Need-channel-matches-requires
-channel-matches-requires c κs = search needs
+channel-matches-requires c κs = tt
 
 -- src/entry.rt:44:1
 returns-2 : tie.Need-returns-2

@@ -14,15 +14,15 @@ use Rattle.matching.proofs.states_match.Reads as states-match-reads
 
 -- src/entry.rt:77:9
 offset-at-requires : tie.Need-offset-at-requires
-offset-at-requires c κs = search needs
+offset-at-requires c κs = tt
 
 -- src/entry.rt:79:9
 states-at-requires : tie.Need-states-at-requires
-states-at-requires c κs = search needs
+states-at-requires c κs = tt
 
 -- src/entry.rt:81:9
 states-match-requires : tie.Need-states-match-requires
-states-match-requires c κs = search needs
+states-match-requires c κs = tt
 
 -- src/entry.rt:82:9
 returns : tie.Need-returns
@@ -30,7 +30,7 @@ returns c = λ A. states-differ (c .before .before .before .before .before .befo
 
 -- src/entry.rt:85:9
 compare-at-requires : tie.Need-compare-at-requires
-compare-at-requires c κs = search needs
+compare-at-requires c κs = tt
 
 -- src/entry.rt:87:9
 returns-2 : tie.Need-returns-2
@@ -38,7 +38,7 @@ returns-2 c = λ A. rest-decides (c .before .before .before .before .before .bef
 
 -- src/entry.rt:89:5
 built-matches-requires : tie.Need-built-matches-requires
-built-matches-requires c κs = search needs
+built-matches-requires c κs = tt
 
 -- src/entry.rt:66:1
 returns-3 : tie.Need-returns-3

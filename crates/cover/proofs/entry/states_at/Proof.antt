@@ -11,7 +11,7 @@ use Rattle.program_part.proofs.bytes.field.Reads as field-reads
 
 -- src/entry.rt:29:9
 cut-requires : tie.Need-cut-requires
-cut-requires c κs = search needs
+cut-requires c κs = tt
 
 -- src/entry.rt:30:22
 add-t5 : tie.Need-add-t5
@@ -51,19 +51,19 @@ returns c = search needs
 
 -- src/entry.rt:33:9
 field-requires : tie.Need-field-requires
-field-requires c κs = search needs
+field-requires c κs = tt
 
 -- src/entry.rt:34:9
 field-requires-2 : tie.Need-field-requires-2
-field-requires-2 c κs = search needs
+field-requires-2 c κs = tt
 
 -- src/entry.rt:35:9
 field-requires-3 : tie.Need-field-requires-3
-field-requires-3 c κs = search needs
+field-requires-3 c κs = tt
 
 -- src/entry.rt:36:9
 field-requires-4 : tie.Need-field-requires-4
-field-requires-4 c κs = search needs
+field-requires-4 c κs = tt
 
 -- src/entry.rt:25:1
 returns-2 : tie.Need-returns-2

@@ -19,27 +19,27 @@ abbrev μ-loop : tie.MeasureT-loop
 
 -- src/gaps.rt:98:22
 lowest-requires : tie.Need-lowest-requires Inv-loop μ-loop
-lowest-requires c κs = search needs
+lowest-requires c κs = tt
 
 -- src/gaps.rt:98:9
 wide-requires : tie.Need-wide-requires Inv-loop μ-loop
-wide-requires c κs = search needs
+wide-requires c κs = tt
 
 -- src/gaps.rt:99:21
 lowest-requires-2 : tie.Need-lowest-requires-2 Inv-loop μ-loop
-lowest-requires-2 c κs = search needs
+lowest-requires-2 c κs = tt
 
 -- src/gaps.rt:99:9
 wide-requires-2 : tie.Need-wide-requires-2 Inv-loop μ-loop
-wide-requires-2 c κs = search needs
+wide-requires-2 c κs = tt
 
 -- src/gaps.rt:101:9
 least-requires : tie.Need-least-requires Inv-loop μ-loop
-least-requires c κs = search needs
+least-requires c κs = tt
 
 -- src/gaps.rt:102:9
 least-requires-2 : tie.Need-least-requires-2 Inv-loop μ-loop
-least-requires-2 c κs = search needs
+least-requires-2 c κs = tt
 
 -- src/gaps.rt:103:5
 loop-holds : tie.Need-loop-holds Inv-loop μ-loop
@@ -111,7 +111,7 @@ array-read-tags-match-2 c = search needs
 
 -- src/gaps.rt:118:12
 tags-match-requires : tie.Need-tags-match-requires Inv-loop μ-loop
-tags-match-requires c κs = search needs
+tags-match-requires c κs = tt
 
 -- src/gaps.rt:119:48
 sub-message-gaps : tie.Need-sub-message-gaps Inv-loop μ-loop
@@ -119,7 +119,7 @@ sub-message-gaps c = search needs
 
 -- src/gaps.rt:119:17
 message-gaps-requires : tie.Need-message-gaps-requires Inv-loop μ-loop
-message-gaps-requires c κs = search needs
+message-gaps-requires c κs = tt
 
 -- src/gaps.rt:121:13
 sub-i : tie.Need-sub-i Inv-loop μ-loop

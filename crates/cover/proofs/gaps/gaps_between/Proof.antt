@@ -15,7 +15,7 @@ gaps-between-spec = tie.close (tie.spec
     Inv-loop
     μ-loop
     -- least-requires 115:9
-    (λ c κs. search needs)
+    (λ c κs. tt)
     -- loop-holds 123:5
     (λ c. omega arith)
     -- row-gaps-requires 124:13
@@ -27,6 +27,6 @@ gaps-between-spec = tie.close (tie.spec
     -- loop-again 123:5
     (λ c. omega (arith, c .before .loop-test .taken, c .before .before .before .before .before .least .ensures))
     -- channel-gaps-requires 127:5
-    (λ c κs. search needs)
+    (λ c κs. tt)
     -- returns 114:1
     (λ c. search needs))

@@ -17,9 +17,9 @@ queue-gaps-spec = tie.close (tie.spec
     Inv-loop
     μ-loop
     -- waiting-requires 80:9
-    (λ c κs. search needs)
+    (λ c κs. tt)
     -- waiting-requires-2 81:9
-    (λ c κs. search needs)
+    (λ c κs. tt)
     -- loop-holds 84:5
     (λ c. omega arith)
     -- returns 86:13
@@ -29,7 +29,7 @@ queue-gaps-spec = tie.close (tie.spec
     -- element-copy-out-y 89:17
     (λ c. omega (arith, waits (c .before .before .before .before .before .before .args .t3) (search needs), c .before .before .before .before .waiting2 .ensures, c .before .before .loop-test .taken))
     -- related-requires 90:13
-    (λ c κs. search needs)
+    (λ c κs. tt)
     -- add-j 91:13
     (λ c. omega (arith, c .before .before .before .before .before .loop-test .taken, waits (c .before .before .before .before .before .before .before .before .before .args .t3) (search needs), c .before .before .before .before .before .before .before .waiting2 .ensures))
     -- loop-less 84:5
@@ -37,7 +37,7 @@ queue-gaps-spec = tie.close (tie.spec
     -- loop-again 84:5
     (λ c. c .before .before .before .before .before .before .loop .inv)
     -- note-requires 93:13
-    (λ c κs. search needs)
+    (λ c κs. tt)
     -- add-i 95:9
     (λ c. omega (arith, waits (c .before .before .before .before .before .before .before .before .before .before .args .t2) (search needs), c .before .before .before .before .before .before .before .before .before .waiting .ensures, c .before .before .before .before .before .if1 .left))
     -- add-j-2 84:9

@@ -15,7 +15,7 @@ row-gaps-spec = tie.close (tie.spec
     Inv-loop
     μ-loop
     -- least-requires 103:9
-    (λ c κs. search needs)
+    (λ c κs. tt)
     -- loop-holds 105:5
     (λ c. omega arith)
     -- mul-q 106:17
@@ -31,7 +31,7 @@ row-gaps-spec = tie.close (tie.spec
     -- array-copy-out-queue-gaps-2 107:42
     (λ c. omega (arith, c .before .before .before .before .pre, c .before .loop-test .taken, c .before .before .before .least .ensures))
     -- queue-gaps-requires 107:13
-    (λ c κs. search needs)
+    (λ c κs. tt)
     -- add-v 105:9
     (λ c. omega (arith, c .before .before .before .loop-test .taken, c .before .before .before .before .before .least .ensures))
     -- loop-less 105:5

@@ -11,19 +11,19 @@ fillings-spec = tie.close (tie.spec
     -- enum-known-place 113:38
     (λ c. search needs)
     -- value-count-requires 113:74
-    (λ c κs. search needs)
+    (λ c κs. tt)
     -- wide-requires 113:69
-    (λ c κs. search needs)
+    (λ c κs. tt)
     -- least-requires 113:63
-    (λ c κs. search needs)
+    (λ c κs. tt)
     -- enum-known-place-2 114:35
     (λ c. search needs)
     -- value-count-requires-2 114:60
-    (λ c κs. search needs)
+    (λ c κs. tt)
     -- wide-requires-2 114:55
-    (λ c κs. search needs)
+    (λ c κs. tt)
     -- least-requires-2 114:49
-    (λ c κs. search needs)
+    (λ c κs. tt)
     -- returns 108:1
     (λ c. rw (c .enum-told .given .1))
     -- returns-2 108:1

@@ -22,9 +22,9 @@ first-free-spec = tie.close (tie.spec
     -- loop-holds 139:5
     (λ c. each-begin (λ k. isFree (c .args .shape) (c .args .cube) (placeAt k)) false 224)
     -- place-at-requires 140:13
-    (λ c κs. search needs)
+    (λ c κs. tt)
     -- is-free-requires 141:12
-    (λ c κs. search needs)
+    (λ c κs. tt)
     -- returns 142:13
     (λ c. (λ e. rw (c .before .before .place-at .ensures) (sym (rw (c .before .before .place-at .ensures) at (c .before .is-free .ensures)) ∙ c .if1 .taken), λ e. absurd (free-not-whole (c .before .before .before .before .before .args .shape) (c .before .before .before .before .before .args .cube) (c .before .before .place-at .result) (sym (c .before .is-free .ensures) ∙ c .if1 .taken) e)))
     -- add-k 139:9

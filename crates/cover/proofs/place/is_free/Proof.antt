@@ -9,11 +9,11 @@ is-free-spec = tie.close (tie.spec
     -- enum-known-place 102:26
     (λ c. search needs)
     -- waits-free-requires 102:57
-    (λ c κs. search needs)
+    (λ c κs. tt)
     -- enum-known-place-2 103:23
     (λ c. search needs)
     -- sent-free-requires 103:46
-    (λ c κs. search needs)
+    (λ c κs. tt)
     -- returns 97:1
     (λ c. rw (c .enum-told .given .1))
     -- returns-2 97:1

@@ -9,11 +9,11 @@ part-of-spec = tie.close (tie.spec
     -- enum-known-place 68:26
     (λ c. search needs)
     -- with-waiting-requires 68:57
-    (λ c κs. search needs)
+    (λ c κs. tt)
     -- enum-known-place-2 69:23
     (λ c. search needs)
     -- with-sent-requires 69:46
-    (λ c κs. search needs)
+    (λ c κs. tt)
     -- returns 63:1
     (λ c. rw (c .enum-told .given .1))
     -- returns-2 63:1

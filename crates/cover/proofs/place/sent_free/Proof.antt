@@ -14,11 +14,11 @@ pub sent-free-spec : {M : Type 1} → statement M
 unfolding sentFree
 sent-free-spec = tie.close (tie.spec
     -- least-requires 90:24
-    (λ c κs. search needs)
+    (λ c κs. tt)
     -- least-requires-2 90:58
-    (λ c κs. search needs)
+    (λ c κs. tt)
     -- both-requires 90:9
-    (λ c κs. search needs)
+    (λ c κs. tt)
     -- returns 91:9
     (λ c. rw (ap₂ (λ (m n : ℕ). ltb (c .before .before .before .before .args .message) m && ltb (c .before .before .before .before .args .variable) n) (sym (c .before .before .before .least .ensures)) (sym (c .before .before .least2 .ensures)) ∙ sym (c .before .both .ensures) ∙ not-true (c .before .both .result) (c .if1 .taken)) refl)
     -- mul-sent 93:16

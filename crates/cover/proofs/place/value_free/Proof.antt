@@ -11,7 +11,7 @@ pub value-free-spec : {M : Type 1} → statement M
 unfolding valueFree
 value-free-spec = tie.close (tie.spec
     -- waiting-requires 77:8
-    (λ c κs. search needs)
+    (λ c κs. tt)
     -- returns 78:9
     (λ c. rw (le-ltb _ _ (rw (c .before .waiting .ensures) at (c .if1 .taken))) refl)
     -- element-copy-out-result 80:5

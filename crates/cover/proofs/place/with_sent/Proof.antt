@@ -14,7 +14,7 @@ pub with-sent-spec : {M : Type 1} → statement M
 unfolding withSent
 with-sent-spec = tie.close (tie.spec
     -- both-requires 52:9
-    (λ c κs. search needs)
+    (λ c κs. tt)
     -- returns 53:9
     (λ c. rw (sym (c .before .both .ensures) ∙ not-true (c .before .both .result) (c .if1 .taken)))
     -- mul-changed 55:23

@@ -14,9 +14,9 @@ pub with-waiting-spec : {M : Type 1} → statement M
 unfolding withWaiting
 with-waiting-spec = tie.close (tie.spec
     -- both-requires 38:27
-    (λ c κs. search needs)
+    (λ c κs. tt)
     -- both-requires-2 38:9
-    (λ c κs. search needs)
+    (λ c κs. tt)
     -- returns 39:9
     (λ c. rw ((sym (c .before .both2 .ensures ∙ ap (_&&_ (ltb (c .before .before .before .args .process) 4)) (c .before .before .both .ensures))) ∙ not-true (c .before .both2 .result) (c .if1 .taken)))
     -- mul-q 41:13

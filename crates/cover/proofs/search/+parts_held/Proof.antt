@@ -84,7 +84,7 @@ parts-held-rooms-requires : (t : ℕ) → parts-held-lts.Need-rooms-requires (
     parts-held-μ-loop
     parts-held-Inv-fillings
     parts-held-μ-fillings
-parts-held-rooms-requires t c κs = search needs
+parts-held-rooms-requires t c κs = tt
 
 -- src/search.rt:112:9
 parts-held-fillings-requires : (t : ℕ) → parts-held-lts.Need-fillings-requires (
@@ -119,7 +119,7 @@ parts-held-fillings-requires : (t : ℕ) → parts-held-lts.Need-fillings-requir
     parts-held-μ-loop
     parts-held-Inv-fillings
     parts-held-μ-fillings
-parts-held-fillings-requires t c κs = search needs
+parts-held-fillings-requires t c κs = tt
 
 -- src/search.rt:113:5
 parts-held-fillings-holds : (t : ℕ) → parts-held-lts.Need-fillings-holds (
@@ -224,7 +224,7 @@ parts-held-part-of-requires : (t : ℕ) → parts-held-lts.Need-part-of-requires
     parts-held-μ-loop
     parts-held-Inv-fillings
     parts-held-μ-fillings
-parts-held-part-of-requires t c κs = search needs
+parts-held-part-of-requires t c κs = tt
 
 -- src/search.rt:115:13
 parts-held-tags-of-requires : (t : ℕ) → parts-held-lts.Need-tags-of-requires (
@@ -259,7 +259,7 @@ parts-held-tags-of-requires : (t : ℕ) → parts-held-lts.Need-tags-of-requires
     parts-held-μ-loop
     parts-held-Inv-fillings
     parts-held-μ-fillings
-parts-held-tags-of-requires t c κs = search needs
+parts-held-tags-of-requires t c κs = tt
 
 -- src/search.rt:116:13
 parts-held-number-of-requires : (t : ℕ) → parts-held-lts.Need-number-of-requires (
@@ -294,7 +294,7 @@ parts-held-number-of-requires : (t : ℕ) → parts-held-lts.Need-number-of-requ
     parts-held-μ-loop
     parts-held-Inv-fillings
     parts-held-μ-fillings
-parts-held-number-of-requires t c κs = search needs
+parts-held-number-of-requires t c κs = tt
 
 -- src/search.rt:116:13
 parts-held-cues-of-requires : (t : ℕ) → parts-held-lts.Need-cues-of-requires (
@@ -329,7 +329,7 @@ parts-held-cues-of-requires : (t : ℕ) → parts-held-lts.Need-cues-of-requires
     parts-held-μ-loop
     parts-held-Inv-fillings
     parts-held-μ-fillings
-parts-held-cues-of-requires t c κs = search needs
+parts-held-cues-of-requires t c κs = tt
 
 -- src/search.rt:118:13
 parts-held-walk-from-requires : (t : ℕ) → parts-held-lts.Need-walk-from-requires (
@@ -364,7 +364,7 @@ parts-held-walk-from-requires : (t : ℕ) → parts-held-lts.Need-walk-from-requ
     parts-held-μ-loop
     parts-held-Inv-fillings
     parts-held-μ-fillings
-parts-held-walk-from-requires t c κs = search needs
+parts-held-walk-from-requires t c κs = tt
 
 -- src/search.rt:119:9
 parts-held-loop-holds : (t : ℕ) → parts-held-lts.Need-loop-holds (
@@ -469,7 +469,7 @@ parts-held-matches-at-requires : (t : ℕ) → parts-held-lts.Need-matches-at-re
     parts-held-μ-loop
     parts-held-Inv-fillings
     parts-held-μ-fillings
-parts-held-matches-at-requires t c κs = search needs
+parts-held-matches-at-requires t c κs = tt
 
 -- src/search.rt:122:17
 parts-held-add-x : (t : ℕ) → parts-held-lts.Need-add-x (
@@ -609,7 +609,7 @@ parts-held-onward-requires : (t : ℕ) → parts-held-lts.Need-onward-requires (
     parts-held-μ-loop
     parts-held-Inv-fillings
     parts-held-μ-fillings
-parts-held-onward-requires t c κs = search needs
+parts-held-onward-requires t c κs = tt
 
 -- src/search.rt:119:9
 parts-held-loop-less : (t : ℕ) → parts-held-lts.Need-loop-less (
@@ -714,7 +714,7 @@ parts-held-place-for-requires : (t : ℕ) → parts-held-lts.Need-place-for-requ
     parts-held-μ-loop
     parts-held-Inv-fillings
     parts-held-μ-fillings
-parts-held-place-for-requires t c κs = search needs
+parts-held-place-for-requires t c κs = tt
 
 -- src/search.rt:139:12
 parts-held-is-whole-requires : (t : ℕ) → parts-held-lts.Need-is-whole-requires (
@@ -749,7 +749,7 @@ parts-held-is-whole-requires : (t : ℕ) → parts-held-lts.Need-is-whole-requir
     parts-held-μ-loop
     parts-held-Inv-fillings
     parts-held-μ-fillings
-parts-held-is-whole-requires t c κs = search needs
+parts-held-is-whole-requires t c κs = tt
 
 -- src/search.rt:140:13
 parts-held-returns : (t : ℕ) → parts-held-lts.Need-returns (

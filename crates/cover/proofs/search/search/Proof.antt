@@ -25,22 +25,22 @@ abbrev μ-loop : tie.MeasureT-loop
 
 -- src/search.rt:93:9
 rooms-requires : tie.Need-rooms-requires Inv-loop μ-loop
-rooms-requires c κs = search needs
+rooms-requires c κs = tt
 
 -- src/search.rt:94:17
 tags-of-requires : tie.Need-tags-of-requires Inv-loop μ-loop
-tags-of-requires c κs = search needs
+tags-of-requires c κs = tt
 
 -- src/search.rt:95:9
 number-of-requires : tie.Need-number-of-requires Inv-loop μ-loop
-number-of-requires c κs = search needs
+number-of-requires c κs = tt
 
 -- src/search.rt:97:9
 cues-of-requires : tie.Need-cues-of-requires Inv-loop μ-loop
 cues-of-requires c κs = tt
 
 walk-from-requires : tie.Need-walk-from-requires Inv-loop μ-loop
-walk-from-requires c κs = search needs
+walk-from-requires c κs = tt
 
 -- src/search.rt:98:5
 loop-holds : tie.Need-loop-holds Inv-loop μ-loop
@@ -52,7 +52,7 @@ sub-i c = search needs
 
 -- src/search.rt:100:12
 matches-at-requires : tie.Need-matches-at-requires Inv-loop μ-loop
-matches-at-requires c κs = search needs
+matches-at-requires c κs = tt
 
 -- src/search.rt:101:13
 returns : tie.Need-returns Inv-loop μ-loop
@@ -60,7 +60,7 @@ returns c = ((λ Z e. cube-covered (c .before .before .before .before .before .b
 
 -- src/search.rt:103:13
 onward-requires : tie.Need-onward-requires Inv-loop μ-loop
-onward-requires c κs = search needs
+onward-requires c κs = tt
 
 -- src/search.rt:98:5
 loop-less : tie.Need-loop-less Inv-loop μ-loop
@@ -72,11 +72,11 @@ loop-again c = scanning-next (c .before .before .before .before .before .before 
 
 -- src/search.rt:117:9
 place-for-requires : tie.Need-place-for-requires Inv-loop μ-loop
-place-for-requires c κs = search needs
+place-for-requires c κs = tt
 
 -- src/search.rt:118:8
 is-whole-requires : tie.Need-is-whole-requires Inv-loop μ-loop
-is-whole-requires c κs = search needs
+is-whole-requires c κs = tt
 
 -- src/search.rt:119:9
 returns-2 : tie.Need-returns-2 Inv-loop μ-loop

@@ -22,7 +22,7 @@ abbrev μ-loop : tie.MeasureT-loop
 
 -- src/split.rt:107:9
 walk-from-requires : tie.Need-walk-from-requires Inv-loop μ-loop
-walk-from-requires c κs = search needs
+walk-from-requires c κs = tt
 
 -- src/split.rt:108:5
 loop-holds : tie.Need-loop-holds Inv-loop μ-loop
@@ -34,18 +34,18 @@ sub-i c = search needs
 
 -- src/split.rt:110:13
 with-entry-requires : tie.Need-with-entry-requires Inv-loop μ-loop
-with-entry-requires c κs = search needs
+with-entry-requires c κs = tt
 
 -- src/split.rt
 both-requires : tie.Need-both-requires Inv-loop μ-loop
-both-requires c κs = search needs
+both-requires c κs = tt
 
 returns : tie.Need-returns Inv-loop μ-loop
 returns c = (c .before .before .before .with-entry .ensures .kept (c .before .before .before .before .before .before .before .loop .inv .proper), λ e. absurd (true-not-false (sym (and-true (c .before .before .before .with-entry .result .met) (leb (c .before .before .before .with-entry .result .count) 1) (sym (c .before .both .ensures) ∙ c .if2 .taken) .0) ∙ e)))
 
 -- src/split.rt:112:13
 onward-requires : tie.Need-onward-requires Inv-loop μ-loop
-onward-requires c κs = search needs
+onward-requires c κs = tt
 
 -- src/split.rt:108:5
 loop-less : tie.Need-loop-less Inv-loop μ-loop

@@ -10,18 +10,18 @@ use Rattle.matching.proofs.tags_of.Reads as tags-of-reads
 
 -- src/split.rt:63:9
 entry-at-requires : tie.Need-entry-at-requires
-entry-at-requires c κs = search needs
+entry-at-requires c κs = tt
 
 -- src/split.rt:64:9
 tags-of-requires : tie.Need-tags-of-requires
-tags-of-requires c κs = search needs
+tags-of-requires c κs = tt
 
 tags-of-requires-2 : tie.Need-tags-of-requires-2
 tags-of-requires-2 c κs = tt
 
 -- src/split.rt:65:5
 gaps-between-requires : tie.Need-gaps-between-requires
-gaps-between-requires c κs = search needs
+gaps-between-requires c κs = tt
 
 -- src/split.rt:62:1
 returns : tie.Need-returns

@@ -15,10 +15,10 @@ use Rattle.cover.proofs.split.best_split.Reads as best-split-reads
 
 -- src/split.rt:143:9
 widened-requires : tie.Need-widened-requires
-widened-requires c κs = search needs
+widened-requires c κs = tt
 
 best-split-requires : tie.Need-best-split-requires
-best-split-requires c κs = search needs
+best-split-requires c κs = tt
 
 -- src/split.rt:146:9
 returns : tie.Need-returns
@@ -26,7 +26,7 @@ returns c = (refl, λ w. inl (subst (Unmet (c .before .before .before .before .b
 
 -- src/split.rt:148:9
 is-whole-requires : tie.Need-is-whole-requires
-is-whole-requires c κs = search needs
+is-whole-requires c κs = tt
 
 -- src/split.rt:149:9
 returns-2 : tie.Need-returns-2
@@ -34,7 +34,7 @@ returns-2 c = (c .before .before .before .before .best-split .ensures .0, λ w. 
 
 -- src/split.rt:151:5
 first-free-requires : tie.Need-first-free-requires
-first-free-requires c κs = search needs
+first-free-requires c κs = tt
 
 -- src/split.rt:130:1
 returns-3 : tie.Need-returns-3

@@ -13,7 +13,7 @@ use Rattle.cover.proofs.split.with_gaps.Reads as with-gaps-reads
 
 -- src/split.rt:80:9
 matches-at-requires : tie.Need-matches-at-requires
-matches-at-requires c κs = search needs
+matches-at-requires c κs = tt
 
 -- src/split.rt:81:9
 returns : tie.Need-returns
@@ -21,11 +21,11 @@ returns c = record { before = λ e. e; unmet = λ e A. sym (c .before .matches-a
 
 -- src/split.rt:83:9
 gaps-at-requires : tie.Need-gaps-at-requires
-gaps-at-requires c κs = search needs
+gaps-at-requires c κs = tt
 
 -- src/split.rt:84:5
 with-gaps-requires : tie.Need-with-gaps-requires
-with-gaps-requires c κs = search needs
+with-gaps-requires c κs = tt
 
 -- src/split.rt:69:1
 returns-2 : tie.Need-returns-2

@@ -10,7 +10,7 @@ with-gaps-spec = tie.close (tie.spec
     -- returns 99:9
     (λ c. (refl, λ e. e))
     -- is-free-requires 105:9
-    (λ c κs. search needs)
+    (λ c κs. tt)
     -- returns-2 106:9
     (λ c. (refl, λ e. e))
     -- returns-3 93:1

@@ -11,11 +11,11 @@ use Rattle.summary.proofs.slots.mark_of.Reads as mark-of-reads
 
 -- src/adding.rt:94:15
 home-of-requires : tie.Need-home-of-requires
-home-of-requires c κs = search needs
+home-of-requires c κs = tt
 
 -- src/adding.rt:94:38
 mark-of-requires : tie.Need-mark-of-requires
-mark-of-requires c κs = search needs
+mark-of-requires c κs = tt
 
 -- src/adding.rt:94:5
 hang-requires : tie.Need-hang-requires
@@ -23,7 +23,7 @@ hang-requires c κs = (omega arith, c .mark-of .ensures .1)
 
 -- src/adding.rt:95:5
 put-field-requires : tie.Need-put-field-requires
-put-field-requires c κs = search needs
+put-field-requires c κs = tt
 
 -- src/adding.rt:90:1
 same-length : tie.Need-same-length

@@ -14,7 +14,7 @@ use Rattle.summary.proofs.slots.signature_in.Reads as signature-in-read
 
 -- src/adding.rt:97:9
 count-at-requires : tie.Need-count-at-requires
-count-at-requires c κs = search needs
+count-at-requires c κs = tt
 
 -- src/adding.rt:98:23
 add-put-field : tie.Need-add-put-field
@@ -22,15 +22,15 @@ add-put-field c = search needs
 
 -- src/adding.rt:98:5
 put-field-requires : tie.Need-put-field-requires
-put-field-requires c κs = search needs
+put-field-requires c κs = tt
 
 -- src/adding.rt:99:15
 home-of-requires : tie.Need-home-of-requires
-home-of-requires c κs = search needs
+home-of-requires c κs = tt
 
 -- src/adding.rt:99:38
 mark-of-requires : tie.Need-mark-of-requires
-mark-of-requires c κs = search needs
+mark-of-requires c κs = tt
 
 -- src/adding.rt:99:5
 hang-requires : tie.Need-hang-requires
@@ -38,7 +38,7 @@ hang-requires c κs = search needs
 
 -- src/adding.rt:100:32
 signature-in-requires : tie.Need-signature-in-requires
-signature-in-requires c κs = search needs
+signature-in-requires c κs = tt
 
 -- src/adding.rt:100:23
 add-put-field-2 : tie.Need-add-put-field-2
@@ -46,7 +46,7 @@ add-put-field-2 c = search needs
 
 -- src/adding.rt:100:5
 put-field-requires-2 : tie.Need-put-field-requires-2
-put-field-requires-2 c κs = search needs
+put-field-requires-2 c κs = tt
 
 -- src/adding.rt:93:1
 same-length : tie.Need-same-length

@@ -19,11 +19,11 @@ abbrev μ-loop : tie.MeasureT-loop
 
 -- src/adding.rt:71:39
 states-number-requires : tie.Need-states-number-requires Inv-loop μ-loop
-states-number-requires c κs = search needs
+states-number-requires c κs = tt
 
 -- src/adding.rt:71:9
 first-link-requires : tie.Need-first-link-requires Inv-loop μ-loop
-first-link-requires c κs = search needs
+first-link-requires c κs = tt
 
 -- src/adding.rt:72:5
 loop-holds : tie.Need-loop-holds Inv-loop μ-loop
@@ -31,7 +31,7 @@ loop-holds c = walking-begin (c .before .before .before .before .before .args .f
 
 -- src/adding.rt:73:13
 linked-requires : tie.Need-linked-requires Inv-loop μ-loop
-linked-requires c κs = search needs
+linked-requires c κs = tt
 
 -- src/adding.rt:75:13
 returns : tie.Need-returns Inv-loop μ-loop
@@ -47,7 +47,7 @@ sub-j c = search needs
 
 -- src/adding.rt:81:12
 leads-at-requires : tie.Need-leads-at-requires Inv-loop μ-loop
-leads-at-requires c κs = search needs
+leads-at-requires c κs = tt
 
 -- src/adding.rt:82:13
 returns-3 : tie.Need-returns-3 Inv-loop μ-loop
@@ -55,7 +55,7 @@ returns-3 c = (walking-found (c .before .before .before .before .before .before 
 
 -- src/adding.rt:85:9
 next-link-requires : tie.Need-next-link-requires Inv-loop μ-loop
-next-link-requires c κs = search needs
+next-link-requires c κs = tt
 
 -- src/adding.rt:72:5
 loop-less : tie.Need-loop-less Inv-loop μ-loop

@@ -18,7 +18,7 @@ use Rattle.summary.proofs.slots.count_at.Reads as count-at-reads
 
 -- src/adding.rt:51:8
 count-at-requires : tie.Need-count-at-requires
-count-at-requires c κs = search needs
+count-at-requires c κs = tt
 
 -- src/adding.rt:52:9
 returns : tie.Need-returns
@@ -26,11 +26,11 @@ returns c = leads-no _ _ (sym (c .before .count-at .ensures .0) ∙ c .if1 .take
 
 -- src/adding.rt:54:9
 states-at-requires : tie.Need-states-at-requires
-states-at-requires c κs = search needs
+states-at-requires c κs = tt
 
 -- src/adding.rt:55:5
 states-match-requires : tie.Need-states-match-requires
-states-match-requires c κs = search needs
+states-match-requires c κs = tt
 
 -- src/adding.rt:41:1
 returns-2 : tie.Need-returns-2

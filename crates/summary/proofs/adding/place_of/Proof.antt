@@ -19,7 +19,7 @@ slice-aggregate-entry-at c = sym (length-take-le _ _ (c .before .before .before 
 
 -- src/adding.rt:118:9
 entry-at-requires : tie.Need-entry-at-requires
-entry-at-requires c κs = search needs
+entry-at-requires c κs = tt
 
 -- src/adding.rt:120:34
 slice-aggregate-leader-of : tie.Need-slice-aggregate-leader-of
@@ -39,11 +39,11 @@ part-leader-of-end c = search needs
 
 -- src/adding.rt:120:9
 leader-of-requires : tie.Need-leader-of-requires
-leader-of-requires c κs = search needs
+leader-of-requires c κs = tt
 
 -- src/adding.rt:124:21
 states-number-requires : tie.Need-states-number-requires
-states-number-requires c κs = search needs
+states-number-requires c κs = tt
 
 -- src/adding.rt:122:9
 returns : tie.Need-returns
@@ -51,11 +51,11 @@ returns c = place-first (c .before .before .before .before .before .before .befo
 
 -- src/adding.rt:127:9
 tags-of-requires : tie.Need-tags-of-requires
-tags-of-requires c κs = search needs
+tags-of-requires c κs = tt
 
 -- src/adding.rt:130:17
 number-of-requires : tie.Need-number-of-requires
-number-of-requires c κs = search needs
+number-of-requires c κs = tt
 
 -- src/adding.rt:114:1
 returns-2 : tie.Need-returns-2

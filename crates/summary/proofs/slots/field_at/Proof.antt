@@ -8,9 +8,9 @@ pub field-at-spec : {M : Type 1} → statement M
 unfolding fieldAt
 field-at-spec = tie.close (tie.spec
     -- low-word-requires
-    (λ c κs. search needs)
+    (λ c κs. tt)
     -- high-word-requires
-    (λ c κs. search needs)
+    (λ c κs. tt)
     -- add-result
     (λ c. search needs)
     -- returns

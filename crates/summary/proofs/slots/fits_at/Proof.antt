@@ -9,7 +9,7 @@ use Rattle.summary.proofs.slots.field_at.Reads as field-at-reads
 
 -- src/slots.rt:170:5
 field-at-requires : tie.Need-field-at-requires
-field-at-requires c κs = search needs
+field-at-requires c κs = tt
 
 -- src/slots.rt:167:1
 returns : tie.Need-returns

@@ -10,25 +10,25 @@ four-bytes-spec = tie.close (tie.spec
     -- shared-slice-read-digit
     (λ c. search needs)
     -- digit-requires
-    (λ c κs. search needs)
+    (λ c κs. tt)
     -- add-digit
     (λ c. search needs)
     -- shared-slice-read-digit-2
     (λ c. search needs)
     -- digit-requires-2
-    (λ c κs. search needs)
+    (λ c κs. tt)
     -- add-digit-2
     (λ c. search needs)
     -- shared-slice-read-digit-3
     (λ c. search needs)
     -- digit-requires-3
-    (λ c κs. search needs)
+    (λ c κs. tt)
     -- add-digit-3
     (λ c. search needs)
     -- shared-slice-read-digit-4
     (λ c. search needs)
     -- digit-requires-4
-    (λ c κs. search needs)
+    (λ c κs. tt)
     -- add-result
     (λ c. search needs)
     -- add-result-2

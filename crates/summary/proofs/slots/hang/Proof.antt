@@ -6,21 +6,21 @@ use Rattle.summary.proofs.slots.hang.Tie as tie
 pub hang-spec : {M : Type 1} → statement M
 hang-spec = tie.close (tie.spec
     -- head-link-requires
-    (λ c κs. search needs)
+    (λ c κs. tt)
     -- low-word-requires
-    (λ c κs. search needs)
+    (λ c κs. tt)
     -- link-to-requires
     (λ c κs. search needs)
     -- with-link-requires
     (λ c κs. c .link-to .ensures .1)
     -- put-low-requires
-    (λ c κs. search needs)
+    (λ c κs. tt)
     -- high-word-requires
-    (λ c κs. search needs)
+    (λ c κs. tt)
     -- with-link-requires-2
     (λ c κs. c .before .before .before .before .before .before .before .before .before .before .before .head-link .ensures .1)
     -- put-high-requires
-    (λ c κs. search needs)
+    (λ c κs. tt)
     -- same-length
     (λ c. search needs)
     -- returns

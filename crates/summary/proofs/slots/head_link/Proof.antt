@@ -8,6 +8,6 @@ pub head-link-spec : {M : Type 1} → statement M
 unfolding headLink
 head-link-spec = tie.close (tie.spec
     -- low-word-requires
-    (λ c κs. search needs)
+    (λ c κs. tt)
     -- returns
     (λ c. (omega (arith, c .low-word .ensures .0), omega arith)))

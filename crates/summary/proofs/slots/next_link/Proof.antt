@@ -8,6 +8,6 @@ pub next-link-spec : {M : Type 1} → statement M
 unfolding nextLink
 next-link-spec = tie.close (tie.spec
     -- high-word-requires
-    (λ c κs. search needs)
+    (λ c κs. tt)
     -- returns
     (λ c. omega (arith, c .high-word .ensures .0)))

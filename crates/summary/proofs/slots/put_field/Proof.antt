@@ -6,17 +6,17 @@ use Rattle.summary.proofs.slots.put_field.Tie as tie
 pub put-field-spec : {M : Type 1} → statement M
 put-field-spec = tie.close (tie.spec
     -- low-word-requires
-    (λ c κs. search needs)
+    (λ c κs. tt)
     -- with-digit-requires
     (λ c κs. search needs)
     -- put-low-requires
-    (λ c κs. search needs)
+    (λ c κs. tt)
     -- high-word-requires
-    (λ c κs. search needs)
+    (λ c κs. tt)
     -- with-digit-requires-2
     (λ c κs. search needs)
     -- put-high-requires
-    (λ c κs. search needs)
+    (λ c κs. tt)
     -- same-length
     (λ c. search needs)
     -- returns

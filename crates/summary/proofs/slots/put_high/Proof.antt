@@ -12,11 +12,11 @@ put-high-spec = tie.close (tie.spec
     -- returns
     (λ c. sym (put-far (c .before .before .args .sum .now) (2 * c .before .before .args .k + 1) (c .before .before .args .x) (omega (arith, c .if1 .taken))))
     -- slot-word-requires
-    (λ c κs. search needs)
+    (λ c κs. tt)
     -- add-put-word
     (λ c. omega (arith, c .slot-word .ensures))
     -- put-word-requires
-    (λ c κs. search needs)
+    (λ c κs. tt)
     -- same-length
     (λ c. search needs)
     -- returns-2

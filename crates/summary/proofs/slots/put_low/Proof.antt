@@ -12,9 +12,9 @@ put-low-spec = tie.close (tie.spec
     -- returns
     (λ c. sym (put-far (c .before .before .args .sum .now) (2 * c .before .before .args .k) (c .before .before .args .x) (omega (arith, c .if1 .taken))))
     -- slot-word-requires
-    (λ c κs. search needs)
+    (λ c κs. tt)
     -- put-word-requires
-    (λ c κs. search needs)
+    (λ c κs. tt)
     -- same-length
     (λ c. search needs)
     -- returns-2

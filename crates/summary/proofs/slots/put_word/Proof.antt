@@ -10,9 +10,9 @@ put-word-spec = tie.close (tie.spec
     -- returns
     (λ c. sym (put-far (c .before .before .args .sum .now) (c .before .before .args .i) (c .before .before .args .x) (c .if1 .taken)))
     -- word-place-requires
-    (λ c κs. search needs)
+    (λ c κs. tt)
     -- store-number-requires
-    (λ c κs. search needs)
+    (λ c κs. tt)
     -- same-length
     (λ c. search needs)
     -- returns-2

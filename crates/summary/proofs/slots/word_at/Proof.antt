@@ -10,7 +10,7 @@ word-at-spec = tie.close (tie.spec
     -- returns
     (λ c. (sym (word-far (c .before .before .args .sum .now) (c .before .before .args .i) (c .if1 .taken)), omega arith))
     -- word-place-requires
-    (λ c κs. search needs)
+    (λ c κs. tt)
     -- four-bytes-requires
     (λ c κs. omega (arith, c .word-place .ensures))
     -- returns-2

@@ -25,15 +25,15 @@ abbrev μ-loop : tie.MeasureT-loop
 
 -- src/walking.rt:68:9
 mark-of-requires : tie.Need-mark-of-requires Inv-loop μ-loop
-mark-of-requires c κs = search needs
+mark-of-requires c κs = tt
 
 -- signature-in
 signature-in-requires : tie.Need-signature-in-requires Inv-loop μ-loop
-signature-in-requires c κs = search needs
+signature-in-requires c κs = tt
 
 -- least
 least-requires : tie.Need-least-requires Inv-loop μ-loop
-least-requires c κs = search needs
+least-requires c κs = tt
 
 -- src/walking.rt:71:5
 loop-holds : tie.Need-loop-holds Inv-loop μ-loop
@@ -41,7 +41,7 @@ loop-holds c = rw (c .least .ensures) (passing-begin (c .before .before .before 
 
 -- src/walking.rt:72:13
 linked-requires : tie.Need-linked-requires Inv-loop μ-loop
-linked-requires c κs = search needs
+linked-requires c κs = tt
 
 -- src/walking.rt:79:17
 sub-j : tie.Need-sub-j Inv-loop μ-loop
@@ -49,17 +49,17 @@ sub-j c = search needs
 
 -- src/walking.rt:80:13
 next-link-requires : tie.Need-next-link-requires Inv-loop μ-loop
-next-link-requires c κs = search needs
+next-link-requires c κs = tt
 
 -- src/walking.rt:81:12
 marked-requires : tie.Need-marked-requires Inv-loop μ-loop
-marked-requires c κs = search needs
+marked-requires c κs = tt
 
 fits-at-requires : tie.Need-fits-at-requires Inv-loop μ-loop
-fits-at-requires c κs = search needs
+fits-at-requires c κs = tt
 
 both-requires : tie.Need-both-requires Inv-loop μ-loop
-both-requires c κs = search needs
+both-requires c κs = tt
 
 -- src/walking.rt:82:13
 returns : tie.Need-returns Inv-loop μ-loop
@@ -75,7 +75,7 @@ loop-again c = passing-on (c .before .before .before .before .before .before .be
 
 -- src/walking.rt:92:5
 to-leader-requires : tie.Need-to-leader-requires Inv-loop μ-loop
-to-leader-requires c κs = search needs
+to-leader-requires c κs = tt
 
 -- src/walking.rt:53:1
 returns-2 : tie.Need-returns-2 Inv-loop μ-loop

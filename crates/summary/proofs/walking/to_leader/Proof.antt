@@ -15,7 +15,7 @@ returns c = record { bounded = refl; stops = refl; passed = refl; exists = omega
 
 -- src/walking.rt:45:16
 leader-of-requires : tie.Need-leader-of-requires
-leader-of-requires c κs = search needs
+leader-of-requires c κs = tt
 
 -- src/walking.rt:25:1
 returns-2 : tie.Need-returns-2
