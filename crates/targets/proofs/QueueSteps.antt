@@ -1,9 +1,12 @@
 -- The steps of the walk over queues.
 use Prim.Native.Nat.{ℕ, _+_, _<_, _≤_}
-use mathlib.Core.Path.{_≡_, sym, subst}
-use mathlib.Core.Bool.{Bool, true, false}
+use mathlib.Core.Path.{_≡_, sym, subst, _∙_}
+use mathlib.Core.Bool.{Bool, true, false, _&&_}
 use mathlib.Core.List.{List}
 use native.Mathlib.Omega.{arith}
+use lib.Dec.{leb}
+use borrow.Author.Tests.{leb-true}
+use Rattle.program_part.proofs.ProgramLaws.{and-true}
 use Rattle.pws.specs.declared.Message.{Message}
 use Rattle.program_part.specs.declared.program.Shape.{Shape}
 use Rattle.whole_file.specs.declared.entry.Cube.{Cube}
@@ -17,6 +20,12 @@ use Rattle.targets.specs.Walk.{Judges, queueCubes, targetLeaf}
 use Rattle.targets.specs.Depth.{SmallShape, AtQueue}
 use Rattle.targets.proofs.JudgeLaws.{judges-same, judges-one, judges-both, judges-first, judges-is}
 use Rattle.targets.proofs.QueueWalk.{cubes-branch, cubes-row, cubes-end, cubes-all, roomy-waiting}
+
+-- the test of the code: no queue comes after this one
+pub last-queue : (s : Shape) (p v : ℕ) {r : Bool} → r ≡ (leb (s .variables) (v + 1) && leb (s .processes) (p + 1)) → r ≡ true → (s .variables ≤ v + 1) × (s .processes ≤ p + 1)
+last-queue s p v e f =
+    let w = and-true (leb (s .variables) (v + 1)) (leb (s .processes) (p + 1)) (sym e ∙ f) in
+    (leb-true (s .variables) (v + 1) (w .0), leb-true (s .processes) (p + 1) (w .1))
 
 module _ {s : Shape} {c : Cube} {p v : ℕ} (w : AtQueue s c p v) where
   pub next-queue : v < s .variables → AtQueue s c p (v + 1)

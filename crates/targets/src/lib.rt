@@ -218,6 +218,14 @@ fn queues_held(
     let variables = shape.variables;
     let processes = shape.processes;
     if v < variables {
+        // the last queue: both cubes are looked for at once
+        if both(variables <= v + 1, processes <= p + 1) {
+            let without = search(file, list, sum, n, shape, cube);
+            if !without {
+                return without;
+            }
+            return search(file, list, sum, n, shape, with_waiting(cube, p, v));
+        }
         let empty = queues_held(file, list, sum, n, shape, cube, p, v + 1);
         if !empty {
             return empty;
