@@ -321,13 +321,17 @@ signing-end s c {ts} {low} {i} {b} {r} {bits} p q u W e = W .rest ∙ (λ k. sig
 
 -- ---- a match
 
+-- a value of an entry has no bit, or is the cube's and has its bit
+fill-contained : (g : ℕ → ℕ) (a b : ℕ) → T (fills a b) → Contained (cond (eqb a 255) 0 (g a)) (cond (eqb b 255) 0 (g b))
+fill-contained g a b t = at (eqb a 255) refl t
+  where
+    at : (x : Bool) → eqb a 255 ≡ x → T (x || eqb a b) → Contained (cond (eqb a 255) 0 (g a)) (cond (eqb b 255) 0 (g b))
+    at true e t = rw e (contained-none (cond (eqb b 255) 0 (g b)))
+    at false e t = contained-same (ap (λ (y : ℕ). cond (eqb y 255) 0 (g y)) (eqb→eq a b t))
+
 value-contained : (base a b : ℕ) → T (fills a b) → Contained (valueBit base a) (valueBit base b)
 unfolding valueBit
-value-contained base a b t = at (eqb a 255) refl t
-  where
-    at : (x : Bool) → eqb a 255 ≡ x → T (x || eqb a b) → Contained (cond (eqb a 255) 0 (bitAt (base + a))) (cond (eqb b 255) 0 (bitAt (base + b)))
-    at true e t = rw e (contained-none (cond (eqb b 255) 0 (bitAt (base + b))))
-    at false e t = contained-same (ap (λ (y : ℕ). cond (eqb y 255) 0 (bitAt (base + y))) (eqb→eq a b t))
+value-contained base a b t = fill-contained (λ y. bitAt (base + y)) a b t
 
 related-at : (xs ys : List ℕ) → Pointwise (Related fills) xs ys → (v : ℕ) → T (fills (getD xs v 0) (getD ys v 0))
 related-at [] [] none-left v = tt
@@ -376,11 +380,7 @@ waits-contained xs ys q = contained-both (last (newestWaiting xs) (newestWaiting
     last none none t = contained-none 0
     last none (some b) t = absurd t
     last (some a) none t = absurd t
-    last (some a) (some b) t = at (eqb a 255) refl t
-      where
-        at : (x : Bool) → eqb a 255 ≡ x → T (x || eqb a b) → Contained (cond (eqb a 255) 0 65536) (cond (eqb b 255) 0 65536)
-        at true e t = rw e (contained-none (cond (eqb b 255) 0 65536))
-        at false e t = contained-same (ap (λ (y : ℕ). cond (eqb y 255) 0 65536) (eqb→eq a b t))
+    last (some a) (some b) t = fill-contained (λ y. 65536) a b t
 
     long : (x : Bool) → ltb (length xs) 2 ≡ x → Contained (cond (ltb (length xs) 2) 0 131072) (cond (ltb (length ys) 2) 0 131072)
     long true e = rw e (contained-none (cond (ltb (length ys) 2) 0 131072))
