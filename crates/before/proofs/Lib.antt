@@ -3,3 +3,4 @@ pub mod MessageLaws
 pub mod QueueLaws
 pub mod NewestLaws
 pub mod CubeLaws
+pub mod UpdateLaws

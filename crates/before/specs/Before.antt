@@ -8,8 +8,8 @@ use lib.Dec.{ltb}
 use Rattle.pws.specs.declared.Message.{Message}
 use Rattle.pws.specs.declared.Operation.{Operation}
 use Rattle.pws.specs.Program as pws
-use Rattle.pws.specs.Machine.{Memory, Configuration, lastWrite, put, putQueue}
-use Rattle.lists.specs.Cubes.{topmost}
+use Rattle.pws.specs.Machine.{Memory, Configuration, message, lastWrite, put, putQueue}
+use Rattle.lists.specs.Cubes.{topmost, anyMessage}
 use Rattle.lists.specs.Predecessors as lists
 use Rattle.program_part.specs.declared.program.Shape.{Shape}
 use Rattle.whole_file.specs.declared.entry.Queue.{Queue}
@@ -60,6 +60,13 @@ LastWrites ws m = (p v : ℕ) → p < 4 → v < 4 → getD ws (4 * p + v) 0 ≡ 
 pub record WritePlace (m : Message) (r : ℕ) : Type 0 where
   pub label : r < 16 → (m .process < 4) × (m .variable < 4) × (r ≡ 4 * m .process + m .variable)
   pub none : 16 ≤ r → ltb (m .process) 4 && ltb (m .variable) 4 ≡ false
+
+-- The message that p points at has this label and free values, no other process points at it, and the LastWrite of the label is past it: with one more
+-- such message before it, at which p points, nothing is said that the memory does not say.
+pub record Repeats (S : pws.Shape) (m : Memory) (p r u : ℕ) : Type 0 where
+  pub message : message (m .channel) (m .pointer p) ≡ anyMessage S r u
+  pub alone : (q : ℕ) → q < S .processes → (q ≡ p → ⊥) → m .pointer q ≡ m .pointer p → ⊥
+  pub past : m .pointer p < lastWrite m r u
 
 -- ---- parts of a cube
 

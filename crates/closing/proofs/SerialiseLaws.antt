@@ -4,12 +4,12 @@ use mathlib.Core.Path.{_≡_, refl, sym, ap, ap₂, subst, _∙_}
 use mathlib.Core.Bool.{Bool, true, false, cond, _&&_, not}
 use mathlib.Core.List.{List}
 use native.Mathlib.Omega.{arith}
-use lib.ListN.{length}
+use lib.ListN.{length, getD}
 use lib.Dec.{T, eqb, leb, ltb}
 use borrow.Author.Tests.{lt-ltb, le-ltb, le-leb, ltb-true, leb-true, eqb-true, eq-eqb}
 use Rattle.pws.specs.declared.Message.{Message}
 use Rattle.pws.specs.declared.Step.the-variants.{Serialise}
-use Rattle.pws.specs.Machine.{allBelow, atNewest, labelled, lastWrite}
+use Rattle.pws.specs.Machine.{allBelow, atNewest, labelled, lastWrite, isEmpty}
 use Rattle.pws.specs.Entries.{FF}
 use Rattle.pws.proofs.Cases.{all-yes}
 use Rattle.lists.specs.Cubes.{topmost, older, alikeNewest}
@@ -28,6 +28,7 @@ use Rattle.before.proofs.NewestLaws.{older-length}
 use Rattle.cover.specs.Search.{Searchable}
 use Rattle.closing.specs.Walk.{stepHeld, LowestFailing, Walkable, Serialising}
 use Rattle.closing.proofs.WalkLaws.{lowest-at}
+use Rattle.closing.proofs.OwnLaws.{top-above, own-held}
 use Rattle.closing.proofs.StepLaws.{truth, is-yes, not-both, decided, cond-same, step-true, step-false, searched}
 
 module _ (g f list sum : List ℕ) (n : ℕ) (s : Program) (c : Cube) where
@@ -149,6 +150,13 @@ module _ (g f list sum : List ℕ) (n : ℕ) (s : Program) (c : Cube) where
 
     pub top-there : serialiseKind (configurationOf c .memory) p v (onTop v) ≡ true
     top-there = eq-eqb v v refl
+
+    -- the entry itself is below
+    pub own-top : getD (topmost (configurationOf c .memory .channel) .snapshot) v 0 ≡ FF → isEmpty (configurationOf c .queue p v) ≡ false → true ≡ heldSerialise (onTop v)
+    own-top free waits =
+        let W = Z .walkable in
+        sym (own-held g f list sum n s c W (Serialise p v) (onTop v) (serialise-has (onTop v) top-there)
+        (top-above (shapeOf (s .shape)) (W .stepping .program .shape) (configurationOf c) (W .own .fits) p v (Z .process) (Z .variable) (is-yes (serialised-parts p v (Z .made) .0)) free waits))
 
     serialise-true : ((k : lists.Kind) → serialiseKind (configurationOf c .memory) p v k ≡ true → heldSerialise k ≡ true) → stepOf p v ≡ true
     serialise-true d = step-true (programOf g s) (entriesOf f list n) (configurationOf c) (Serialise p v) (λ k h. d k (has-parts p v k h .2))

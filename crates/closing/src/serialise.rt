@@ -7,12 +7,12 @@ ghost use Rattle.pws.specs.declared.Step.the-variants.{Serialise};
 ghost use lib.Dec.{ltb};
 ghost use Rattle.pws.specs.Machine.{allBelow, labelled, lastWrite};
 ghost use Rattle.lists.specs.Cubes.{topmost};
-ghost use Rattle.lists.specs.Predecessors.{withoutNewest, serialiseKind, undone, inside};
+ghost use Rattle.lists.specs.Predecessors.{withoutNewest, serialiseKind, undone, inside, onTop};
 ghost use Rattle.lists.specs.Decision.{held};
 ghost use Rattle.program_part.specs.ProgramPart.{shapeOf, programOf};
 ghost use Rattle.whole_file.specs.Cube.{configurationOf};
 ghost use Rattle.by_number.specs.Again.{entriesOf};
-ghost use Rattle.before.specs.Before.{serialiseBefore};
+ghost use Rattle.before.specs.Before.{CubeFor, serialiseBefore};
 ghost use Rattle.families.specs.Family.{Families};
 ghost use Rattle.closing.specs.Walk.{stepHeld, Walkable, Serialising};
 use crate::finding::found;
@@ -23,6 +23,7 @@ use before::serialise::before_serialise;
 use before::serialise::before_serialise_inside;
 use before::serialise::before_serialise_on_top;
 use before::serialise::may_serialise;
+use before::serialise::repeats_value;
 use cover::search::search;
 use families::in_full_family;
 use matching::least;
@@ -96,6 +97,27 @@ fn insides_held(
     true
 }
 
+// With another newest message: that cube is held.
+fn top_held(
+    file: &[u8],
+    list: &[u8],
+    sum: &[u8],
+    n: usize,
+    program: Program,
+    cube: Cube,
+    p: u8,
+    v: u8,
+    top: Cube,
+) -> bool
+    ensures { λ r. ⌜ ((g : List ℕ) → Serialising g (now (file .entry)) (now (list .entry)) (now (sum .entry)) n program cube p v → CubeFor top (serialiseBefore (shapeOf (program .shape)) (configurationOf cube) p v (onTop v)) → r ≡ held (shapeOf (program .shape)) (entriesOf (now (file .entry)) (now (list .entry)) n) (serialiseBefore (shapeOf (program .shape)) (configurationOf cube) p v (onTop v))) ⌝ }
+{
+    // then the entry itself is below
+    if repeats_value(cube, p, v) {
+        return true;
+    }
+    search(file, list, sum, n, program.shape, top)
+}
+
 // Are all predecessor cubes for a serialise of the newest message's label held?
 fn label_held(
     families: &[u8],
@@ -116,7 +138,7 @@ fn label_held(
     if in_full_family(families, file, list, n, shape, top) {
         return true;
     }
-    if !search(file, list, sum, n, shape, top) {
+    if !top_held(file, list, sum, n, program, cube, p, v, top) {
         return false;
     }
     if !alike_before(cube, v as usize, 255) {

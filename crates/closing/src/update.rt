@@ -15,6 +15,7 @@ ghost use Rattle.before.specs.Before.{LastWrites, updateBefore};
 ghost use Rattle.closing.specs.Walk.{stepHeld, Walkable};
 use before::update::before_update;
 use before::update::before_update_pointed;
+use before::update::repeated_label;
 use cover::search::search;
 use program_part::bytes::both;
 use program_part::program::Program;
@@ -101,8 +102,13 @@ pub(crate) fn updated_held(
     let shape = program.shape;
     let pointers = cube.pointers;
     let pointer = of_four(pointers, p);
+    let own = repeated_label(shape, cube, writes, p);
     for i in 0..16 {
         if !may_point(shape, writes, pointer, i) {
+            continue;
+        }
+        // with one message more of the label that p's pointer repeats, the entry itself is below
+        if i == own {
             continue;
         }
         if !pointed_held(file, list, sum, n, program, cube, p, i) {

@@ -101,7 +101,7 @@ module _ (g f list sum : List ℕ) (n : ℕ) (p : Program) where
       → openingOf P es (entry es k) ≡ r
   opening-by R k l r h =
       ap (openingOf P es) (entry-is k l)
-      ∙ sym (h (walkable g f list sum n p (cubeAt f list k) (R .count) (R .sizes .transitions) (R .part .program) (searches R .entries)
+      ∙ sym (h (walkable g f list sum n p (cubeAt f list k) k l refl (R .count) (R .sizes .transitions) (R .part .program) (searches R .entries)
       (subst (EntryOf P) (entry-is k l) (R .entries k l .of)) (R .cubes k l) (R .summed)))
 
   -- ---- the verdict
