@@ -128,8 +128,8 @@ pub record Cueing (ms : List Message) (tags cues : List ℕ) (n i : ℕ) : Type 
   pub room : length cues ≡ 20
   pub each : (j : ℕ) → j < i → Cue (getD cues j 0) (getD ms j noMessage) (getD tags j 0)
 
-pub cueing-begin : (ms : List Message) (tags : List ℕ) (n : ℕ) → Cueing ms tags (replicate 20 0) n 0
-cueing-begin ms tags n = record { most = omega arith; room = refl; each = λ j l. absurd (omega arith) }
+pub cueing-begin : (ms : List Message) (tags : List ℕ) {cues : List ℕ} (n : ℕ) → length cues ≡ 20 → Cueing ms tags cues n 0
+cueing-begin ms tags n e = record { most = omega arith; room = e; each = λ j l. absurd (omega arith) }
 
 pub cueing-next : {ms : List Message} {tags cues : List ℕ} {n i r : ℕ} → Cueing ms tags cues n i → i < n → n ≤ 20 → Cue r (getD ms i noMessage) (getD tags i 0) → Cueing ms tags (set cues i r) n (i + 1)
 cueing-next {ms} {tags} {cues} {n} {i} {r} w l b K =

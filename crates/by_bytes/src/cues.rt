@@ -2,6 +2,7 @@
 ghost use mathlib.Core.Path.{_≡_};
 ghost use mathlib.Core.List.{[], _∷_};
 ghost use Prim.Native.Nat.{_/_, _%_, _<_};
+ghost use lib.ListN.{length};
 ghost use Rattle.matching.specs.Word.{Word};
 ghost use Rattle.by_bytes.specs.Same.{Cue, Cues};
 use matching::least;
@@ -29,18 +30,16 @@ fn cue_of(message: Message, tag: u64) -> usize
     twice + 1
 }
 
-// The cues of a cube's messages, which have these tags.
-pub fn cues_of(cube: Cube, tags: [u64; 20]) -> [usize; 20]
-    ensures { λ r. ⌜ Cues cube tags r ⌝ }
+// The cues of a cube's messages, which have these tags, in an array that the caller lends.
+pub fn cues_of(cube: Cube, tags: &[u64; 20], cues: &mut [usize; 20])
+    ensures { λ _. ⌜ (length (now (cues .entry)) ≡ 20 → Cues cube (now (tags .entry)) (now (cues .exit))) ⌝ }
 {
     let n = least(cube.count, 20);
     let messages = cube.messages;
-    let mut cues = [0usize; 20];
     for i in 0..n {
         let message = messages[i];
         cues[i] = cue_of(message, tags[i]);
     }
-    cues
 }
 
 // The four bytes that a number has.

@@ -89,9 +89,9 @@ fn channel_gaps(
     gaps: Gaps,
     shape: Shape,
     a: Cube,
-    left: [u64; 20],
+    left: &[u64; 20],
     b: Cube,
-    right: [u64; 20],
+    right: &[u64; 20],
 ) -> Gaps {
     let before = a.pointers;
     let after = b.pointers;
@@ -174,9 +174,9 @@ fn row_gaps(gaps: Gaps, variables: usize, a: [Queue; 16], b: [Queue; 16], proces
 pub(crate) fn gaps_between(
     shape: Shape,
     a: Cube,
-    left: [u64; 20],
+    left: &[u64; 20],
     b: Cube,
-    right: [u64; 20],
+    right: &[u64; 20],
 ) -> Gaps {
     let n = least(shape.processes, 4);
     let variables = shape.variables;

@@ -51,9 +51,11 @@ fn parts_held(
     let m = fillings(shape, place);
     'fillings: for x in 0..m {
         let part = part_of(cube, place, x as u8);
-        let right = tags_of(shape, part);
-        let number = number_of(shape, part, right);
-        let cues = cues_of(part, right);
+        let mut right = [0u64; 20];
+        tags_of(shape, part, &mut right);
+        let number = number_of(shape, part, &right);
+        let mut cues = [0usize; 20];
+        cues_of(part, &right, &mut cues);
         let states = part.states;
         let mut walk = walk_from(file, list, sum, n, shape, states, number);
         while walk.entry != 0 {
@@ -93,9 +95,11 @@ pub fn search(file: &[u8], list: &[u8], sum: &[u8], n: usize, shape: Shape, cube
     ensures { λ r. ⌜ (Searchable (now (file .entry)) (now (list .entry)) (now (sum .entry)) n shape cube → r ≡ held (shapeOf shape) (entriesOf (now (file .entry)) (now (list .entry)) n) (configurationOf cube)) ⌝ }
 {
     let sizes = rooms(cube);
-    let right = tags_of(shape, cube);
-    let number = number_of(shape, cube, right);
-    let cues = cues_of(cube, right);
+    let mut right = [0u64; 20];
+    tags_of(shape, cube, &mut right);
+    let number = number_of(shape, cube, &right);
+    let mut cues = [0usize; 20];
+    cues_of(cube, &right, &mut cues);
     let states = cube.states;
     let mut walk = walk_from(file, list, sum, n, shape, states, number);
     while walk.entry != 0 {

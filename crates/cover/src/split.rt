@@ -63,9 +63,11 @@ fn with_gaps(split: Split, shape: Shape, cube: Cube, gaps: Gaps) -> Split
 
 fn gaps_at(file: &[u8], list: &[u8], i: usize, shape: Shape, cube: Cube) -> Gaps {
     let entry = entry_at(file, list, i);
-    let left = tags_of(shape, entry);
-    let right = tags_of(shape, cube);
-    gaps_between(shape, entry, left, cube, right)
+    let mut left = [0u64; 20];
+    tags_of(shape, entry, &mut left);
+    let mut right = [0u64; 20];
+    tags_of(shape, cube, &mut right);
+    gaps_between(shape, entry, &left, cube, &right)
 }
 
 // With one entry more, if it may meet the cube.

@@ -32,11 +32,11 @@ pub fn channel_matches(
     exact: bool,
     shape: Shape,
     a: Cube,
-    left: [u64; 20],
+    left: &[u64; 20],
     b: Cube,
-    right: [u64; 20],
+    right: &[u64; 20],
 ) -> bool
-    ensures { λ r. ⌜ (Suits shape a left b right → r ≡ channelMatches shape exact a b) ⌝ }
+    ensures { λ r. ⌜ (Suits shape a (now (left .entry)) b (now (right .entry)) → r ≡ channelMatches shape exact a b) ⌝ }
 {
     let before = a.pointers;
     let after = b.pointers;

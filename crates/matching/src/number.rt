@@ -94,8 +94,8 @@ fn with_signature(h: u64, signature: usize) -> u64
 
 // The number of a cube: of its key in the upper bits and the lowest two, that is of states, which queues are empty, and the tags with a role, newest
 // first; and its signature between them.
-pub fn number_of(shape: Shape, cube: Cube, tags: [u64; 20]) -> u64
-    ensures { λ r. ⌜ (tags ≡ tagsOf shape cube → r ≡ numberOf shape cube) ⌝ }
+pub fn number_of(shape: Shape, cube: Cube, tags: &[u64; 20]) -> u64
+    ensures { λ r. ⌜ (now (tags .entry) ≡ tagsOf shape cube → r ≡ numberOf shape cube) ⌝ }
 {
     let states = cube.states;
     let queues = cube.queues;

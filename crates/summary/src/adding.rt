@@ -119,10 +119,11 @@ fn place_of(file: &[u8], upper: &[u8], at: usize, n: usize, shape: Shape, k: usi
             number: states_number(shape, states),
         };
     }
-    let tags = tags_of(shape, cube);
+    let mut tags = [0u64; 20];
+    tags_of(shape, cube, &mut tags);
     Joining {
         leader: leader,
-        number: number_of(shape, cube, tags),
+        number: number_of(shape, cube, &tags),
     }
 }
 

@@ -12,10 +12,10 @@ use Rattle.matching.proofs.least.Reads as least-reads
 use Rattle.program_part.proofs.bytes.wide.Reads as wide-reads
 
 abbrev Inv-loop : tie.InvT-loop
-Inv-loop a left b right first last all₀ i₀ j₀ all i j = (i ≤ 20) × (j ≤ 20)
+Inv-loop left right a b first last all₀ i₀ j₀ all i j = (i ≤ 20) × (j ≤ 20)
 
 abbrev μ-loop : tie.MeasureT-loop
-μ-loop a left b right first last all₀ i₀ j₀ all i j = j
+μ-loop left right a b first last all₀ i₀ j₀ all i j = j
 
 -- src/gaps.rt:98:22
 lowest-requires : tie.Need-lowest-requires Inv-loop μ-loop
@@ -94,8 +94,8 @@ mul-tags-match : tie.Need-mul-tags-match Inv-loop μ-loop
 mul-tags-match c = search needs
 
 -- src/gaps.rt:118:26
-array-read-tags-match : tie.Need-array-read-tags-match Inv-loop μ-loop
-array-read-tags-match c = search needs
+element-copy-out-tags-match : tie.Need-element-copy-out-tags-match Inv-loop μ-loop
+element-copy-out-tags-match c = search needs
 
 -- src/gaps.rt:118:48
 sub-tags-match-2 : tie.Need-sub-tags-match-2 Inv-loop μ-loop
@@ -106,8 +106,8 @@ mul-tags-match-2 : tie.Need-mul-tags-match-2 Inv-loop μ-loop
 mul-tags-match-2 c = search needs
 
 -- src/gaps.rt:118:42
-array-read-tags-match-2 : tie.Need-array-read-tags-match-2 Inv-loop μ-loop
-array-read-tags-match-2 c = search needs
+element-copy-out-tags-match-2 : tie.Need-element-copy-out-tags-match-2 Inv-loop μ-loop
+element-copy-out-tags-match-2 c = search needs
 
 -- src/gaps.rt:118:12
 tags-match-requires : tie.Need-tags-match-requires Inv-loop μ-loop
@@ -174,10 +174,10 @@ channel-gaps-spec =
     element-copy-out-y
     sub-tags-match
     mul-tags-match
-    array-read-tags-match
+    element-copy-out-tags-match
     sub-tags-match-2
     mul-tags-match-2
-    array-read-tags-match-2
+    element-copy-out-tags-match-2
     tags-match-requires
     sub-message-gaps
     message-gaps-requires

@@ -5,10 +5,10 @@ use Rattle.cover.proofs.gaps.gaps_between.Statement.{statement}
 use Rattle.cover.proofs.gaps.gaps_between.Tie as tie
 
 abbrev Inv-loop : tie.InvT-loop
-Inv-loop shape a left b right n variables before after all₀ p₀ all p = p ≤ n
+Inv-loop shape left right a b n variables before after all₀ p₀ all p = p ≤ n
 
 abbrev μ-loop : tie.MeasureT-loop
-μ-loop shape a left b right n variables before after all₀ p₀ all p = n - p
+μ-loop shape left right a b n variables before after all₀ p₀ all p = n - p
 
 pub gaps-between-spec : {M : Type 1} → statement M
 gaps-between-spec = tie.close (tie.spec

@@ -14,6 +14,7 @@ use borrow.Fn.PlainCycle.{Measures, is, falls, and}
 use Rattle.cover.proofs.search.parts_held.Reads as parts-held
 use Rattle.cover.proofs.search.parts_held.Kinds as parts-held-kinds
 use Rattle.cover.proofs.search.+parts_held.Lts-parts_held as parts-held-lts
+use Rattle.by_bytes.proofs.cues_of.Reads as cues-of-reads
 use Rattle.cover.proofs.entry.matches_at.Reads as matches-at-reads
 use Rattle.cover.proofs.place.fillings.Reads as fillings-reads
 use Rattle.cover.proofs.place.is_whole.Reads as is-whole-reads
@@ -22,7 +23,6 @@ use Rattle.cover.proofs.search.rooms.Reads as rooms-reads
 use Rattle.cover.proofs.split.place_for.Reads as place-for-reads
 use Rattle.matching.proofs.number_of.Reads as number-of-reads
 use Rattle.matching.proofs.tags_of.Reads as tags-of-reads
-use Rattle.by_bytes.proofs.cues_of.Reads as cues-of-reads
 use Rattle.summary.proofs.onward.Reads as onward-reads
 use Rattle.summary.proofs.walk_from.Reads as walk-from-reads
 use Rattle.cover.proofs.search.+parts_held.{statement}
@@ -51,7 +51,7 @@ parts-held-Inv-fillings file list sum n shape cube place sizes m x₀ x = Parts 
 abbrev parts-held-μ-fillings : parts-held-lts.MeasureT-fillings
 parts-held-μ-fillings file list sum n shape cube place sizes m x₀ x = m - x
 
--- src/search.rt:111:9
+-- src/search.rt:50:9
 parts-held-rooms-requires : (t : ℕ) → parts-held-lts.Need-rooms-requires (
   rooms-reads.Asked,
   rooms-reads.Learnt,
@@ -86,7 +86,7 @@ parts-held-rooms-requires : (t : ℕ) → parts-held-lts.Need-rooms-requires (
     parts-held-μ-fillings
 parts-held-rooms-requires t c κs = tt
 
--- src/search.rt:112:9
+-- src/search.rt:51:9
 parts-held-fillings-requires : (t : ℕ) → parts-held-lts.Need-fillings-requires (
   rooms-reads.Asked,
   rooms-reads.Learnt,
@@ -121,7 +121,7 @@ parts-held-fillings-requires : (t : ℕ) → parts-held-lts.Need-fillings-requir
     parts-held-μ-fillings
 parts-held-fillings-requires t c κs = tt
 
--- src/search.rt:113:5
+-- src/search.rt:52:5
 parts-held-fillings-holds : (t : ℕ) → parts-held-lts.Need-fillings-holds (
   rooms-reads.Asked,
   rooms-reads.Learnt,
@@ -156,7 +156,7 @@ parts-held-fillings-holds : (t : ℕ) → parts-held-lts.Need-fillings-holds (
     parts-held-μ-fillings
 parts-held-fillings-holds t c = parts-begin (c .before .before .before .before .before .args .file .now) (c .before .before .before .before .before .args .list .now) (c .before .before .before .before .before .args .sum .now) (c .before .before .before .before .before .args .n) (c .before .before .before .before .before .args .shape) (c .before .before .before .before .before .args .cube) (c .before .before .before .before .before .args .place)
 
--- src/search.rt:114:41
+-- src/search.rt:53:41
 parts-held-cast-part-of : (t : ℕ) → parts-held-lts.Need-cast-part-of (
   rooms-reads.Asked,
   rooms-reads.Learnt,
@@ -191,7 +191,7 @@ parts-held-cast-part-of : (t : ℕ) → parts-held-lts.Need-cast-part-of (
     parts-held-μ-fillings
 parts-held-cast-part-of t c = omega (arith, fillings-few (c .before .before .before .before .before .before .before .args .shape) (c .before .before .before .before .before .before .before .args .place), c .fillings-test .taken, c .before .before .fillings2 .ensures)
 
--- src/search.rt:114:13
+-- src/search.rt:53:13
 parts-held-part-of-requires : (t : ℕ) → parts-held-lts.Need-part-of-requires (
   rooms-reads.Asked,
   rooms-reads.Learnt,
@@ -226,7 +226,7 @@ parts-held-part-of-requires : (t : ℕ) → parts-held-lts.Need-part-of-requires
     parts-held-μ-fillings
 parts-held-part-of-requires t c κs = tt
 
--- src/search.rt:115:13
+-- src/search.rt:55:9
 parts-held-tags-of-requires : (t : ℕ) → parts-held-lts.Need-tags-of-requires (
   rooms-reads.Asked,
   rooms-reads.Learnt,
@@ -261,7 +261,7 @@ parts-held-tags-of-requires : (t : ℕ) → parts-held-lts.Need-tags-of-requires
     parts-held-μ-fillings
 parts-held-tags-of-requires t c κs = tt
 
--- src/search.rt:116:13
+-- src/search.rt:56:13
 parts-held-number-of-requires : (t : ℕ) → parts-held-lts.Need-number-of-requires (
   rooms-reads.Asked,
   rooms-reads.Learnt,
@@ -296,7 +296,7 @@ parts-held-number-of-requires : (t : ℕ) → parts-held-lts.Need-number-of-requ
     parts-held-μ-fillings
 parts-held-number-of-requires t c κs = tt
 
--- src/search.rt:116:13
+-- src/search.rt:58:9
 parts-held-cues-of-requires : (t : ℕ) → parts-held-lts.Need-cues-of-requires (
   rooms-reads.Asked,
   rooms-reads.Learnt,
@@ -331,7 +331,7 @@ parts-held-cues-of-requires : (t : ℕ) → parts-held-lts.Need-cues-of-requires
     parts-held-μ-fillings
 parts-held-cues-of-requires t c κs = tt
 
--- src/search.rt:118:13
+-- src/search.rt:60:13
 parts-held-walk-from-requires : (t : ℕ) → parts-held-lts.Need-walk-from-requires (
   rooms-reads.Asked,
   rooms-reads.Learnt,
@@ -366,7 +366,7 @@ parts-held-walk-from-requires : (t : ℕ) → parts-held-lts.Need-walk-from-requ
     parts-held-μ-fillings
 parts-held-walk-from-requires t c κs = tt
 
--- src/search.rt:119:9
+-- src/search.rt:61:9
 parts-held-loop-holds : (t : ℕ) → parts-held-lts.Need-loop-holds (
   rooms-reads.Asked,
   rooms-reads.Learnt,
@@ -399,9 +399,9 @@ parts-held-loop-holds : (t : ℕ) → parts-held-lts.Need-loop-holds (
     parts-held-μ-loop
     parts-held-Inv-fillings
     parts-held-μ-fillings
-parts-held-loop-holds t c = (parting-begin (c .before .before .before .before .before .before .before .before .before .before .before .before .before .args .file .now) (c .before .before .before .before .before .before .before .before .before .before .before .before .before .args .list .now) (c .before .before .before .before .before .before .before .before .before .before .before .before .before .args .sum .now) (c .before .before .before .before .before .before .before .before .before .before .before .before .before .args .n) (c .before .before .before .before .before .before .before .before .before .before .before .before .before .args .shape) (c .before .before .before .before .before .before .before .before .before .before .before .before .before .args .cube) (c .before .before .before .before .before .before .before .before .before .before .before .before .before .args .place) (c .before .before .before .before .before .before .before .fillings .inv) (omega (arith, c .before .before .before .before .before .before .fillings-test .taken, c .before .before .before .before .before .before .before .before .fillings2 .ensures)) (c .before .before .before .before .before .part-of .ensures) (cued (c .before .before .before .before .before .before .before .before .before .before .before .before .before .args .shape) (c .before .before .before .before .before .part-of .result) (c .before .before .cues-of .result) (c .before .before .before .before .tags-of .ensures) (c .before .before .cues-of .ensures)) (c .before .before .before .number-of .ensures (c .before .before .before .before .tags-of .ensures)) (c .walk-from .ensures), refl)
+parts-held-loop-holds t c = (parting-begin (c .before .before .before .before .before .before .before .before .before .before .before .before .before .before .before .before .before .args .file .now) (c .before .before .before .before .before .before .before .before .before .before .before .before .before .before .before .before .before .args .list .now) (c .before .before .before .before .before .before .before .before .before .before .before .before .before .before .before .before .before .args .sum .now) (c .before .before .before .before .before .before .before .before .before .before .before .before .before .before .before .before .before .args .n) (c .before .before .before .before .before .before .before .before .before .before .before .before .before .before .before .before .before .args .shape) (c .before .before .before .before .before .before .before .before .before .before .before .before .before .before .before .before .before .args .cube) (c .before .before .before .before .before .before .before .before .before .before .before .before .before .before .before .before .before .args .place) (c .before .before .before .before .before .before .before .before .before .before .before .fillings .inv) (omega (arith, c .before .before .before .before .before .before .before .before .before .before .fillings-test .taken, c .before .before .before .before .before .before .before .before .before .before .before .before .fillings2 .ensures)) (c .before .before .before .before .before .before .before .before .before .part-of .ensures) (cued (c .before .before .before .before .before .before .before .before .before .before .before .before .before .before .before .before .before .args .shape) (c .before .before .before .before .before .before .before .before .before .part-of .result) (c .before .before .cues-of .last .1 .1 .0) (c .before .before .before .before .before .before .before .tags-of .ensures) (c .before .before .cues-of .ensures refl)) (c .before .before .before .before .before .number-of .ensures (c .before .before .before .before .before .before .before .tags-of .ensures)) (c .walk-from .ensures), refl)
 
--- src/search.rt:120:21
+-- src/search.rt:62:21
 parts-held-sub-i : (t : ℕ) → parts-held-lts.Need-sub-i (
   rooms-reads.Asked,
   rooms-reads.Learnt,
@@ -436,7 +436,7 @@ parts-held-sub-i : (t : ℕ) → parts-held-lts.Need-sub-i (
     parts-held-μ-fillings
 parts-held-sub-i t c = search needs
 
--- src/search.rt:121:16
+-- src/search.rt:63:16
 parts-held-matches-at-requires : (t : ℕ) → parts-held-lts.Need-matches-at-requires (
   rooms-reads.Asked,
   rooms-reads.Learnt,
@@ -471,7 +471,7 @@ parts-held-matches-at-requires : (t : ℕ) → parts-held-lts.Need-matches-at-re
     parts-held-μ-fillings
 parts-held-matches-at-requires t c κs = tt
 
--- src/search.rt:122:17
+-- src/search.rt:64:17
 parts-held-add-x : (t : ℕ) → parts-held-lts.Need-add-x (
   rooms-reads.Asked,
   rooms-reads.Learnt,
@@ -504,9 +504,9 @@ parts-held-add-x : (t : ℕ) → parts-held-lts.Need-add-x (
     parts-held-μ-loop
     parts-held-Inv-fillings
     parts-held-μ-fillings
-parts-held-add-x t c = omega (arith, fillings-few (c .before .before .before .before .before .before .before .before .before .before .before .before .before .before .before .before .before .before .before .before .args .shape) (c .before .before .before .before .before .before .before .before .before .before .before .before .before .before .before .before .before .before .before .before .args .place), c .before .before .before .before .before .before .loop .inv .0 .one)
+parts-held-add-x t c = omega (arith, fillings-few (c .before .before .before .before .before .before .before .before .before .before .before .before .before .before .before .before .before .before .before .before .before .before .before .before .args .shape) (c .before .before .before .before .before .before .before .before .before .before .before .before .before .before .before .before .before .before .before .before .before .before .before .before .args .place), c .before .before .before .before .before .before .loop .inv .0 .one)
 
--- src/search.rt:113:5
+-- src/search.rt:52:5
 parts-held-fillings-less : (t : ℕ) → parts-held-lts.Need-fillings-less (
   rooms-reads.Asked,
   rooms-reads.Learnt,
@@ -539,9 +539,9 @@ parts-held-fillings-less : (t : ℕ) → parts-held-lts.Need-fillings-less (
     parts-held-μ-loop
     parts-held-Inv-fillings
     parts-held-μ-fillings
-parts-held-fillings-less t c = omega (arith, c .before .before .before .before .before .before .loop .inv .0 .one, c .before .before .before .before .before .before .loop .inv .1, c .before .before .before .before .before .before .before .before .before .before .before .before .before .before .before .fillings2 .ensures)
+parts-held-fillings-less t c = omega (arith, c .before .before .before .before .before .before .loop .inv .0 .one, c .before .before .before .before .before .before .loop .inv .1, c .before .before .before .before .before .before .before .before .before .before .before .before .before .before .before .before .before .before .before .fillings2 .ensures)
 
--- src/search.rt:113:5
+-- src/search.rt:52:5
 parts-held-fillings-again : (t : ℕ) → parts-held-lts.Need-fillings-again (
   rooms-reads.Asked,
   rooms-reads.Learnt,
@@ -574,9 +574,9 @@ parts-held-fillings-again : (t : ℕ) → parts-held-lts.Need-fillings-again (
     parts-held-μ-loop
     parts-held-Inv-fillings
     parts-held-μ-fillings
-parts-held-fillings-again t c = parting-covered (c .before .before .before .before .before .before .before .before .before .before .before .before .before .before .before .before .before .before .before .before .args .file .now) (c .before .before .before .before .before .before .before .before .before .before .before .before .before .before .before .before .before .before .before .before .args .list .now) (c .before .before .before .before .before .before .before .before .before .before .before .before .before .before .before .before .before .before .before .before .args .sum .now) (c .before .before .before .before .before .before .before .before .before .before .before .before .before .before .before .before .before .before .before .before .args .n) (c .before .before .before .before .before .before .before .before .before .before .before .before .before .before .before .before .before .before .before .before .args .shape) (c .before .before .before .before .before .before .before .before .before .before .before .before .before .before .before .before .before .before .before .before .args .cube) (c .before .before .before .before .before .before .before .before .before .before .before .before .before .before .before .before .before .before .before .before .args .place) (c .before .before .before .before .before .before .loop .inv .0) (c .before .before .before .before .if1 .taken) (λ A. sym (c .before .matches-at .ensures A) ∙ c .if2 .taken)
+parts-held-fillings-again t c = parting-covered (c .before .before .before .before .before .before .before .before .before .before .before .before .before .before .before .before .before .before .before .before .before .before .before .before .args .file .now) (c .before .before .before .before .before .before .before .before .before .before .before .before .before .before .before .before .before .before .before .before .before .before .before .before .args .list .now) (c .before .before .before .before .before .before .before .before .before .before .before .before .before .before .before .before .before .before .before .before .before .before .before .before .args .sum .now) (c .before .before .before .before .before .before .before .before .before .before .before .before .before .before .before .before .before .before .before .before .before .before .before .before .args .n) (c .before .before .before .before .before .before .before .before .before .before .before .before .before .before .before .before .before .before .before .before .before .before .before .before .args .shape) (c .before .before .before .before .before .before .before .before .before .before .before .before .before .before .before .before .before .before .before .before .before .before .before .before .args .cube) (c .before .before .before .before .before .before .before .before .before .before .before .before .before .before .before .before .before .before .before .before .before .before .before .before .args .place) (c .before .before .before .before .before .before .loop .inv .0) (c .before .before .before .before .if1 .taken) (λ A. sym (c .before .matches-at .ensures A) ∙ c .if2 .taken)
 
--- src/search.rt:124:17
+-- src/search.rt:66:17
 parts-held-onward-requires : (t : ℕ) → parts-held-lts.Need-onward-requires (
   rooms-reads.Asked,
   rooms-reads.Learnt,
@@ -611,7 +611,7 @@ parts-held-onward-requires : (t : ℕ) → parts-held-lts.Need-onward-requires (
     parts-held-μ-fillings
 parts-held-onward-requires t c κs = tt
 
--- src/search.rt:119:9
+-- src/search.rt:61:9
 parts-held-loop-less : (t : ℕ) → parts-held-lts.Need-loop-less (
   rooms-reads.Asked,
   rooms-reads.Learnt,
@@ -646,7 +646,7 @@ parts-held-loop-less : (t : ℕ) → parts-held-lts.Need-loop-less (
     parts-held-μ-fillings
 parts-held-loop-less t c = far-less (c .before .before .before .before .before .before .before .loop .inv .0 .scanning .within) (c .before .before .before .before .before .if1 .taken) (c .onward .ensures)
 
--- src/search.rt:119:9
+-- src/search.rt:61:9
 parts-held-loop-again : (t : ℕ) → parts-held-lts.Need-loop-again (
   rooms-reads.Asked,
   rooms-reads.Learnt,
@@ -679,9 +679,9 @@ parts-held-loop-again : (t : ℕ) → parts-held-lts.Need-loop-again (
     parts-held-μ-loop
     parts-held-Inv-fillings
     parts-held-μ-fillings
-parts-held-loop-again t c = (parting-next (c .before .before .before .before .before .before .before .before .before .before .before .before .before .before .before .before .before .before .before .before .before .args .file .now) (c .before .before .before .before .before .before .before .before .before .before .before .before .before .before .before .before .before .before .before .before .before .args .list .now) (c .before .before .before .before .before .before .before .before .before .before .before .before .before .before .before .before .before .before .before .before .before .args .sum .now) (c .before .before .before .before .before .before .before .before .before .before .before .before .before .before .before .before .before .before .before .before .before .args .n) (c .before .before .before .before .before .before .before .before .before .before .before .before .before .before .before .before .before .before .before .before .before .args .shape) (c .before .before .before .before .before .before .before .before .before .before .before .before .before .before .before .before .before .before .before .before .before .args .cube) (c .before .before .before .before .before .before .before .before .before .before .before .before .before .before .before .before .before .before .before .before .before .args .place) (c .before .before .before .before .before .before .before .loop .inv .0) (λ A. sym (c .before .before .matches-at .ensures A) ∙ c .before .if2 .left) (c .onward .ensures), c .before .before .before .before .before .before .before .loop .inv .1)
+parts-held-loop-again t c = (parting-next (c .before .before .before .before .before .before .before .before .before .before .before .before .before .before .before .before .before .before .before .before .before .before .before .before .before .args .file .now) (c .before .before .before .before .before .before .before .before .before .before .before .before .before .before .before .before .before .before .before .before .before .before .before .before .before .args .list .now) (c .before .before .before .before .before .before .before .before .before .before .before .before .before .before .before .before .before .before .before .before .before .before .before .before .before .args .sum .now) (c .before .before .before .before .before .before .before .before .before .before .before .before .before .before .before .before .before .before .before .before .before .before .before .before .before .args .n) (c .before .before .before .before .before .before .before .before .before .before .before .before .before .before .before .before .before .before .before .before .before .before .before .before .before .args .shape) (c .before .before .before .before .before .before .before .before .before .before .before .before .before .before .before .before .before .before .before .before .before .before .before .before .before .args .cube) (c .before .before .before .before .before .before .before .before .before .before .before .before .before .before .before .before .before .before .before .before .before .before .before .before .before .args .place) (c .before .before .before .before .before .before .before .loop .inv .0) (λ A. sym (c .before .before .matches-at .ensures A) ∙ c .before .if2 .left) (c .onward .ensures), c .before .before .before .before .before .before .before .loop .inv .1)
 
--- src/search.rt:138:13
+-- src/search.rt:80:13
 parts-held-place-for-requires : (t : ℕ) → parts-held-lts.Need-place-for-requires (
   rooms-reads.Asked,
   rooms-reads.Learnt,
@@ -716,7 +716,7 @@ parts-held-place-for-requires : (t : ℕ) → parts-held-lts.Need-place-for-requ
     parts-held-μ-fillings
 parts-held-place-for-requires t c κs = tt
 
--- src/search.rt:139:12
+-- src/search.rt:81:12
 parts-held-is-whole-requires : (t : ℕ) → parts-held-lts.Need-is-whole-requires (
   rooms-reads.Asked,
   rooms-reads.Learnt,
@@ -751,7 +751,7 @@ parts-held-is-whole-requires : (t : ℕ) → parts-held-lts.Need-is-whole-requir
     parts-held-μ-fillings
 parts-held-is-whole-requires t c κs = tt
 
--- src/search.rt:140:13
+-- src/search.rt:82:13
 parts-held-returns : (t : ℕ) → parts-held-lts.Need-returns (
   rooms-reads.Asked,
   rooms-reads.Learnt,
@@ -784,9 +784,9 @@ parts-held-returns : (t : ℕ) → parts-held-lts.Need-returns (
     parts-held-μ-loop
     parts-held-Inv-fillings
     parts-held-μ-fillings
-parts-held-returns t c = ((λ Z e. absurd (true-not-false (sym e))), (λ Z e. parting-stuck (c .before .before .before .before .before .before .before .before .before .before .before .before .before .before .before .before .before .before .before .before .args .file .now) (c .before .before .before .before .before .before .before .before .before .before .before .before .before .before .before .before .before .before .before .before .args .list .now) (c .before .before .before .before .before .before .before .before .before .before .before .before .before .before .before .before .before .before .before .before .args .sum .now) (c .before .before .before .before .before .before .before .before .before .before .before .before .before .before .before .before .before .before .before .before .args .n) (c .before .before .before .before .before .before .before .before .before .before .before .before .before .before .before .before .before .before .before .before .args .shape) (c .before .before .before .before .before .before .before .before .before .before .before .before .before .before .before .before .before .before .before .before .args .cube) (c .before .before .before .before .before .before .before .before .before .before .before .before .before .before .before .before .before .before .before .before .args .place) (c .before .before .before .before .before .before .loop .inv .0) (c .before .before .before .before .before .before .before .before .before .before .before .before .before .before .before .before .rooms .ensures .0) (c .before .before .before .before .before .before .before .before .before .before .before .before .before .before .before .before .rooms .ensures .1) (c .before .before .before .before .before .before .before .before .before .before .before .before .before .before .before .before .before .before .before .before .pre .1) Z (c .before .before .before .before .if1 .left) (c .before .before .place-for .ensures .1 (sym (c .before .is-whole .ensures) ∙ c .if3 .taken))))
+parts-held-returns t c = ((λ Z e. absurd (true-not-false (sym e))), (λ Z e. parting-stuck (c .before .before .before .before .before .before .before .before .before .before .before .before .before .before .before .before .before .before .before .before .before .before .before .before .args .file .now) (c .before .before .before .before .before .before .before .before .before .before .before .before .before .before .before .before .before .before .before .before .before .before .before .before .args .list .now) (c .before .before .before .before .before .before .before .before .before .before .before .before .before .before .before .before .before .before .before .before .before .before .before .before .args .sum .now) (c .before .before .before .before .before .before .before .before .before .before .before .before .before .before .before .before .before .before .before .before .before .before .before .before .args .n) (c .before .before .before .before .before .before .before .before .before .before .before .before .before .before .before .before .before .before .before .before .before .before .before .before .args .shape) (c .before .before .before .before .before .before .before .before .before .before .before .before .before .before .before .before .before .before .before .before .before .before .before .before .args .cube) (c .before .before .before .before .before .before .before .before .before .before .before .before .before .before .before .before .before .before .before .before .before .before .before .before .args .place) (c .before .before .before .before .before .before .loop .inv .0) (c .before .before .before .before .before .before .before .before .before .before .before .before .before .before .before .before .before .before .before .before .rooms .ensures .0) (c .before .before .before .before .before .before .before .before .before .before .before .before .before .before .before .before .before .before .before .before .rooms .ensures .1) (c .before .before .before .before .before .before .before .before .before .before .before .before .before .before .before .before .before .before .before .before .before .before .before .before .pre .1) Z (c .before .before .before .before .if1 .left) (c .before .before .place-for .ensures .1 (sym (c .before .is-whole .ensures) ∙ c .if3 .taken))))
 
--- src/search.rt:142:13
+-- src/search.rt:84:13
 parts-held-parts-held-requires : (t : ℕ) → parts-held-lts.Need-parts-held-requires (
   rooms-reads.Asked,
   rooms-reads.Learnt,
@@ -819,9 +819,9 @@ parts-held-parts-held-requires : (t : ℕ) → parts-held-lts.Need-parts-held-re
     parts-held-μ-loop
     parts-held-Inv-fillings
     parts-held-μ-fillings
-parts-held-parts-held-requires t c κs = let l = c .before .before .before .before .before .before .loop .inv .0 .one in (subst (λ (k : Cube). weight k (c .before .before .place-for .result) < t) (sym (c .before .before .before .before .before .before .loop .inv .0 .is)) (let y = part-less (c .before .before .before .before .before .before .before .before .before .before .before .before .before .before .before .before .before .before .before .before .args .shape) (c .before .before .before .before .before .before .before .before .before .before .before .before .before .before .before .before .before .before .before .before .args .cube) (c .before .before .before .before .before .before .before .before .before .before .before .before .before .before .before .before .rooms .ensures .0) (c .before .before .before .before .before .before .before .before .before .before .before .before .before .before .before .before .rooms .ensures .1) (c .before .before .before .before .before .before .before .before .before .before .before .before .before .before .before .before .before .before .before .before .args .place) (c .before .before .before .before .before .before .before .before .before .before .before .before .before .before .before .before .before .before .before .before .pre .1) (c .before .before .before .before .before .before .loop .x) (omega (arith, fillings-few (c .before .before .before .before .before .before .before .before .before .before .before .before .before .before .before .before .before .before .before .before .args .shape) (c .before .before .before .before .before .before .before .before .before .before .before .before .before .before .before .before .before .before .before .before .args .place), l)) (c .before .before .place-for .result) (sym (c .before .is-whole .ensures) ∙ c .if3 .left) in omega (arith, y, c .before .before .before .before .before .before .before .before .before .before .before .before .before .before .before .before .before .before .before .before .pre .0)), c .before .before .place-for .ensures .0)
+parts-held-parts-held-requires t c κs = let l = c .before .before .before .before .before .before .loop .inv .0 .one in (subst (λ (k : Cube). weight k (c .before .before .place-for .result) < t) (sym (c .before .before .before .before .before .before .loop .inv .0 .is)) (let y = part-less (c .before .before .before .before .before .before .before .before .before .before .before .before .before .before .before .before .before .before .before .before .before .before .before .before .args .shape) (c .before .before .before .before .before .before .before .before .before .before .before .before .before .before .before .before .before .before .before .before .before .before .before .before .args .cube) (c .before .before .before .before .before .before .before .before .before .before .before .before .before .before .before .before .before .before .before .before .rooms .ensures .0) (c .before .before .before .before .before .before .before .before .before .before .before .before .before .before .before .before .before .before .before .before .rooms .ensures .1) (c .before .before .before .before .before .before .before .before .before .before .before .before .before .before .before .before .before .before .before .before .before .before .before .before .args .place) (c .before .before .before .before .before .before .before .before .before .before .before .before .before .before .before .before .before .before .before .before .before .before .before .before .pre .1) (c .before .before .before .before .before .before .loop .x) (omega (arith, fillings-few (c .before .before .before .before .before .before .before .before .before .before .before .before .before .before .before .before .before .before .before .before .before .before .before .before .args .shape) (c .before .before .before .before .before .before .before .before .before .before .before .before .before .before .before .before .before .before .before .before .before .before .before .before .args .place), l)) (c .before .before .place-for .result) (sym (c .before .is-whole .ensures) ∙ c .if3 .left) in omega (arith, y, c .before .before .before .before .before .before .before .before .before .before .before .before .before .before .before .before .before .before .before .before .before .before .before .before .pre .0)), c .before .before .place-for .ensures .0)
 
--- src/search.rt:143:13
+-- src/search.rt:85:13
 parts-held-returns-2 : (t : ℕ) → parts-held-lts.Need-returns-2 (
   rooms-reads.Asked,
   rooms-reads.Learnt,
@@ -854,9 +854,9 @@ parts-held-returns-2 : (t : ℕ) → parts-held-lts.Need-returns-2 (
     parts-held-μ-loop
     parts-held-Inv-fillings
     parts-held-μ-fillings
-parts-held-returns-2 t c = ((λ Z e. absurd (true-not-false (sym e))), (λ Z e. parting-outside (c .before .before .before .before .before .before .before .before .before .before .before .before .before .before .before .before .before .before .before .before .before .before .args .file .now) (c .before .before .before .before .before .before .before .before .before .before .before .before .before .before .before .before .before .before .before .before .before .before .args .list .now) (c .before .before .before .before .before .before .before .before .before .before .before .before .before .before .before .before .before .before .before .before .before .before .args .sum .now) (c .before .before .before .before .before .before .before .before .before .before .before .before .before .before .before .before .before .before .before .before .before .before .args .n) (c .before .before .before .before .before .before .before .before .before .before .before .before .before .before .before .before .before .before .before .before .before .before .args .shape) (c .before .before .before .before .before .before .before .before .before .before .before .before .before .before .before .before .before .before .before .before .before .before .args .cube) (c .before .before .before .before .before .before .before .before .before .before .before .before .before .before .before .before .before .before .before .before .before .before .args .place) (c .before .before .before .before .before .before .before .before .loop .inv .0) (c .before .before .before .before .before .before .before .before .before .before .before .before .before .before .before .before .before .before .rooms .ensures .0) (c .before .before .before .before .before .before .before .before .before .before .before .before .before .before .before .before .before .before .rooms .ensures .1) (c .before .before .before .before .before .before .before .before .before .before .before .before .before .before .before .before .before .before .before .before .before .before .pre .1) Z (c .before .parts-held .ensures .1) (not-true (c .before .parts-held .result) (c .if4 .taken))))
+parts-held-returns-2 t c = ((λ Z e. absurd (true-not-false (sym e))), (λ Z e. parting-outside (c .before .before .before .before .before .before .before .before .before .before .before .before .before .before .before .before .before .before .before .before .before .before .before .before .before .before .args .file .now) (c .before .before .before .before .before .before .before .before .before .before .before .before .before .before .before .before .before .before .before .before .before .before .before .before .before .before .args .list .now) (c .before .before .before .before .before .before .before .before .before .before .before .before .before .before .before .before .before .before .before .before .before .before .before .before .before .before .args .sum .now) (c .before .before .before .before .before .before .before .before .before .before .before .before .before .before .before .before .before .before .before .before .before .before .before .before .before .before .args .n) (c .before .before .before .before .before .before .before .before .before .before .before .before .before .before .before .before .before .before .before .before .before .before .before .before .before .before .args .shape) (c .before .before .before .before .before .before .before .before .before .before .before .before .before .before .before .before .before .before .before .before .before .before .before .before .before .before .args .cube) (c .before .before .before .before .before .before .before .before .before .before .before .before .before .before .before .before .before .before .before .before .before .before .before .before .before .before .args .place) (c .before .before .before .before .before .before .before .before .loop .inv .0) (c .before .before .before .before .before .before .before .before .before .before .before .before .before .before .before .before .before .before .before .before .before .before .rooms .ensures .0) (c .before .before .before .before .before .before .before .before .before .before .before .before .before .before .before .before .before .before .before .before .before .before .rooms .ensures .1) (c .before .before .before .before .before .before .before .before .before .before .before .before .before .before .before .before .before .before .before .before .before .before .before .before .before .before .pre .1) Z (c .before .parts-held .ensures .1) (not-true (c .before .parts-held .result) (c .if4 .taken))))
 
--- src/search.rt:113:20
+-- src/search.rt:52:20
 parts-held-add-x-2 : (t : ℕ) → parts-held-lts.Need-add-x-2 (
   rooms-reads.Asked,
   rooms-reads.Learnt,
@@ -889,9 +889,9 @@ parts-held-add-x-2 : (t : ℕ) → parts-held-lts.Need-add-x-2 (
     parts-held-μ-loop
     parts-held-Inv-fillings
     parts-held-μ-fillings
-parts-held-add-x-2 t c = omega (arith, fillings-few (c .before .before .before .before .before .before .before .before .before .before .before .before .before .before .before .before .before .before .before .before .before .before .args .shape) (c .before .before .before .before .before .before .before .before .before .before .before .before .before .before .before .before .before .before .before .before .before .before .args .place), c .before .before .before .before .before .before .before .before .loop .inv .0 .one)
+parts-held-add-x-2 t c = omega (arith, fillings-few (c .before .before .before .before .before .before .before .before .before .before .before .before .before .before .before .before .before .before .before .before .before .before .before .before .before .before .args .shape) (c .before .before .before .before .before .before .before .before .before .before .before .before .before .before .before .before .before .before .before .before .before .before .before .before .before .before .args .place), c .before .before .before .before .before .before .before .before .loop .inv .0 .one)
 
--- src/search.rt:113:5
+-- src/search.rt:52:5
 parts-held-fillings-less-2 : (t : ℕ) → parts-held-lts.Need-fillings-less-2 (
   rooms-reads.Asked,
   rooms-reads.Learnt,
@@ -924,9 +924,9 @@ parts-held-fillings-less-2 : (t : ℕ) → parts-held-lts.Need-fillings-less-2 (
     parts-held-μ-loop
     parts-held-Inv-fillings
     parts-held-μ-fillings
-parts-held-fillings-less-2 t c = omega (arith, c .before .before .before .before .before .before .before .before .loop .inv .0 .one, c .before .before .before .before .before .before .before .before .loop .inv .1, c .before .before .before .before .before .before .before .before .before .before .before .before .before .before .before .before .before .fillings2 .ensures)
+parts-held-fillings-less-2 t c = omega (arith, c .before .before .before .before .before .before .before .before .loop .inv .0 .one, c .before .before .before .before .before .before .before .before .loop .inv .1, c .before .before .before .before .before .before .before .before .before .before .before .before .before .before .before .before .before .before .before .before .before .fillings2 .ensures)
 
--- src/search.rt:113:5
+-- src/search.rt:52:5
 parts-held-fillings-again-2 : (t : ℕ) → parts-held-lts.Need-fillings-again-2 (
   rooms-reads.Asked,
   rooms-reads.Learnt,
@@ -959,9 +959,9 @@ parts-held-fillings-again-2 : (t : ℕ) → parts-held-lts.Need-fillings-again-2
     parts-held-μ-loop
     parts-held-Inv-fillings
     parts-held-μ-fillings
-parts-held-fillings-again-2 t c = parting-held (c .before .before .before .before .before .before .before .before .before .before .before .before .before .before .before .before .before .before .before .before .before .before .args .file .now) (c .before .before .before .before .before .before .before .before .before .before .before .before .before .before .before .before .before .before .before .before .before .before .args .list .now) (c .before .before .before .before .before .before .before .before .before .before .before .before .before .before .before .before .before .before .before .before .before .before .args .sum .now) (c .before .before .before .before .before .before .before .before .before .before .before .before .before .before .before .before .before .before .before .before .before .before .args .n) (c .before .before .before .before .before .before .before .before .before .before .before .before .before .before .before .before .before .before .before .before .before .before .args .shape) (c .before .before .before .before .before .before .before .before .before .before .before .before .before .before .before .before .before .before .before .before .before .before .args .cube) (c .before .before .before .before .before .before .before .before .before .before .before .before .before .before .before .before .before .before .before .before .before .before .args .place) (c .before .before .before .before .before .before .before .before .loop .inv .0) (c .before .parts-held .ensures .0) (not-false (c .before .parts-held .result) (c .if4 .left))
+parts-held-fillings-again-2 t c = parting-held (c .before .before .before .before .before .before .before .before .before .before .before .before .before .before .before .before .before .before .before .before .before .before .before .before .before .before .args .file .now) (c .before .before .before .before .before .before .before .before .before .before .before .before .before .before .before .before .before .before .before .before .before .before .before .before .before .before .args .list .now) (c .before .before .before .before .before .before .before .before .before .before .before .before .before .before .before .before .before .before .before .before .before .before .before .before .before .before .args .sum .now) (c .before .before .before .before .before .before .before .before .before .before .before .before .before .before .before .before .before .before .before .before .before .before .before .before .before .before .args .n) (c .before .before .before .before .before .before .before .before .before .before .before .before .before .before .before .before .before .before .before .before .before .before .before .before .before .before .args .shape) (c .before .before .before .before .before .before .before .before .before .before .before .before .before .before .before .before .before .before .before .before .before .before .before .before .before .before .args .cube) (c .before .before .before .before .before .before .before .before .before .before .before .before .before .before .before .before .before .before .before .before .before .before .before .before .before .before .args .place) (c .before .before .before .before .before .before .before .before .loop .inv .0) (c .before .parts-held .ensures .0) (not-false (c .before .parts-held .result) (c .if4 .left))
 
--- src/search.rt:98:1
+-- src/search.rt:37:1
 parts-held-returns-3 : (t : ℕ) → parts-held-lts.Need-returns-3 (
   rooms-reads.Asked,
   rooms-reads.Learnt,

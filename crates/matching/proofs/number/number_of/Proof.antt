@@ -57,7 +57,7 @@ least-requires c κs = tt
 
 -- src/number.rt:111:5
 loop-holds : tie.Need-loop-holds Inv-loop μ-loop
-loop-holds c = (refl, signing-begin (min (c .before .before .before .before .before .before .before .before .before .args .shape .variables) 4) (c .before .wide .result) (c .before .before .before .before .before .before .before .before .before .args .t3) (c .before .before .before .before .before .before .before .before .before .args .cube .messages) (c .least .result) (omega (arith, c .least .ensures)) (subst (λ (k : ℕ). k < 262144) (sym (c .before .before .before .queues-taken .ensures .1)) (queues-small (min (c .before .before .before .before .before .before .before .before .before .args .shape .variables) 4) (c .before .before .before .before .before .before .before .before .before .args .cube .queues) (min (c .before .before .before .before .before .before .before .before .before .args .shape .processes) 4))))
+loop-holds c = (refl, signing-begin (min (c .before .before .before .before .before .before .before .before .before .args .shape .variables) 4) (c .before .wide .result) (c .before .before .before .before .before .before .before .before .before .args .tags .now) (c .before .before .before .before .before .before .before .before .before .args .cube .messages) (c .least .result) (omega (arith, c .least .ensures)) (subst (λ (k : ℕ). k < 262144) (sym (c .before .before .before .queues-taken .ensures .1)) (queues-small (min (c .before .before .before .before .before .before .before .before .before .args .shape .variables) 4) (c .before .before .before .before .before .before .before .before .before .args .cube .queues) (min (c .before .before .before .before .before .before .before .before .before .args .shape .processes) 4))))
 
 -- src/number.rt:112:9
 sub-i : tie.Need-sub-i Inv-loop μ-loop
@@ -68,20 +68,20 @@ mul-tag : tie.Need-mul-tag Inv-loop μ-loop
 mul-tag c = omega (arith, c .before .loop .inv .1 .few)
 
 -- src/number.rt:113:19
-array-read-tag : tie.Need-array-read-tag Inv-loop μ-loop
-array-read-tag c = omega (arith, c .before .loop .inv .1 .few, c .loop-test .taken)
+element-copy-out-tag : tie.Need-element-copy-out-tag Inv-loop μ-loop
+element-copy-out-tag c = omega (arith, c .before .loop .inv .1 .few, c .loop-test .taken)
 
 -- src/number.rt:115:23
 mul-message : tie.Need-mul-message Inv-loop μ-loop
-mul-message c = omega (arith, c .before .loop .inv .1 .few)
+mul-message c = omega (arith, c .before .before .loop .inv .1 .few)
 
 -- src/number.rt:115:23
 array-copy-out-message : tie.Need-array-copy-out-message Inv-loop μ-loop
-array-copy-out-message c = omega (arith, c .before .loop .inv .1 .few, c .loop-test .taken)
+array-copy-out-message c = omega (arith, c .before .before .loop .inv .1 .few, c .before .loop-test .taken)
 
 -- src/number.rt:116:9
 with-message-requires : tie.Need-with-message-requires Inv-loop μ-loop
-with-message-requires c κs = (omega (arith, c .before .before .loop .inv .1 .few), omega (arith, c .before .before .loop .inv .1 .few, c .before .loop-test .taken))
+with-message-requires c κs = (omega (arith, c .before .before .before .loop .inv .1 .few), omega (arith, c .before .before .before .loop .inv .1 .few, c .before .before .loop-test .taken))
 
 -- src/number.rt:118:17
 stir-requires : tie.Need-stir-requires Inv-loop μ-loop
@@ -89,23 +89,23 @@ stir-requires c κs = tt
 
 -- src/number.rt:119:13
 add-r : tie.Need-add-r Inv-loop μ-loop
-add-r c = omega (arith, c .before .before .before .before .before .loop .inv .1 .few)
+add-r c = omega (arith, c .before .before .before .before .before .before .loop .inv .1 .few)
 
 -- src/number.rt:111:5
 loop-less : tie.Need-loop-less Inv-loop μ-loop
-loop-less c = omega (arith, c .before .before .before .before .loop-test .taken)
+loop-less c = omega (arith, c .before .before .before .before .before .loop-test .taken)
 
 -- src/number.rt:111:5
 loop-again : tie.Need-loop-again Inv-loop μ-loop
-loop-again c = (tags-hit (c .before .before .before .before .before .before .before .before .before .before .before .before .before .before .before .args .t3) (c .before .before .before .before .before .loop .i) (c .before .before .before .before .before .loop .h) (withTags (c .before .before .before .before .before .before .before .before .before .before .before .before .before .before .before .args .t3) (c .before .before .before .before .before .before .least .result) (c .before .before .before .before .before .before .before .before .before .queues-taken .result .packed)) (c .before .before .before .before .before .loop .inv .0) (c .before .before .before .before .loop-test .taken) (leb-true 65536 (getD (c .before .before .before .before .before .before .before .before .before .before .before .before .before .before .before .args .t3) (c .before .before .before .before .before .loop .i - 1) 0) (c .before .if1 .taken)) (c .stir .ensures), message-signed (min (c .before .before .before .before .before .before .before .before .before .before .before .before .before .before .before .args .shape .variables) 4) (c .before .before .before .before .before .before .before .wide .result) (c .before .before .before .before .before .before .before .before .before .before .before .before .before .before .before .args .t3) (c .before .before .before .before .before .before .before .before .before .before .before .before .before .before .before .args .cube .messages) (signed (min (c .before .before .before .before .before .before .before .before .before .before .before .before .before .before .before .args .shape .variables) 4) (c .before .before .before .before .before .before .before .wide .result) (c .before .before .before .before .before .before .before .before .before .before .before .before .before .before .before .args .t3) (c .before .before .before .before .before .before .before .before .before .before .before .before .before .before .before .args .cube .messages) (c .before .before .before .before .before .before .least .result) 0 (c .before .before .before .before .before .before .before .before .before .queues-taken .result .bits)) (c .before .before .before .before .before .loop .i) (c .before .before .before .before .before .loop .r) (c .before .before .before .before .before .loop .bits) (leb 65536 (getD (c .before .before .before .before .before .before .before .before .before .before .before .before .before .before .before .args .t3) (c .before .before .before .before .before .loop .i - 1) 0)) (c .before .before .before .before .before .loop .inv .1) (subst (λ (k : ℕ). 0 < k) (sym (c .before .before .before .before .before .before .before .wide .ensures ∙ c .before .before .before .before .before .before .before .before .lowest .ensures)) (low-positive (c .before .before .before .before .before .before .before .before .before .before .before .before .before .before .before .args .shape) (c .before .before .before .before .before .before .before .before .before .before .before .before .before .before .before .args .cube .pointers))) (c .before .before .before .before .loop-test .taken) refl (c .before .before .with-message .ensures ∙ ap (λ (j : ℕ). cond (leb (c .before .before .before .before .before .before .before .wide .result) j) (bitOr (c .before .before .before .before .before .loop .bits) (messageBits (min (c .before .before .before .before .before .before .before .before .before .before .before .before .before .before .before .args .shape .variables) 4) (c .before .before .before .before .before .loop .r) (leb 65536 (getD (c .before .before .before .before .before .before .before .before .before .before .before .before .before .before .before .args .t3) (c .before .before .before .before .before .loop .i - 1) 0)) (getD (c .before .before .before .before .before .before .before .before .before .before .before .before .before .before .before .args .cube .messages) (c .before .before .before .before .before .loop .i - 1) noMessage))) (c .before .before .before .before .before .loop .bits)) (again-one (c .before .before .before .before .loop-test .taken))) (c .before .if1 .taken))
+loop-again c = (tags-hit (c .before .before .before .before .before .before .before .before .before .before .before .before .before .before .before .before .args .tags .now) (c .before .before .before .before .before .before .loop .i) (c .before .before .before .before .before .before .loop .h) (withTags (c .before .before .before .before .before .before .before .before .before .before .before .before .before .before .before .before .args .tags .now) (c .before .before .before .before .before .before .before .least .result) (c .before .before .before .before .before .before .before .before .before .before .queues-taken .result .packed)) (c .before .before .before .before .before .before .loop .inv .0) (c .before .before .before .before .before .loop-test .taken) (leb-true 65536 (getD (c .before .before .before .before .before .before .before .before .before .before .before .before .before .before .before .before .args .tags .now) (c .before .before .before .before .before .before .loop .i - 1) 0) (c .before .if1 .taken)) (c .stir .ensures), message-signed (min (c .before .before .before .before .before .before .before .before .before .before .before .before .before .before .before .before .args .shape .variables) 4) (c .before .before .before .before .before .before .before .before .wide .result) (c .before .before .before .before .before .before .before .before .before .before .before .before .before .before .before .before .args .tags .now) (c .before .before .before .before .before .before .before .before .before .before .before .before .before .before .before .before .args .cube .messages) (signed (min (c .before .before .before .before .before .before .before .before .before .before .before .before .before .before .before .before .args .shape .variables) 4) (c .before .before .before .before .before .before .before .before .wide .result) (c .before .before .before .before .before .before .before .before .before .before .before .before .before .before .before .before .args .tags .now) (c .before .before .before .before .before .before .before .before .before .before .before .before .before .before .before .before .args .cube .messages) (c .before .before .before .before .before .before .before .least .result) 0 (c .before .before .before .before .before .before .before .before .before .before .queues-taken .result .bits)) (c .before .before .before .before .before .before .loop .i) (c .before .before .before .before .before .before .loop .r) (c .before .before .before .before .before .before .loop .bits) (leb 65536 (getD (c .before .before .before .before .before .before .before .before .before .before .before .before .before .before .before .before .args .tags .now) (c .before .before .before .before .before .before .loop .i - 1) 0)) (c .before .before .before .before .before .before .loop .inv .1) (subst (λ (k : ℕ). 0 < k) (sym (c .before .before .before .before .before .before .before .before .wide .ensures ∙ c .before .before .before .before .before .before .before .before .before .lowest .ensures)) (low-positive (c .before .before .before .before .before .before .before .before .before .before .before .before .before .before .before .before .args .shape) (c .before .before .before .before .before .before .before .before .before .before .before .before .before .before .before .before .args .cube .pointers))) (c .before .before .before .before .before .loop-test .taken) refl (c .before .before .with-message .ensures ∙ ap (λ (j : ℕ). cond (leb (c .before .before .before .before .before .before .before .before .wide .result) j) (bitOr (c .before .before .before .before .before .before .loop .bits) (messageBits (min (c .before .before .before .before .before .before .before .before .before .before .before .before .before .before .before .before .args .shape .variables) 4) (c .before .before .before .before .before .before .loop .r) (leb 65536 (getD (c .before .before .before .before .before .before .before .before .before .before .before .before .before .before .before .before .args .tags .now) (c .before .before .before .before .before .before .loop .i - 1) 0)) (getD (c .before .before .before .before .before .before .before .before .before .before .before .before .before .before .before .before .args .cube .messages) (c .before .before .before .before .before .before .loop .i - 1) noMessage))) (c .before .before .before .before .before .before .loop .bits)) (again-one (c .before .before .before .before .before .loop-test .taken))) (c .before .if1 .taken))
 
 -- src/number.rt:111:5
 loop-less-2 : tie.Need-loop-less-2 Inv-loop μ-loop
-loop-less-2 c = omega (arith, c .before .before .before .loop-test .taken)
+loop-less-2 c = omega (arith, c .before .before .before .before .loop-test .taken)
 
 -- src/number.rt:111:5
 loop-again-2 : tie.Need-loop-again-2 Inv-loop μ-loop
-loop-again-2 c = (tags-pass (c .before .before .before .before .before .before .before .before .before .before .before .before .before .before .args .t3) (c .before .before .before .before .loop .i) (c .before .before .before .before .loop .h) (withTags (c .before .before .before .before .before .before .before .before .before .before .before .before .before .before .args .t3) (c .before .before .before .before .before .least .result) (c .before .before .before .before .before .before .before .before .queues-taken .result .packed)) (c .before .before .before .before .loop .inv .0) (c .before .before .before .loop-test .taken) (leb-false 65536 (getD (c .before .before .before .before .before .before .before .before .before .before .before .before .before .before .args .t3) (c .before .before .before .before .loop .i - 1) 0) (c .if1 .left)), message-unsigned (min (c .before .before .before .before .before .before .before .before .before .before .before .before .before .before .args .shape .variables) 4) (c .before .before .before .before .before .before .wide .result) (c .before .before .before .before .before .before .before .before .before .before .before .before .before .before .args .t3) (c .before .before .before .before .before .before .before .before .before .before .before .before .before .before .args .cube .messages) (signed (min (c .before .before .before .before .before .before .before .before .before .before .before .before .before .before .args .shape .variables) 4) (c .before .before .before .before .before .before .wide .result) (c .before .before .before .before .before .before .before .before .before .before .before .before .before .before .args .t3) (c .before .before .before .before .before .before .before .before .before .before .before .before .before .before .args .cube .messages) (c .before .before .before .before .before .least .result) 0 (c .before .before .before .before .before .before .before .before .queues-taken .result .bits)) (c .before .before .before .before .loop .i) (c .before .before .before .before .loop .r) (c .before .before .before .before .loop .bits) (leb 65536 (getD (c .before .before .before .before .before .before .before .before .before .before .before .before .before .before .args .t3) (c .before .before .before .before .loop .i - 1) 0)) (c .before .before .before .before .loop .inv .1) (subst (λ (k : ℕ). 0 < k) (sym (c .before .before .before .before .before .before .wide .ensures ∙ c .before .before .before .before .before .before .before .lowest .ensures)) (low-positive (c .before .before .before .before .before .before .before .before .before .before .before .before .before .before .args .shape) (c .before .before .before .before .before .before .before .before .before .before .before .before .before .before .args .cube .pointers))) (c .before .before .before .loop-test .taken) refl (c .before .with-message .ensures ∙ ap (λ (j : ℕ). cond (leb (c .before .before .before .before .before .before .wide .result) j) (bitOr (c .before .before .before .before .loop .bits) (messageBits (min (c .before .before .before .before .before .before .before .before .before .before .before .before .before .before .args .shape .variables) 4) (c .before .before .before .before .loop .r) (leb 65536 (getD (c .before .before .before .before .before .before .before .before .before .before .before .before .before .before .args .t3) (c .before .before .before .before .loop .i - 1) 0)) (getD (c .before .before .before .before .before .before .before .before .before .before .before .before .before .before .args .cube .messages) (c .before .before .before .before .loop .i - 1) noMessage))) (c .before .before .before .before .loop .bits)) (again-one (c .before .before .before .loop-test .taken))) (c .if1 .left))
+loop-again-2 c = (tags-pass (c .before .before .before .before .before .before .before .before .before .before .before .before .before .before .before .args .tags .now) (c .before .before .before .before .before .loop .i) (c .before .before .before .before .before .loop .h) (withTags (c .before .before .before .before .before .before .before .before .before .before .before .before .before .before .before .args .tags .now) (c .before .before .before .before .before .before .least .result) (c .before .before .before .before .before .before .before .before .before .queues-taken .result .packed)) (c .before .before .before .before .before .loop .inv .0) (c .before .before .before .before .loop-test .taken) (leb-false 65536 (getD (c .before .before .before .before .before .before .before .before .before .before .before .before .before .before .before .args .tags .now) (c .before .before .before .before .before .loop .i - 1) 0) (c .if1 .left)), message-unsigned (min (c .before .before .before .before .before .before .before .before .before .before .before .before .before .before .before .args .shape .variables) 4) (c .before .before .before .before .before .before .before .wide .result) (c .before .before .before .before .before .before .before .before .before .before .before .before .before .before .before .args .tags .now) (c .before .before .before .before .before .before .before .before .before .before .before .before .before .before .before .args .cube .messages) (signed (min (c .before .before .before .before .before .before .before .before .before .before .before .before .before .before .before .args .shape .variables) 4) (c .before .before .before .before .before .before .before .wide .result) (c .before .before .before .before .before .before .before .before .before .before .before .before .before .before .before .args .tags .now) (c .before .before .before .before .before .before .before .before .before .before .before .before .before .before .before .args .cube .messages) (c .before .before .before .before .before .before .least .result) 0 (c .before .before .before .before .before .before .before .before .before .queues-taken .result .bits)) (c .before .before .before .before .before .loop .i) (c .before .before .before .before .before .loop .r) (c .before .before .before .before .before .loop .bits) (leb 65536 (getD (c .before .before .before .before .before .before .before .before .before .before .before .before .before .before .before .args .tags .now) (c .before .before .before .before .before .loop .i - 1) 0)) (c .before .before .before .before .before .loop .inv .1) (subst (λ (k : ℕ). 0 < k) (sym (c .before .before .before .before .before .before .before .wide .ensures ∙ c .before .before .before .before .before .before .before .before .lowest .ensures)) (low-positive (c .before .before .before .before .before .before .before .before .before .before .before .before .before .before .before .args .shape) (c .before .before .before .before .before .before .before .before .before .before .before .before .before .before .before .args .cube .pointers))) (c .before .before .before .before .loop-test .taken) refl (c .before .with-message .ensures ∙ ap (λ (j : ℕ). cond (leb (c .before .before .before .before .before .before .before .wide .result) j) (bitOr (c .before .before .before .before .before .loop .bits) (messageBits (min (c .before .before .before .before .before .before .before .before .before .before .before .before .before .before .before .args .shape .variables) 4) (c .before .before .before .before .before .loop .r) (leb 65536 (getD (c .before .before .before .before .before .before .before .before .before .before .before .before .before .before .before .args .tags .now) (c .before .before .before .before .before .loop .i - 1) 0)) (getD (c .before .before .before .before .before .before .before .before .before .before .before .before .before .before .before .args .cube .messages) (c .before .before .before .before .before .loop .i - 1) noMessage))) (c .before .before .before .before .before .loop .bits)) (again-one (c .before .before .before .before .loop-test .taken))) (c .if1 .left))
 
 -- src/number.rt:122:20
 stir-requires-2 : tie.Need-stir-requires-2 Inv-loop μ-loop
@@ -119,8 +119,8 @@ with-signature-requires c κs = c .before .before .loop .inv .1 .small
 returns : tie.Need-returns Inv-loop μ-loop
 returns c = λ e.
     let z : c .before .before .before .loop .i ≡ 0 = omega (arith, c .before .before .loop-test .left) in
-    number-gathered (c .before .before .before .before .before .before .before .before .before .before .before .before .before .args .shape) (c .before .before .before .before .before .before .before .before .before .before .before .before .before .args .cube) (c .before .before .before .before .before .before .before .before .before .before .before .before .before .args .t3) (c .before .before .before .loop .h) e (c .before .before .before .before .least .ensures) (c .before .before .before .before .before .before .before .before .packed-states .ensures) (c .before .before .before .before .before .before .before .queues-taken .ensures .0) z (c .before .before .before .loop .inv .0) (c .before .stir2 .ensures)
-    (signing-end (c .before .before .before .before .before .before .before .before .before .before .before .before .before .args .shape) (c .before .before .before .before .before .before .before .before .before .before .before .before .before .args .cube) (c .before .before .before .before .before .wide .ensures ∙ c .before .before .before .before .before .before .lowest .ensures) (c .before .before .before .before .least .ensures) (c .before .before .before .before .before .before .before .queues-taken .ensures .1) (subst (λ (j : ℕ). Signing (min (c .before .before .before .before .before .before .before .before .before .before .before .before .before .args .shape .variables) 4) (c .before .before .before .before .before .wide .result) (c .before .before .before .before .before .before .before .before .before .before .before .before .before .args .t3) (c .before .before .before .before .before .before .before .before .before .before .before .before .before .args .cube .messages) (signed (min (c .before .before .before .before .before .before .before .before .before .before .before .before .before .args .shape .variables) 4) (c .before .before .before .before .before .wide .result) (c .before .before .before .before .before .before .before .before .before .before .before .before .before .args .t3) (c .before .before .before .before .before .before .before .before .before .before .before .before .before .args .cube .messages) (c .before .before .before .before .least .result) 0 (c .before .before .before .before .before .before .before .queues-taken .result .bits)) j (c .before .before .before .loop .r) (c .before .before .before .loop .bits)) z (c .before .before .before .loop .inv .1)) e)
+    number-gathered (c .before .before .before .before .before .before .before .before .before .before .before .before .before .args .shape) (c .before .before .before .before .before .before .before .before .before .before .before .before .before .args .cube) (c .before .before .before .before .before .before .before .before .before .before .before .before .before .args .tags .now) (c .before .before .before .loop .h) e (c .before .before .before .before .least .ensures) (c .before .before .before .before .before .before .before .before .packed-states .ensures) (c .before .before .before .before .before .before .before .queues-taken .ensures .0) z (c .before .before .before .loop .inv .0) (c .before .stir2 .ensures)
+    (signing-end (c .before .before .before .before .before .before .before .before .before .before .before .before .before .args .shape) (c .before .before .before .before .before .before .before .before .before .before .before .before .before .args .cube) (c .before .before .before .before .before .wide .ensures ∙ c .before .before .before .before .before .before .lowest .ensures) (c .before .before .before .before .least .ensures) (c .before .before .before .before .before .before .before .queues-taken .ensures .1) (subst (λ (j : ℕ). Signing (min (c .before .before .before .before .before .before .before .before .before .before .before .before .before .args .shape .variables) 4) (c .before .before .before .before .before .wide .result) (c .before .before .before .before .before .before .before .before .before .before .before .before .before .args .tags .now) (c .before .before .before .before .before .before .before .before .before .before .before .before .before .args .cube .messages) (signed (min (c .before .before .before .before .before .before .before .before .before .before .before .before .before .args .shape .variables) 4) (c .before .before .before .before .before .wide .result) (c .before .before .before .before .before .before .before .before .before .before .before .before .before .args .tags .now) (c .before .before .before .before .before .before .before .before .before .before .before .before .before .args .cube .messages) (c .before .before .before .before .least .result) 0 (c .before .before .before .before .before .before .before .queues-taken .result .bits)) j (c .before .before .before .loop .r) (c .before .before .before .loop .bits)) z (c .before .before .before .loop .inv .1)) e)
     (c .with-signature .ensures)
 
 pub number-of-spec : {M : Type 1} → statement M
@@ -137,7 +137,7 @@ number-of-spec =
     loop-holds
     sub-i
     mul-tag
-    array-read-tag
+    element-copy-out-tag
     mul-message
     array-copy-out-message
     with-message-requires
