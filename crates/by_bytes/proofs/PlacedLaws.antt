@@ -26,7 +26,8 @@ use Rattle.matching.specs.Match.{channelMatches}
 use Rattle.matching.proofs.Below.{and-false}
 use Rattle.matching.proofs.TagLaws.{tag-is}
 use Rattle.matching.proofs.MarkLaws.{tags-at}
-use Rattle.by_bytes.specs.Same.{Cue, Cues, Kinds, Stands, PointsSame, PointsOther}
+use Rattle.matching.specs.Cue.{Cue, Cues}
+use Rattle.by_bytes.specs.Same.{Kinds, Stands, PointsSame, PointsOther}
 use Rattle.by_bytes.specs.Against.{Against}
 use Rattle.by_bytes.proofs.TracedLaws.{maskIn, Traced, traced-matches}
 use Rattle.by_bytes.proofs.LeftLaws.{cannot-stand, Left, left-begin, left-keep, left-skip, left-over}
@@ -109,10 +110,10 @@ module _ (exact : Bool) (f : List ℕ) (k : ℕ) {cue label rest : ℕ} (m : Mes
         bytes : cue / 2 / 65536 % 256 ∷ cue / 2 / 65536 / 256 % 256 ∷ cue / 2 / 65536 / 65536 % 256 ∷ cue / 2 / 65536 / 16777216 % 256 ∷ []
             ≡ getD (m .snapshot) 0 0 ∷ getD (m .snapshot) 1 0 ∷ getD (m .snapshot) 2 0 ∷ getD (m .snapshot) 3 0 ∷ []
         bytes = cons
-            (omega (arith, v, W .is, W .first, W .second, W .third, K .last))
-            (omega (arith, v, W .is, W .first, W .second, W .third, K .last))
-            (omega (arith, v, W .is, W .first, W .second, W .third, K .last))
-            (omega (arith, v, W .is, W .first, W .second, W .third, K .last))
+            (omega (arith, v, W .is, W .first, W .second, W .third, W .fourth))
+            (omega (arith, v, W .is, W .first, W .second, W .third, W .fourth))
+            (omega (arith, v, W .is, W .first, W .second, W .third, W .fourth))
+            (omega (arith, v, W .is, W .first, W .second, W .third, W .fourth))
 
         four : (xs : List ℕ) → length xs ≡ 4 → xs ≡ getD xs 0 0 ∷ getD xs 1 0 ∷ getD xs 2 0 ∷ getD xs 3 0 ∷ []
         four [] n = absurd (omega arith)
@@ -121,27 +122,6 @@ module _ (exact : Bool) (f : List ℕ) (k : ℕ) {cue label rest : ℕ} (m : Mes
         four (a ∷ b ∷ c ∷ []) n = absurd (omega arith)
         four (a ∷ b ∷ c ∷ d ∷ []) n = refl
         four (a ∷ b ∷ c ∷ d ∷ e ∷ xs) n = absurd (omega arith)
-
--- the cues of the first i messages
-pub record Cueing (ms : List Message) (tags cues : List ℕ) (n i : ℕ) : Type 0 where
-  pub most : i ≤ n
-  pub room : length cues ≡ 20
-  pub each : (j : ℕ) → j < i → Cue (getD cues j 0) (getD ms j noMessage) (getD tags j 0)
-
-pub cueing-begin : (ms : List Message) (tags : List ℕ) {cues : List ℕ} (n : ℕ) → length cues ≡ 20 → Cueing ms tags cues n 0
-cueing-begin ms tags n e = record { most = omega arith; room = e; each = λ j l. absurd (omega arith) }
-
-pub cueing-next : {ms : List Message} {tags cues : List ℕ} {n i r : ℕ} → Cueing ms tags cues n i → i < n → n ≤ 20 → Cue r (getD ms i noMessage) (getD tags i 0) → Cueing ms tags (set cues i r) n (i + 1)
-cueing-next {ms} {tags} {cues} {n} {i} {r} w l b K =
-    record {
-      most = omega arith;
-      room = length-set cues i r ∙ w .room;
-      each = λ j g. elim (ℕ-discrete j i) [
-        | yes d ↦ subst (λ (x : ℕ). Cue (getD (set cues i r) x 0) (getD ms x noMessage) (getD tags x 0)) (sym d)
-            (subst (λ (x : ℕ). Cue x (getD ms i noMessage) (getD tags i 0)) (sym (getD-set-same cues i r 0 (omega (arith, w .room)))) K)
-        | no d ↦ subst (λ (x : ℕ). Cue x (getD ms j noMessage) (getD tags j 0)) (sym (getD-set-other cues i j r 0 (λ q. omega arith))) (w .each j (omega arith))
-      ];
-    }
 
 pub one-points : {z w i j : ℕ} → z ≡ i → (w ≡ j → ⊥) → eqb z i ≡ eqb w j → ⊥
 one-points {z} {w} {i} {j} d e f = e (eqb-true w j (sym f ∙ eq-eqb z i d))

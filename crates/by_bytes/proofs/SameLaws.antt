@@ -105,7 +105,7 @@ pub waits-is : (f : List ℕ) (k : ℕ) {q w : ℕ} {x r : Bool} → q < 16 → 
 unfolding loadsWaiting isKind
 waits-is f k {q} {w} {x} {r} l e g v h t =
     let z = eqb-true w (18 + 256 * (q / 4) + 65536 * (q % 4)) (sym h ∙ t) in
-    let u : Word 18 (q / 4) (q % 4) 0 (18 + 256 * (q / 4) + 65536 * (q % 4)) = record { is = omega arith; first = omega arith; second = omega arith; third = omega arith } in
+    let u : Word 18 (q / 4) (q % 4) 0 (18 + 256 * (q / 4) + 65536 * (q % 4)) = record { is = omega arith; first = omega arith; second = omega arith; third = omega arith; fourth = omega arith } in
     let y = same-bytes v u z in
     record {
       loads = ap₂ _&&_ (eq-eqb (byte f k) 18 (y .first)) (ap₂ _&&_ (lt-ltb (byte f (k + 1)) 4 (omega (arith, y .second))) (lt-ltb (byte f (k + 2)) 4 (omega (arith, y .third))));

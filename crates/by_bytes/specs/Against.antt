@@ -4,7 +4,7 @@ use mathlib.Core.List.{List}
 use Rattle.program_part.specs.declared.program.Shape.{Shape}
 use Rattle.whole_file.specs.declared.entry.Cube.{Cube}
 use Rattle.matching.specs.Tags.{tagsOf}
-use Rattle.by_bytes.specs.Same.{Cues}
+use Rattle.matching.specs.Cue.{Cues}
 
 -- the sizes that the code has room for
 pub record Sized (s : Shape) (c : Cube) : Type 0 where

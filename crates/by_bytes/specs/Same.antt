@@ -16,27 +16,9 @@ use Rattle.whole_file.specs.Tally.{queueAt}
 use Rattle.whole_file.specs.Cube.{noQueue, emptyQueue, loadsWaiting, pushed, loadEntry}
 use Rattle.lists.specs.Values.{pairwise}
 use Rattle.matching.specs.Relation.{relation}
-use Rattle.matching.specs.Word.{Word}
 use Rattle.matching.specs.Match.{queueRow}
 
 -- ---- messages
-
--- a message of four values, each of a byte, and, if the number is even, no role
-pub record Cue (r : ℕ) (m : Message) (tag : ℕ) : Type 0 where
-  pub label : ℕ
-  pub rest : ℕ
-  pub odd : ℕ
-  pub is : r ≡ 2 * (label + 65536 * rest) + odd
-  pub bit : odd < 2
-  pub none : odd ≡ 0 → tag < 65536
-  pub labels : Word (m .process) (m .variable) 0 0 label
-  pub four : length (m .snapshot) ≡ 4
-  pub snapshot : Word (getD (m .snapshot) 0 0) (getD (m .snapshot) 1 0) (getD (m .snapshot) 2 0) (getD (m .snapshot) 3 0) rest
-  pub last : getD (m .snapshot) 3 0 < 256
-
--- the messages of a cube, with their tags
-abbrev pub Cues : Cube → List ℕ → List ℕ → Type 0
-Cues c tags cues = (j : ℕ) → j < min (c .count) 20 → Cue (getD cues j 0) (getD (c .messages) j noMessage) (getD tags j 0)
 
 -- from the 10 at a place on up to k there are 12s alone
 pub data Leads (f : List ℕ) (at : ℕ) : ℕ → Type 0 where

@@ -20,11 +20,8 @@ use program_part::program::Shape;
 use whole_file::entry::Cube;
 use whole_file::entry::Queue;
 
-mod cues;
 mod messages;
 mod queues;
-
-pub use cues::cues_of;
 
 // The entry is told, and then whether it matches.
 pub struct Compared {

@@ -2,7 +2,7 @@
 ghost use mathlib.Core.Path.{_≡_};
 ghost use mathlib.Core.Bool.{true, false};
 ghost use mathlib.Core.List.{[], _∷_};
-ghost use Prim.Native.Nat.{ℕ, _+_, _*_, _≤_, _<_, min};
+ghost use Prim.Native.Nat.{ℕ, _+_, _*_, _/_, _%_, _≤_, _<_, min};
 ghost use lib.ListN.{length};
 ghost use Rattle.program_part.specs.Bytes.{byte};
 ghost use Rattle.program_part.specs.Records.{messageAt};
@@ -12,11 +12,10 @@ ghost use Rattle.whole_file.specs.Cube.{loadsWaiting};
 ghost use Rattle.lists.specs.Matching.{messageMatches};
 ghost use Rattle.matching.specs.Relation.{relation};
 ghost use Rattle.matching.specs.Match.{channelMatches};
-ghost use Rattle.by_bytes.specs.Same.{Cue, Leads, Kinds, Stands, PointsSame, PointsOther};
+ghost use Rattle.matching.specs.Cue.{Cue};
+ghost use Rattle.by_bytes.specs.Same.{Leads, Kinds, Stands, PointsSame, PointsOther};
 ghost use Rattle.by_bytes.specs.Against.{Against};
 use crate::Compared;
-use crate::cues::bytes_of;
-use crate::cues::joined;
 use crate::not_same;
 use crate::told;
 use matching::least;
@@ -112,13 +111,25 @@ fn points_other(processes: usize, pointers: [u8; 4], own: [u8; 4], i: usize, j: 
     false
 }
 
+// The four bytes that a number has.
+fn bytes_of(x: usize) -> [u8; 4]
+    ensures { λ r. ⌜ r ≡ x % 256 ∷ x / 256 % 256 ∷ x / 65536 % 256 ∷ x / 16777216 % 256 ∷ [] ⌝ }
+{
+    [
+        (x % 256) as u8,
+        (x / 256 % 256) as u8,
+        (x / 65536 % 256) as u8,
+        (x / 16777216 % 256) as u8,
+    ]
+}
+
 // The 11 at a place has the label of the message that a cue tells, and values that are related to its own.
 fn meets(exact: bool, file: &[u8], k: usize, cue: usize) -> bool
     requires { ⌜ k + 7 ≤ length (now file) ⌝ }
     ensures { λ r. ⌜ ((m : Messages) → (tag : ℕ) → Cue cue m tag → r ≡ messageMatches (relation exact) (messageAt (now (file .entry)) k) m) ⌝ }
 {
     let label = word(file[k + 1], file[k + 2], 0, 0);
-    let rest = joined(file[k + 3], file[k + 4], file[k + 5], file[k + 6]);
+    let rest = word(file[k + 3], file[k + 4], file[k + 5], file[k + 6]);
     let other = cue / 2;
     // most often they are the same, and one comparison says so
     if label + 65536 * rest == other {

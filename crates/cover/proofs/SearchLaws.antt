@@ -34,7 +34,7 @@ use Rattle.cover.specs.declared.place.Place.the-variants.{Whole, Waiting
 use Rattle.cover.specs.Places.{partOf, isWhole, isFree, proper, fillings, NoneFree}
 use Rattle.cover.specs.Search.{Covered, by-entry, by-parts, Plain, Searchable, Tried, Uncovered, Unmet, Stuck}
 use Rattle.by_bytes.specs.Against.{Sized, Against}
-use Rattle.by_bytes.specs.Same.{Cues}
+use Rattle.matching.specs.Cue.{Cues}
 use Rattle.cover.proofs.PlaceLaws.{true-not-false}
 use Rattle.cover.proofs.EntryLaws.{load-few}
 use Rattle.cover.proofs.PartLaws.{part-count}

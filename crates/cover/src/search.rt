@@ -16,7 +16,6 @@ use crate::place::fillings;
 use crate::place::is_whole;
 use crate::place::part_of;
 use crate::split::place_for;
-use by_bytes::cues_of;
 use matching::number_of;
 use matching::tags_of;
 use program_part::program::Shape;
@@ -53,9 +52,8 @@ fn parts_held(
         let part = part_of(cube, place, x as u8);
         let mut right = [0u64; 20];
         tags_of(shape, part, &mut right);
-        let number = number_of(shape, part, &right);
         let mut cues = [0usize; 20];
-        cues_of(part, &right, &mut cues);
+        let number = number_of(shape, part, &right, &mut cues);
         let states = part.states;
         let mut walk = walk_from(file, list, sum, n, shape, states, number);
         while walk.entry != 0 {
@@ -97,9 +95,8 @@ pub fn search(file: &[u8], list: &[u8], sum: &[u8], n: usize, shape: Shape, cube
     let sizes = rooms(cube);
     let mut right = [0u64; 20];
     tags_of(shape, cube, &mut right);
-    let number = number_of(shape, cube, &right);
     let mut cues = [0usize; 20];
-    cues_of(cube, &right, &mut cues);
+    let number = number_of(shape, cube, &right, &mut cues);
     let states = cube.states;
     let mut walk = walk_from(file, list, sum, n, shape, states, number);
     while walk.entry != 0 {

@@ -10,3 +10,4 @@ pub mod KeyLaws
 pub mod NumberLaws
 pub mod PackLaws
 pub mod SignatureLaws
+pub mod CueLaws

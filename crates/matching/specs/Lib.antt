@@ -6,3 +6,4 @@ pub mod Key
 pub mod Signature
 pub mod Number
 pub mod Word
+pub mod Cue

@@ -7,3 +7,4 @@ pub record Word (a b c d r : ℕ) : Type 0 where
   pub first : a < 256
   pub second : b < 256
   pub third : c < 256
+  pub fourth : d < 256

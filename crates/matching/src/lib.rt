@@ -2,6 +2,7 @@
 // no map of messages is searched for. What all matches of a cube have in common is its key, and a key has a number.
 
 mod channel;
+mod cues;
 mod number;
 mod queues;
 mod signature;

@@ -1,9 +1,12 @@
 // The number of a cube: its key is mixed by shifting and xor only, with no sum that could overflow and no product.
 ghost use mathlib.Core.Path.{_≡_};
 ghost use Prim.Native.Nat.{_<_, min};
+ghost use lib.ListN.{length};
 ghost use Rattle.matching.specs.Tags.{tagsOf};
+ghost use Rattle.matching.specs.Cue.{Cues};
 ghost use Rattle.matching.specs.Signature.{queueBits};
 ghost use Rattle.matching.specs.Number.{stir, packedStates, emptyBit, packedQueues, statesMixed, withSignature, widened, numberOf};
+use crate::cues::cue_of;
 use crate::signature::wait_bits;
 use crate::signature::with_message;
 use crate::tags::lowest;
@@ -93,9 +96,10 @@ fn with_signature(h: u64, signature: usize) -> u64
 }
 
 // The number of a cube: of its key in the upper bits and the lowest two, that is of states, which queues are empty, and the tags with a role, newest
-// first; and its signature between them.
-pub fn number_of(shape: Shape, cube: Cube, tags: &[u64; 20]) -> u64
+// first; and its signature between them. The cues of its messages are left in an array that the caller lends: all are walked once.
+pub fn number_of(shape: Shape, cube: Cube, tags: &[u64; 20], cues: &mut [usize; 20]) -> u64
     ensures { λ r. ⌜ (now (tags .entry) ≡ tagsOf shape cube → r ≡ numberOf shape cube) ⌝ }
+    ensures { λ _. ⌜ (length (now (cues .entry)) ≡ 20 → Cues cube (now (tags .entry)) (now (cues .exit))) ⌝ }
 {
     let states = cube.states;
     let queues = cube.queues;
@@ -113,6 +117,7 @@ pub fn number_of(shape: Shape, cube: Cube, tags: &[u64; 20]) -> u64
         let tag = tags[i];
         let role = 65536 <= tag;
         let message = messages[i];
+        cues[i] = cue_of(message, tag);
         bits = with_message(shape.variables, low, i, r, role, message, bits);
         if role {
             h = stir(h) ^ tag;

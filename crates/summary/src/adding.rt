@@ -121,9 +121,11 @@ fn place_of(file: &[u8], upper: &[u8], at: usize, n: usize, shape: Shape, k: usi
     }
     let mut tags = [0u64; 20];
     tags_of(shape, cube, &mut tags);
+    // an entry's cues are not looked at
+    let mut cues = [0usize; 20];
     Joining {
         leader: leader,
-        number: number_of(shape, cube, &tags),
+        number: number_of(shape, cube, &tags, &mut cues),
     }
 }
 

@@ -18,32 +18,32 @@ meets-spec = tie.close (tie.spec
     (λ c. search needs)
     -- word-requires
     (λ c κs. tt)
-    -- add-joined
+    -- add-word-3
     (λ c. search needs)
-    -- shared-slice-read-joined
+    -- shared-slice-read-word-3
     (λ c. search needs)
-    -- add-joined-2
+    -- add-word-4
     (λ c. search needs)
-    -- shared-slice-read-joined-2
+    -- shared-slice-read-word-4
     (λ c. search needs)
-    -- add-joined-3
+    -- add-word-5
     (λ c. search needs)
-    -- shared-slice-read-joined-3
+    -- shared-slice-read-word-5
     (λ c. search needs)
-    -- add-joined-4
+    -- add-word-6
     (λ c. search needs)
-    -- shared-slice-read-joined-4
+    -- shared-slice-read-word-6
     (λ c. search needs)
-    -- joined-requires
+    -- word-requires-2
     (λ c κs. tt)
     -- mul-if1
-    (λ c. omega (arith, c .before .before .before .before .before .word .ensures .1 .is, c .before .before .before .before .before .word .ensures .1 .first, c .before .before .before .before .before .word .ensures .1 .second, c .joined .ensures .0 .is, c .joined .ensures .0 .first, c .joined .ensures .0 .second, c .joined .ensures .0 .third, c .joined .ensures .1))
+    (λ c. omega (arith, c .before .before .before .before .before .word .ensures .1 .is, c .before .before .before .before .before .word .ensures .1 .first, c .before .before .before .before .before .word .ensures .1 .second, c .word2 .ensures .1 .is, c .word2 .ensures .1 .first, c .word2 .ensures .1 .second, c .word2 .ensures .1 .third, c .word2 .ensures .1 .fourth))
     -- add-if1
-    (λ c. omega (arith, c .before .before .before .before .before .word .ensures .1 .is, c .before .before .before .before .before .word .ensures .1 .first, c .before .before .before .before .before .word .ensures .1 .second, c .joined .ensures .0 .is, c .joined .ensures .0 .first, c .joined .ensures .0 .second, c .joined .ensures .0 .third, c .joined .ensures .1))
+    (λ c. omega (arith, c .before .before .before .before .before .word .ensures .1 .is, c .before .before .before .before .before .word .ensures .1 .first, c .before .before .before .before .before .word .ensures .1 .second, c .word2 .ensures .1 .is, c .word2 .ensures .1 .first, c .word2 .ensures .1 .second, c .word2 .ensures .1 .third, c .word2 .ensures .1 .fourth))
     -- returns
-    (λ c. λ m tag K. cue-same (c .before .before .before .before .before .before .before .before .before .before .args .exact) (c .before .before .before .before .before .before .before .before .before .before .args .file .now) (c .before .before .before .before .before .before .before .before .before .before .args .k) m K (c .before .before .before .before .before .before .word .ensures .1) (c .before .joined .ensures .0) (c .if1 .taken))
+    (λ c. λ m tag K. cue-same (c .before .before .before .before .before .before .before .before .before .before .args .exact) (c .before .before .before .before .before .before .before .before .before .before .args .file .now) (c .before .before .before .before .before .before .before .before .before .before .args .k) m K (c .before .before .before .before .before .before .word .ensures .1) (c .before .word2 .ensures .1) (c .if1 .taken))
     -- returns-2
-    (λ c. λ m tag K. cue-other (c .before .before .before .before .before .before .before .before .before .before .before .args .exact) (c .before .before .before .before .before .before .before .before .before .before .before .args .file .now) (c .before .before .before .before .before .before .before .before .before .before .before .args .k) m K (c .before .before .before .before .before .before .before .word .ensures .1) (c .before .before .joined .ensures .0) (c .if2 .taken))
+    (λ c. λ m tag K. cue-other (c .before .before .before .before .before .before .before .before .before .before .before .args .exact) (c .before .before .before .before .before .before .before .before .before .before .before .args .file .now) (c .before .before .before .before .before .before .before .before .before .before .before .args .k) m K (c .before .before .before .before .before .before .before .word .ensures .1) (c .before .before .word2 .ensures .1) (c .if2 .taken))
     -- add-t12
     (λ c. search needs)
     -- shared-slice-read-t22
@@ -65,4 +65,4 @@ meets-spec = tie.close (tie.spec
     -- values-related-requires
     (λ c κs. tt)
     -- returns-3
-    (λ c. λ m tag K. cue-values (c .before .before .before .before .before .before .before .before .before .before .before .before .before .before .before .before .before .args .exact) (c .before .before .before .before .before .before .before .before .before .before .before .before .before .before .before .before .before .args .file .now) (c .before .before .before .before .before .before .before .before .before .before .before .before .before .before .before .before .before .args .k) m K (c .before .before .before .before .before .before .before .before .before .before .before .before .before .word .ensures .1) (c .before .before .before .before .before .before .before .before .joined .ensures .0) (c .before .before .before .before .before .before .if2 .left) (c .before .bytes-of .ensures) (c .values-related .ensures)))
+    (λ c. λ m tag K. cue-values (c .before .before .before .before .before .before .before .before .before .before .before .before .before .before .before .before .before .args .exact) (c .before .before .before .before .before .before .before .before .before .before .before .before .before .before .before .before .before .args .file .now) (c .before .before .before .before .before .before .before .before .before .before .before .before .before .before .before .before .before .args .k) m K (c .before .before .before .before .before .before .before .before .before .before .before .before .before .word .ensures .1) (c .before .before .before .before .before .before .before .before .word2 .ensures .1) (c .before .before .before .before .before .before .if2 .left) (c .before .bytes-of .ensures) (c .values-related .ensures)))

@@ -14,7 +14,6 @@ use borrow.Fn.PlainCycle.{Measures, is, falls, and}
 use Rattle.cover.proofs.search.parts_held.Reads as parts-held
 use Rattle.cover.proofs.search.parts_held.Kinds as parts-held-kinds
 use Rattle.cover.proofs.search.+parts_held.Lts-parts_held as parts-held-lts
-use Rattle.by_bytes.proofs.cues_of.Reads as cues-of-reads
 use Rattle.cover.proofs.entry.matches_at.Reads as matches-at-reads
 use Rattle.cover.proofs.place.fillings.Reads as fillings-reads
 use Rattle.cover.proofs.place.is_whole.Reads as is-whole-reads
@@ -40,10 +39,10 @@ parts-held-below t =
     and 3 parts-held-kinds.ps (falls 3 parts-held-kinds.ps _<_ μ-parts-held t) parts-held.Pre
 
 abbrev parts-held-Inv-loop : parts-held-lts.InvT-loop
-parts-held-Inv-loop file list sum n shape cube place sizes m x₀ part number cues states walk₀ x walk = Parting file list sum n shape cube place part cues number x walk × (x ≡ x₀)
+parts-held-Inv-loop file list sum n shape cube place sizes m x₀ part cues number states walk₀ x walk = Parting file list sum n shape cube place part cues number x walk × (x ≡ x₀)
 
 abbrev parts-held-μ-loop : parts-held-lts.MeasureT-loop
-parts-held-μ-loop file list sum n shape cube place sizes m x₀ part number cues states walk₀ x walk = far walk
+parts-held-μ-loop file list sum n shape cube place sizes m x₀ part cues number states walk₀ x walk = far walk
 
 abbrev parts-held-Inv-fillings : parts-held-lts.InvT-fillings
 parts-held-Inv-fillings file list sum n shape cube place sizes m x₀ x = Parts file list sum n shape cube place x
@@ -63,8 +62,6 @@ parts-held-rooms-requires : (t : ℕ) → parts-held-lts.Need-rooms-requires (
   tags-of-reads.Learnt,
   number-of-reads.Asked,
   number-of-reads.Learnt,
-  cues-of-reads.Asked,
-  cues-of-reads.Learnt,
   walk-from-reads.Asked,
   walk-from-reads.Learnt,
   matches-at-reads.Asked,
@@ -98,8 +95,6 @@ parts-held-fillings-requires : (t : ℕ) → parts-held-lts.Need-fillings-requir
   tags-of-reads.Learnt,
   number-of-reads.Asked,
   number-of-reads.Learnt,
-  cues-of-reads.Asked,
-  cues-of-reads.Learnt,
   walk-from-reads.Asked,
   walk-from-reads.Learnt,
   matches-at-reads.Asked,
@@ -133,8 +128,6 @@ parts-held-fillings-holds : (t : ℕ) → parts-held-lts.Need-fillings-holds (
   tags-of-reads.Learnt,
   number-of-reads.Asked,
   number-of-reads.Learnt,
-  cues-of-reads.Asked,
-  cues-of-reads.Learnt,
   walk-from-reads.Asked,
   walk-from-reads.Learnt,
   matches-at-reads.Asked,
@@ -168,8 +161,6 @@ parts-held-cast-part-of : (t : ℕ) → parts-held-lts.Need-cast-part-of (
   tags-of-reads.Learnt,
   number-of-reads.Asked,
   number-of-reads.Learnt,
-  cues-of-reads.Asked,
-  cues-of-reads.Learnt,
   walk-from-reads.Asked,
   walk-from-reads.Learnt,
   matches-at-reads.Asked,
@@ -203,8 +194,6 @@ parts-held-part-of-requires : (t : ℕ) → parts-held-lts.Need-part-of-requires
   tags-of-reads.Learnt,
   number-of-reads.Asked,
   number-of-reads.Learnt,
-  cues-of-reads.Asked,
-  cues-of-reads.Learnt,
   walk-from-reads.Asked,
   walk-from-reads.Learnt,
   matches-at-reads.Asked,
@@ -238,8 +227,6 @@ parts-held-tags-of-requires : (t : ℕ) → parts-held-lts.Need-tags-of-requires
   tags-of-reads.Learnt,
   number-of-reads.Asked,
   number-of-reads.Learnt,
-  cues-of-reads.Asked,
-  cues-of-reads.Learnt,
   walk-from-reads.Asked,
   walk-from-reads.Learnt,
   matches-at-reads.Asked,
@@ -273,8 +260,6 @@ parts-held-number-of-requires : (t : ℕ) → parts-held-lts.Need-number-of-requ
   tags-of-reads.Learnt,
   number-of-reads.Asked,
   number-of-reads.Learnt,
-  cues-of-reads.Asked,
-  cues-of-reads.Learnt,
   walk-from-reads.Asked,
   walk-from-reads.Learnt,
   matches-at-reads.Asked,
@@ -296,41 +281,6 @@ parts-held-number-of-requires : (t : ℕ) → parts-held-lts.Need-number-of-requ
     parts-held-μ-fillings
 parts-held-number-of-requires t c κs = tt
 
--- src/search.rt:58:9
-parts-held-cues-of-requires : (t : ℕ) → parts-held-lts.Need-cues-of-requires (
-  rooms-reads.Asked,
-  rooms-reads.Learnt,
-  fillings-reads.Asked,
-  fillings-reads.Learnt,
-  part-of-reads.Asked,
-  part-of-reads.Learnt,
-  tags-of-reads.Asked,
-  tags-of-reads.Learnt,
-  number-of-reads.Asked,
-  number-of-reads.Learnt,
-  cues-of-reads.Asked,
-  cues-of-reads.Learnt,
-  walk-from-reads.Asked,
-  walk-from-reads.Learnt,
-  matches-at-reads.Asked,
-  matches-at-reads.Learnt,
-  onward-reads.Asked,
-  onward-reads.Learnt,
-  place-for-reads.Asked,
-  place-for-reads.Learnt,
-  is-whole-reads.Asked,
-  is-whole-reads.Learnt,
-  parts-held-below t,
-  parts-held.Post,
-)
-    (parts-held-at t)
-    parts-held.Post
-    parts-held-Inv-loop
-    parts-held-μ-loop
-    parts-held-Inv-fillings
-    parts-held-μ-fillings
-parts-held-cues-of-requires t c κs = tt
-
 -- src/search.rt:60:13
 parts-held-walk-from-requires : (t : ℕ) → parts-held-lts.Need-walk-from-requires (
   rooms-reads.Asked,
@@ -343,8 +293,6 @@ parts-held-walk-from-requires : (t : ℕ) → parts-held-lts.Need-walk-from-requ
   tags-of-reads.Learnt,
   number-of-reads.Asked,
   number-of-reads.Learnt,
-  cues-of-reads.Asked,
-  cues-of-reads.Learnt,
   walk-from-reads.Asked,
   walk-from-reads.Learnt,
   matches-at-reads.Asked,
@@ -378,8 +326,6 @@ parts-held-loop-holds : (t : ℕ) → parts-held-lts.Need-loop-holds (
   tags-of-reads.Learnt,
   number-of-reads.Asked,
   number-of-reads.Learnt,
-  cues-of-reads.Asked,
-  cues-of-reads.Learnt,
   walk-from-reads.Asked,
   walk-from-reads.Learnt,
   matches-at-reads.Asked,
@@ -399,7 +345,7 @@ parts-held-loop-holds : (t : ℕ) → parts-held-lts.Need-loop-holds (
     parts-held-μ-loop
     parts-held-Inv-fillings
     parts-held-μ-fillings
-parts-held-loop-holds t c = (parting-begin (c .before .before .before .before .before .before .before .before .before .before .before .before .before .before .before .before .before .args .file .now) (c .before .before .before .before .before .before .before .before .before .before .before .before .before .before .before .before .before .args .list .now) (c .before .before .before .before .before .before .before .before .before .before .before .before .before .before .before .before .before .args .sum .now) (c .before .before .before .before .before .before .before .before .before .before .before .before .before .before .before .before .before .args .n) (c .before .before .before .before .before .before .before .before .before .before .before .before .before .before .before .before .before .args .shape) (c .before .before .before .before .before .before .before .before .before .before .before .before .before .before .before .before .before .args .cube) (c .before .before .before .before .before .before .before .before .before .before .before .before .before .before .before .before .before .args .place) (c .before .before .before .before .before .before .before .before .before .before .before .fillings .inv) (omega (arith, c .before .before .before .before .before .before .before .before .before .before .fillings-test .taken, c .before .before .before .before .before .before .before .before .before .before .before .before .fillings2 .ensures)) (c .before .before .before .before .before .before .before .before .before .part-of .ensures) (cued (c .before .before .before .before .before .before .before .before .before .before .before .before .before .before .before .before .before .args .shape) (c .before .before .before .before .before .before .before .before .before .part-of .result) (c .before .before .cues-of .last .1 .1 .0) (c .before .before .before .before .before .before .before .tags-of .ensures) (c .before .before .cues-of .ensures refl)) (c .before .before .before .before .before .number-of .ensures (c .before .before .before .before .before .before .before .tags-of .ensures)) (c .walk-from .ensures), refl)
+parts-held-loop-holds t c = (parting-begin (c .before .before .before .before .before .before .before .before .before .before .before .before .before .before .before .args .file .now) (c .before .before .before .before .before .before .before .before .before .before .before .before .before .before .before .args .list .now) (c .before .before .before .before .before .before .before .before .before .before .before .before .before .before .before .args .sum .now) (c .before .before .before .before .before .before .before .before .before .before .before .before .before .before .before .args .n) (c .before .before .before .before .before .before .before .before .before .before .before .before .before .before .before .args .shape) (c .before .before .before .before .before .before .before .before .before .before .before .before .before .before .before .args .cube) (c .before .before .before .before .before .before .before .before .before .before .before .before .before .before .before .args .place) (c .before .before .before .before .before .before .before .before .before .fillings .inv) (omega (arith, c .before .before .before .before .before .before .before .before .fillings-test .taken, c .before .before .before .before .before .before .before .before .before .before .fillings2 .ensures)) (c .before .before .before .before .before .before .before .part-of .ensures) (cued (c .before .before .before .before .before .before .before .before .before .before .before .before .before .before .before .args .shape) (c .before .before .before .before .before .before .before .part-of .result) (c .before .before .number-of .last .1 .1 .1 .0) (c .before .before .before .before .before .tags-of .ensures) (c .before .before .number-of .ensures .1 refl)) (c .before .before .number-of .ensures .0 (c .before .before .before .before .before .tags-of .ensures)) (c .walk-from .ensures), refl)
 
 -- src/search.rt:62:21
 parts-held-sub-i : (t : ℕ) → parts-held-lts.Need-sub-i (
@@ -413,8 +359,6 @@ parts-held-sub-i : (t : ℕ) → parts-held-lts.Need-sub-i (
   tags-of-reads.Learnt,
   number-of-reads.Asked,
   number-of-reads.Learnt,
-  cues-of-reads.Asked,
-  cues-of-reads.Learnt,
   walk-from-reads.Asked,
   walk-from-reads.Learnt,
   matches-at-reads.Asked,
@@ -448,8 +392,6 @@ parts-held-matches-at-requires : (t : ℕ) → parts-held-lts.Need-matches-at-re
   tags-of-reads.Learnt,
   number-of-reads.Asked,
   number-of-reads.Learnt,
-  cues-of-reads.Asked,
-  cues-of-reads.Learnt,
   walk-from-reads.Asked,
   walk-from-reads.Learnt,
   matches-at-reads.Asked,
@@ -483,8 +425,6 @@ parts-held-add-x : (t : ℕ) → parts-held-lts.Need-add-x (
   tags-of-reads.Learnt,
   number-of-reads.Asked,
   number-of-reads.Learnt,
-  cues-of-reads.Asked,
-  cues-of-reads.Learnt,
   walk-from-reads.Asked,
   walk-from-reads.Learnt,
   matches-at-reads.Asked,
@@ -504,7 +444,7 @@ parts-held-add-x : (t : ℕ) → parts-held-lts.Need-add-x (
     parts-held-μ-loop
     parts-held-Inv-fillings
     parts-held-μ-fillings
-parts-held-add-x t c = omega (arith, fillings-few (c .before .before .before .before .before .before .before .before .before .before .before .before .before .before .before .before .before .before .before .before .before .before .before .before .args .shape) (c .before .before .before .before .before .before .before .before .before .before .before .before .before .before .before .before .before .before .before .before .before .before .before .before .args .place), c .before .before .before .before .before .before .loop .inv .0 .one)
+parts-held-add-x t c = omega (arith, fillings-few (c .before .before .before .before .before .before .before .before .before .before .before .before .before .before .before .before .before .before .before .before .before .before .args .shape) (c .before .before .before .before .before .before .before .before .before .before .before .before .before .before .before .before .before .before .before .before .before .before .args .place), c .before .before .before .before .before .before .loop .inv .0 .one)
 
 -- src/search.rt:52:5
 parts-held-fillings-less : (t : ℕ) → parts-held-lts.Need-fillings-less (
@@ -518,8 +458,6 @@ parts-held-fillings-less : (t : ℕ) → parts-held-lts.Need-fillings-less (
   tags-of-reads.Learnt,
   number-of-reads.Asked,
   number-of-reads.Learnt,
-  cues-of-reads.Asked,
-  cues-of-reads.Learnt,
   walk-from-reads.Asked,
   walk-from-reads.Learnt,
   matches-at-reads.Asked,
@@ -539,7 +477,7 @@ parts-held-fillings-less : (t : ℕ) → parts-held-lts.Need-fillings-less (
     parts-held-μ-loop
     parts-held-Inv-fillings
     parts-held-μ-fillings
-parts-held-fillings-less t c = omega (arith, c .before .before .before .before .before .before .loop .inv .0 .one, c .before .before .before .before .before .before .loop .inv .1, c .before .before .before .before .before .before .before .before .before .before .before .before .before .before .before .before .before .before .before .fillings2 .ensures)
+parts-held-fillings-less t c = omega (arith, c .before .before .before .before .before .before .loop .inv .0 .one, c .before .before .before .before .before .before .loop .inv .1, c .before .before .before .before .before .before .before .before .before .before .before .before .before .before .before .before .before .fillings2 .ensures)
 
 -- src/search.rt:52:5
 parts-held-fillings-again : (t : ℕ) → parts-held-lts.Need-fillings-again (
@@ -553,8 +491,6 @@ parts-held-fillings-again : (t : ℕ) → parts-held-lts.Need-fillings-again (
   tags-of-reads.Learnt,
   number-of-reads.Asked,
   number-of-reads.Learnt,
-  cues-of-reads.Asked,
-  cues-of-reads.Learnt,
   walk-from-reads.Asked,
   walk-from-reads.Learnt,
   matches-at-reads.Asked,
@@ -574,7 +510,7 @@ parts-held-fillings-again : (t : ℕ) → parts-held-lts.Need-fillings-again (
     parts-held-μ-loop
     parts-held-Inv-fillings
     parts-held-μ-fillings
-parts-held-fillings-again t c = parting-covered (c .before .before .before .before .before .before .before .before .before .before .before .before .before .before .before .before .before .before .before .before .before .before .before .before .args .file .now) (c .before .before .before .before .before .before .before .before .before .before .before .before .before .before .before .before .before .before .before .before .before .before .before .before .args .list .now) (c .before .before .before .before .before .before .before .before .before .before .before .before .before .before .before .before .before .before .before .before .before .before .before .before .args .sum .now) (c .before .before .before .before .before .before .before .before .before .before .before .before .before .before .before .before .before .before .before .before .before .before .before .before .args .n) (c .before .before .before .before .before .before .before .before .before .before .before .before .before .before .before .before .before .before .before .before .before .before .before .before .args .shape) (c .before .before .before .before .before .before .before .before .before .before .before .before .before .before .before .before .before .before .before .before .before .before .before .before .args .cube) (c .before .before .before .before .before .before .before .before .before .before .before .before .before .before .before .before .before .before .before .before .before .before .before .before .args .place) (c .before .before .before .before .before .before .loop .inv .0) (c .before .before .before .before .if1 .taken) (λ A. sym (c .before .matches-at .ensures A) ∙ c .if2 .taken)
+parts-held-fillings-again t c = parting-covered (c .before .before .before .before .before .before .before .before .before .before .before .before .before .before .before .before .before .before .before .before .before .before .args .file .now) (c .before .before .before .before .before .before .before .before .before .before .before .before .before .before .before .before .before .before .before .before .before .before .args .list .now) (c .before .before .before .before .before .before .before .before .before .before .before .before .before .before .before .before .before .before .before .before .before .before .args .sum .now) (c .before .before .before .before .before .before .before .before .before .before .before .before .before .before .before .before .before .before .before .before .before .before .args .n) (c .before .before .before .before .before .before .before .before .before .before .before .before .before .before .before .before .before .before .before .before .before .before .args .shape) (c .before .before .before .before .before .before .before .before .before .before .before .before .before .before .before .before .before .before .before .before .before .before .args .cube) (c .before .before .before .before .before .before .before .before .before .before .before .before .before .before .before .before .before .before .before .before .before .before .args .place) (c .before .before .before .before .before .before .loop .inv .0) (c .before .before .before .before .if1 .taken) (λ A. sym (c .before .matches-at .ensures A) ∙ c .if2 .taken)
 
 -- src/search.rt:66:17
 parts-held-onward-requires : (t : ℕ) → parts-held-lts.Need-onward-requires (
@@ -588,8 +524,6 @@ parts-held-onward-requires : (t : ℕ) → parts-held-lts.Need-onward-requires (
   tags-of-reads.Learnt,
   number-of-reads.Asked,
   number-of-reads.Learnt,
-  cues-of-reads.Asked,
-  cues-of-reads.Learnt,
   walk-from-reads.Asked,
   walk-from-reads.Learnt,
   matches-at-reads.Asked,
@@ -623,8 +557,6 @@ parts-held-loop-less : (t : ℕ) → parts-held-lts.Need-loop-less (
   tags-of-reads.Learnt,
   number-of-reads.Asked,
   number-of-reads.Learnt,
-  cues-of-reads.Asked,
-  cues-of-reads.Learnt,
   walk-from-reads.Asked,
   walk-from-reads.Learnt,
   matches-at-reads.Asked,
@@ -658,8 +590,6 @@ parts-held-loop-again : (t : ℕ) → parts-held-lts.Need-loop-again (
   tags-of-reads.Learnt,
   number-of-reads.Asked,
   number-of-reads.Learnt,
-  cues-of-reads.Asked,
-  cues-of-reads.Learnt,
   walk-from-reads.Asked,
   walk-from-reads.Learnt,
   matches-at-reads.Asked,
@@ -679,7 +609,7 @@ parts-held-loop-again : (t : ℕ) → parts-held-lts.Need-loop-again (
     parts-held-μ-loop
     parts-held-Inv-fillings
     parts-held-μ-fillings
-parts-held-loop-again t c = (parting-next (c .before .before .before .before .before .before .before .before .before .before .before .before .before .before .before .before .before .before .before .before .before .before .before .before .before .args .file .now) (c .before .before .before .before .before .before .before .before .before .before .before .before .before .before .before .before .before .before .before .before .before .before .before .before .before .args .list .now) (c .before .before .before .before .before .before .before .before .before .before .before .before .before .before .before .before .before .before .before .before .before .before .before .before .before .args .sum .now) (c .before .before .before .before .before .before .before .before .before .before .before .before .before .before .before .before .before .before .before .before .before .before .before .before .before .args .n) (c .before .before .before .before .before .before .before .before .before .before .before .before .before .before .before .before .before .before .before .before .before .before .before .before .before .args .shape) (c .before .before .before .before .before .before .before .before .before .before .before .before .before .before .before .before .before .before .before .before .before .before .before .before .before .args .cube) (c .before .before .before .before .before .before .before .before .before .before .before .before .before .before .before .before .before .before .before .before .before .before .before .before .before .args .place) (c .before .before .before .before .before .before .before .loop .inv .0) (λ A. sym (c .before .before .matches-at .ensures A) ∙ c .before .if2 .left) (c .onward .ensures), c .before .before .before .before .before .before .before .loop .inv .1)
+parts-held-loop-again t c = (parting-next (c .before .before .before .before .before .before .before .before .before .before .before .before .before .before .before .before .before .before .before .before .before .before .before .args .file .now) (c .before .before .before .before .before .before .before .before .before .before .before .before .before .before .before .before .before .before .before .before .before .before .before .args .list .now) (c .before .before .before .before .before .before .before .before .before .before .before .before .before .before .before .before .before .before .before .before .before .before .before .args .sum .now) (c .before .before .before .before .before .before .before .before .before .before .before .before .before .before .before .before .before .before .before .before .before .before .before .args .n) (c .before .before .before .before .before .before .before .before .before .before .before .before .before .before .before .before .before .before .before .before .before .before .before .args .shape) (c .before .before .before .before .before .before .before .before .before .before .before .before .before .before .before .before .before .before .before .before .before .before .before .args .cube) (c .before .before .before .before .before .before .before .before .before .before .before .before .before .before .before .before .before .before .before .before .before .before .before .args .place) (c .before .before .before .before .before .before .before .loop .inv .0) (λ A. sym (c .before .before .matches-at .ensures A) ∙ c .before .if2 .left) (c .onward .ensures), c .before .before .before .before .before .before .before .loop .inv .1)
 
 -- src/search.rt:80:13
 parts-held-place-for-requires : (t : ℕ) → parts-held-lts.Need-place-for-requires (
@@ -693,8 +623,6 @@ parts-held-place-for-requires : (t : ℕ) → parts-held-lts.Need-place-for-requ
   tags-of-reads.Learnt,
   number-of-reads.Asked,
   number-of-reads.Learnt,
-  cues-of-reads.Asked,
-  cues-of-reads.Learnt,
   walk-from-reads.Asked,
   walk-from-reads.Learnt,
   matches-at-reads.Asked,
@@ -728,8 +656,6 @@ parts-held-is-whole-requires : (t : ℕ) → parts-held-lts.Need-is-whole-requir
   tags-of-reads.Learnt,
   number-of-reads.Asked,
   number-of-reads.Learnt,
-  cues-of-reads.Asked,
-  cues-of-reads.Learnt,
   walk-from-reads.Asked,
   walk-from-reads.Learnt,
   matches-at-reads.Asked,
@@ -763,8 +689,6 @@ parts-held-returns : (t : ℕ) → parts-held-lts.Need-returns (
   tags-of-reads.Learnt,
   number-of-reads.Asked,
   number-of-reads.Learnt,
-  cues-of-reads.Asked,
-  cues-of-reads.Learnt,
   walk-from-reads.Asked,
   walk-from-reads.Learnt,
   matches-at-reads.Asked,
@@ -784,7 +708,7 @@ parts-held-returns : (t : ℕ) → parts-held-lts.Need-returns (
     parts-held-μ-loop
     parts-held-Inv-fillings
     parts-held-μ-fillings
-parts-held-returns t c = ((λ Z e. absurd (true-not-false (sym e))), (λ Z e. parting-stuck (c .before .before .before .before .before .before .before .before .before .before .before .before .before .before .before .before .before .before .before .before .before .before .before .before .args .file .now) (c .before .before .before .before .before .before .before .before .before .before .before .before .before .before .before .before .before .before .before .before .before .before .before .before .args .list .now) (c .before .before .before .before .before .before .before .before .before .before .before .before .before .before .before .before .before .before .before .before .before .before .before .before .args .sum .now) (c .before .before .before .before .before .before .before .before .before .before .before .before .before .before .before .before .before .before .before .before .before .before .before .before .args .n) (c .before .before .before .before .before .before .before .before .before .before .before .before .before .before .before .before .before .before .before .before .before .before .before .before .args .shape) (c .before .before .before .before .before .before .before .before .before .before .before .before .before .before .before .before .before .before .before .before .before .before .before .before .args .cube) (c .before .before .before .before .before .before .before .before .before .before .before .before .before .before .before .before .before .before .before .before .before .before .before .before .args .place) (c .before .before .before .before .before .before .loop .inv .0) (c .before .before .before .before .before .before .before .before .before .before .before .before .before .before .before .before .before .before .before .before .rooms .ensures .0) (c .before .before .before .before .before .before .before .before .before .before .before .before .before .before .before .before .before .before .before .before .rooms .ensures .1) (c .before .before .before .before .before .before .before .before .before .before .before .before .before .before .before .before .before .before .before .before .before .before .before .before .pre .1) Z (c .before .before .before .before .if1 .left) (c .before .before .place-for .ensures .1 (sym (c .before .is-whole .ensures) ∙ c .if3 .taken))))
+parts-held-returns t c = ((λ Z e. absurd (true-not-false (sym e))), (λ Z e. parting-stuck (c .before .before .before .before .before .before .before .before .before .before .before .before .before .before .before .before .before .before .before .before .before .before .args .file .now) (c .before .before .before .before .before .before .before .before .before .before .before .before .before .before .before .before .before .before .before .before .before .before .args .list .now) (c .before .before .before .before .before .before .before .before .before .before .before .before .before .before .before .before .before .before .before .before .before .before .args .sum .now) (c .before .before .before .before .before .before .before .before .before .before .before .before .before .before .before .before .before .before .before .before .before .before .args .n) (c .before .before .before .before .before .before .before .before .before .before .before .before .before .before .before .before .before .before .before .before .before .before .args .shape) (c .before .before .before .before .before .before .before .before .before .before .before .before .before .before .before .before .before .before .before .before .before .before .args .cube) (c .before .before .before .before .before .before .before .before .before .before .before .before .before .before .before .before .before .before .before .before .before .before .args .place) (c .before .before .before .before .before .before .loop .inv .0) (c .before .before .before .before .before .before .before .before .before .before .before .before .before .before .before .before .before .before .rooms .ensures .0) (c .before .before .before .before .before .before .before .before .before .before .before .before .before .before .before .before .before .before .rooms .ensures .1) (c .before .before .before .before .before .before .before .before .before .before .before .before .before .before .before .before .before .before .before .before .before .before .pre .1) Z (c .before .before .before .before .if1 .left) (c .before .before .place-for .ensures .1 (sym (c .before .is-whole .ensures) ∙ c .if3 .taken))))
 
 -- src/search.rt:84:13
 parts-held-parts-held-requires : (t : ℕ) → parts-held-lts.Need-parts-held-requires (
@@ -798,8 +722,6 @@ parts-held-parts-held-requires : (t : ℕ) → parts-held-lts.Need-parts-held-re
   tags-of-reads.Learnt,
   number-of-reads.Asked,
   number-of-reads.Learnt,
-  cues-of-reads.Asked,
-  cues-of-reads.Learnt,
   walk-from-reads.Asked,
   walk-from-reads.Learnt,
   matches-at-reads.Asked,
@@ -819,7 +741,7 @@ parts-held-parts-held-requires : (t : ℕ) → parts-held-lts.Need-parts-held-re
     parts-held-μ-loop
     parts-held-Inv-fillings
     parts-held-μ-fillings
-parts-held-parts-held-requires t c κs = let l = c .before .before .before .before .before .before .loop .inv .0 .one in (subst (λ (k : Cube). weight k (c .before .before .place-for .result) < t) (sym (c .before .before .before .before .before .before .loop .inv .0 .is)) (let y = part-less (c .before .before .before .before .before .before .before .before .before .before .before .before .before .before .before .before .before .before .before .before .before .before .before .before .args .shape) (c .before .before .before .before .before .before .before .before .before .before .before .before .before .before .before .before .before .before .before .before .before .before .before .before .args .cube) (c .before .before .before .before .before .before .before .before .before .before .before .before .before .before .before .before .before .before .before .before .rooms .ensures .0) (c .before .before .before .before .before .before .before .before .before .before .before .before .before .before .before .before .before .before .before .before .rooms .ensures .1) (c .before .before .before .before .before .before .before .before .before .before .before .before .before .before .before .before .before .before .before .before .before .before .before .before .args .place) (c .before .before .before .before .before .before .before .before .before .before .before .before .before .before .before .before .before .before .before .before .before .before .before .before .pre .1) (c .before .before .before .before .before .before .loop .x) (omega (arith, fillings-few (c .before .before .before .before .before .before .before .before .before .before .before .before .before .before .before .before .before .before .before .before .before .before .before .before .args .shape) (c .before .before .before .before .before .before .before .before .before .before .before .before .before .before .before .before .before .before .before .before .before .before .before .before .args .place), l)) (c .before .before .place-for .result) (sym (c .before .is-whole .ensures) ∙ c .if3 .left) in omega (arith, y, c .before .before .before .before .before .before .before .before .before .before .before .before .before .before .before .before .before .before .before .before .before .before .before .before .pre .0)), c .before .before .place-for .ensures .0)
+parts-held-parts-held-requires t c κs = let l = c .before .before .before .before .before .before .loop .inv .0 .one in (subst (λ (k : Cube). weight k (c .before .before .place-for .result) < t) (sym (c .before .before .before .before .before .before .loop .inv .0 .is)) (let y = part-less (c .before .before .before .before .before .before .before .before .before .before .before .before .before .before .before .before .before .before .before .before .before .before .args .shape) (c .before .before .before .before .before .before .before .before .before .before .before .before .before .before .before .before .before .before .before .before .before .before .args .cube) (c .before .before .before .before .before .before .before .before .before .before .before .before .before .before .before .before .before .before .rooms .ensures .0) (c .before .before .before .before .before .before .before .before .before .before .before .before .before .before .before .before .before .before .rooms .ensures .1) (c .before .before .before .before .before .before .before .before .before .before .before .before .before .before .before .before .before .before .before .before .before .before .args .place) (c .before .before .before .before .before .before .before .before .before .before .before .before .before .before .before .before .before .before .before .before .before .before .pre .1) (c .before .before .before .before .before .before .loop .x) (omega (arith, fillings-few (c .before .before .before .before .before .before .before .before .before .before .before .before .before .before .before .before .before .before .before .before .before .before .args .shape) (c .before .before .before .before .before .before .before .before .before .before .before .before .before .before .before .before .before .before .before .before .before .before .args .place), l)) (c .before .before .place-for .result) (sym (c .before .is-whole .ensures) ∙ c .if3 .left) in omega (arith, y, c .before .before .before .before .before .before .before .before .before .before .before .before .before .before .before .before .before .before .before .before .before .before .pre .0)), c .before .before .place-for .ensures .0)
 
 -- src/search.rt:85:13
 parts-held-returns-2 : (t : ℕ) → parts-held-lts.Need-returns-2 (
@@ -833,8 +755,6 @@ parts-held-returns-2 : (t : ℕ) → parts-held-lts.Need-returns-2 (
   tags-of-reads.Learnt,
   number-of-reads.Asked,
   number-of-reads.Learnt,
-  cues-of-reads.Asked,
-  cues-of-reads.Learnt,
   walk-from-reads.Asked,
   walk-from-reads.Learnt,
   matches-at-reads.Asked,
@@ -854,7 +774,7 @@ parts-held-returns-2 : (t : ℕ) → parts-held-lts.Need-returns-2 (
     parts-held-μ-loop
     parts-held-Inv-fillings
     parts-held-μ-fillings
-parts-held-returns-2 t c = ((λ Z e. absurd (true-not-false (sym e))), (λ Z e. parting-outside (c .before .before .before .before .before .before .before .before .before .before .before .before .before .before .before .before .before .before .before .before .before .before .before .before .before .before .args .file .now) (c .before .before .before .before .before .before .before .before .before .before .before .before .before .before .before .before .before .before .before .before .before .before .before .before .before .before .args .list .now) (c .before .before .before .before .before .before .before .before .before .before .before .before .before .before .before .before .before .before .before .before .before .before .before .before .before .before .args .sum .now) (c .before .before .before .before .before .before .before .before .before .before .before .before .before .before .before .before .before .before .before .before .before .before .before .before .before .before .args .n) (c .before .before .before .before .before .before .before .before .before .before .before .before .before .before .before .before .before .before .before .before .before .before .before .before .before .before .args .shape) (c .before .before .before .before .before .before .before .before .before .before .before .before .before .before .before .before .before .before .before .before .before .before .before .before .before .before .args .cube) (c .before .before .before .before .before .before .before .before .before .before .before .before .before .before .before .before .before .before .before .before .before .before .before .before .before .before .args .place) (c .before .before .before .before .before .before .before .before .loop .inv .0) (c .before .before .before .before .before .before .before .before .before .before .before .before .before .before .before .before .before .before .before .before .before .before .rooms .ensures .0) (c .before .before .before .before .before .before .before .before .before .before .before .before .before .before .before .before .before .before .before .before .before .before .rooms .ensures .1) (c .before .before .before .before .before .before .before .before .before .before .before .before .before .before .before .before .before .before .before .before .before .before .before .before .before .before .pre .1) Z (c .before .parts-held .ensures .1) (not-true (c .before .parts-held .result) (c .if4 .taken))))
+parts-held-returns-2 t c = ((λ Z e. absurd (true-not-false (sym e))), (λ Z e. parting-outside (c .before .before .before .before .before .before .before .before .before .before .before .before .before .before .before .before .before .before .before .before .before .before .before .before .args .file .now) (c .before .before .before .before .before .before .before .before .before .before .before .before .before .before .before .before .before .before .before .before .before .before .before .before .args .list .now) (c .before .before .before .before .before .before .before .before .before .before .before .before .before .before .before .before .before .before .before .before .before .before .before .before .args .sum .now) (c .before .before .before .before .before .before .before .before .before .before .before .before .before .before .before .before .before .before .before .before .before .before .before .before .args .n) (c .before .before .before .before .before .before .before .before .before .before .before .before .before .before .before .before .before .before .before .before .before .before .before .before .args .shape) (c .before .before .before .before .before .before .before .before .before .before .before .before .before .before .before .before .before .before .before .before .before .before .before .before .args .cube) (c .before .before .before .before .before .before .before .before .before .before .before .before .before .before .before .before .before .before .before .before .before .before .before .before .args .place) (c .before .before .before .before .before .before .before .before .loop .inv .0) (c .before .before .before .before .before .before .before .before .before .before .before .before .before .before .before .before .before .before .before .before .rooms .ensures .0) (c .before .before .before .before .before .before .before .before .before .before .before .before .before .before .before .before .before .before .before .before .rooms .ensures .1) (c .before .before .before .before .before .before .before .before .before .before .before .before .before .before .before .before .before .before .before .before .before .before .before .before .pre .1) Z (c .before .parts-held .ensures .1) (not-true (c .before .parts-held .result) (c .if4 .taken))))
 
 -- src/search.rt:52:20
 parts-held-add-x-2 : (t : ℕ) → parts-held-lts.Need-add-x-2 (
@@ -868,8 +788,6 @@ parts-held-add-x-2 : (t : ℕ) → parts-held-lts.Need-add-x-2 (
   tags-of-reads.Learnt,
   number-of-reads.Asked,
   number-of-reads.Learnt,
-  cues-of-reads.Asked,
-  cues-of-reads.Learnt,
   walk-from-reads.Asked,
   walk-from-reads.Learnt,
   matches-at-reads.Asked,
@@ -889,7 +807,7 @@ parts-held-add-x-2 : (t : ℕ) → parts-held-lts.Need-add-x-2 (
     parts-held-μ-loop
     parts-held-Inv-fillings
     parts-held-μ-fillings
-parts-held-add-x-2 t c = omega (arith, fillings-few (c .before .before .before .before .before .before .before .before .before .before .before .before .before .before .before .before .before .before .before .before .before .before .before .before .before .before .args .shape) (c .before .before .before .before .before .before .before .before .before .before .before .before .before .before .before .before .before .before .before .before .before .before .before .before .before .before .args .place), c .before .before .before .before .before .before .before .before .loop .inv .0 .one)
+parts-held-add-x-2 t c = omega (arith, fillings-few (c .before .before .before .before .before .before .before .before .before .before .before .before .before .before .before .before .before .before .before .before .before .before .before .before .args .shape) (c .before .before .before .before .before .before .before .before .before .before .before .before .before .before .before .before .before .before .before .before .before .before .before .before .args .place), c .before .before .before .before .before .before .before .before .loop .inv .0 .one)
 
 -- src/search.rt:52:5
 parts-held-fillings-less-2 : (t : ℕ) → parts-held-lts.Need-fillings-less-2 (
@@ -903,8 +821,6 @@ parts-held-fillings-less-2 : (t : ℕ) → parts-held-lts.Need-fillings-less-2 (
   tags-of-reads.Learnt,
   number-of-reads.Asked,
   number-of-reads.Learnt,
-  cues-of-reads.Asked,
-  cues-of-reads.Learnt,
   walk-from-reads.Asked,
   walk-from-reads.Learnt,
   matches-at-reads.Asked,
@@ -924,7 +840,7 @@ parts-held-fillings-less-2 : (t : ℕ) → parts-held-lts.Need-fillings-less-2 (
     parts-held-μ-loop
     parts-held-Inv-fillings
     parts-held-μ-fillings
-parts-held-fillings-less-2 t c = omega (arith, c .before .before .before .before .before .before .before .before .loop .inv .0 .one, c .before .before .before .before .before .before .before .before .loop .inv .1, c .before .before .before .before .before .before .before .before .before .before .before .before .before .before .before .before .before .before .before .before .before .fillings2 .ensures)
+parts-held-fillings-less-2 t c = omega (arith, c .before .before .before .before .before .before .before .before .loop .inv .0 .one, c .before .before .before .before .before .before .before .before .loop .inv .1, c .before .before .before .before .before .before .before .before .before .before .before .before .before .before .before .before .before .before .before .fillings2 .ensures)
 
 -- src/search.rt:52:5
 parts-held-fillings-again-2 : (t : ℕ) → parts-held-lts.Need-fillings-again-2 (
@@ -938,8 +854,6 @@ parts-held-fillings-again-2 : (t : ℕ) → parts-held-lts.Need-fillings-again-2
   tags-of-reads.Learnt,
   number-of-reads.Asked,
   number-of-reads.Learnt,
-  cues-of-reads.Asked,
-  cues-of-reads.Learnt,
   walk-from-reads.Asked,
   walk-from-reads.Learnt,
   matches-at-reads.Asked,
@@ -959,7 +873,7 @@ parts-held-fillings-again-2 : (t : ℕ) → parts-held-lts.Need-fillings-again-2
     parts-held-μ-loop
     parts-held-Inv-fillings
     parts-held-μ-fillings
-parts-held-fillings-again-2 t c = parting-held (c .before .before .before .before .before .before .before .before .before .before .before .before .before .before .before .before .before .before .before .before .before .before .before .before .before .before .args .file .now) (c .before .before .before .before .before .before .before .before .before .before .before .before .before .before .before .before .before .before .before .before .before .before .before .before .before .before .args .list .now) (c .before .before .before .before .before .before .before .before .before .before .before .before .before .before .before .before .before .before .before .before .before .before .before .before .before .before .args .sum .now) (c .before .before .before .before .before .before .before .before .before .before .before .before .before .before .before .before .before .before .before .before .before .before .before .before .before .before .args .n) (c .before .before .before .before .before .before .before .before .before .before .before .before .before .before .before .before .before .before .before .before .before .before .before .before .before .before .args .shape) (c .before .before .before .before .before .before .before .before .before .before .before .before .before .before .before .before .before .before .before .before .before .before .before .before .before .before .args .cube) (c .before .before .before .before .before .before .before .before .before .before .before .before .before .before .before .before .before .before .before .before .before .before .before .before .before .before .args .place) (c .before .before .before .before .before .before .before .before .loop .inv .0) (c .before .parts-held .ensures .0) (not-false (c .before .parts-held .result) (c .if4 .left))
+parts-held-fillings-again-2 t c = parting-held (c .before .before .before .before .before .before .before .before .before .before .before .before .before .before .before .before .before .before .before .before .before .before .before .before .args .file .now) (c .before .before .before .before .before .before .before .before .before .before .before .before .before .before .before .before .before .before .before .before .before .before .before .before .args .list .now) (c .before .before .before .before .before .before .before .before .before .before .before .before .before .before .before .before .before .before .before .before .before .before .before .before .args .sum .now) (c .before .before .before .before .before .before .before .before .before .before .before .before .before .before .before .before .before .before .before .before .before .before .before .before .args .n) (c .before .before .before .before .before .before .before .before .before .before .before .before .before .before .before .before .before .before .before .before .before .before .before .before .args .shape) (c .before .before .before .before .before .before .before .before .before .before .before .before .before .before .before .before .before .before .before .before .before .before .before .before .args .cube) (c .before .before .before .before .before .before .before .before .before .before .before .before .before .before .before .before .before .before .before .before .before .before .before .before .args .place) (c .before .before .before .before .before .before .before .before .loop .inv .0) (c .before .parts-held .ensures .0) (not-false (c .before .parts-held .result) (c .if4 .left))
 
 -- src/search.rt:37:1
 parts-held-returns-3 : (t : ℕ) → parts-held-lts.Need-returns-3 (
@@ -973,8 +887,6 @@ parts-held-returns-3 : (t : ℕ) → parts-held-lts.Need-returns-3 (
   tags-of-reads.Learnt,
   number-of-reads.Asked,
   number-of-reads.Learnt,
-  cues-of-reads.Asked,
-  cues-of-reads.Learnt,
   walk-from-reads.Asked,
   walk-from-reads.Learnt,
   matches-at-reads.Asked,
@@ -1008,8 +920,6 @@ pub +parts-held-spec : {M : Type 1} → statement M
   tags-of-reads.Learnt,
   number-of-reads.Asked,
   number-of-reads.Learnt,
-  cues-of-reads.Asked,
-  cues-of-reads.Learnt,
   walk-from-reads.Asked,
   walk-from-reads.Learnt,
   matches-at-reads.Asked,
@@ -1036,7 +946,6 @@ pub +parts-held-spec : {M : Type 1} → statement M
     (parts-held-part-of-requires t)
     (parts-held-tags-of-requires t)
     (parts-held-number-of-requires t)
-    (parts-held-cues-of-requires t)
     (parts-held-walk-from-requires t)
     (parts-held-loop-holds t)
     (parts-held-sub-i t)
