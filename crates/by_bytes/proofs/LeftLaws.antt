@@ -1,5 +1,5 @@
 -- What is left to match of an entry and of a cube, when their newest messages were set against each other.
-use Prim.Native.Nat.{ℕ, zero, suc, _+_, _-_, _<_, _≤_}
+use Prim.Native.Nat.{ℕ, zero, suc, _+_, _-_, _<_, _≤_, min}
 use mathlib.Core.Path.{_≡_, refl, sym, ap, subst, subst₂, _∙_}
 use mathlib.Core.Logic.{⊎-elim}
 use mathlib.Core.Bool.{Bool, true, false, _&&_}
@@ -7,7 +7,7 @@ use mathlib.Core.List.{List, [], _∷_}
 use native.Mathlib.Omega.{arith}
 use native.Mathlib.Decide.{decLe}
 use lib.ListN.{getD}
-use lib.Dec.{T}
+use lib.Dec.{T, eqb}
 use borrow.Author.Tests.{eqb-true}
 use mir.Facts.{and-yes}
 use Rattle.pws.specs.declared.Message.{Message}
@@ -26,7 +26,10 @@ use Rattle.matching.specs.Tags.{mask, lowestPointer}
 use Rattle.matching.specs.Match.{channelMatches}
 use Rattle.matching.proofs.TagLaws.{mask-alike, roles-test}
 use Rattle.matching.proofs.ChannelLaws.{tag, upTo, up-none, up-some}
-use Rattle.by_bytes.specs.Same.{PointsOther}
+
+-- a process points at i and another than j, or at j and another than i
+abbrev pub PointsOther : ℕ → List ℕ → List ℕ → ℕ → ℕ → Type 0
+PointsOther processes zs own i j = (p : ℕ) × (p < min processes 4) × (eqb (getD zs p 0) i ≡ eqb (getD own p 0) j → ⊥)
 
 -- a message that has another label, values that are not related or another process at it does not stand for one
 pub cannot-stand : (exact : Bool) (s : Shape) → s .processes ≤ 4 → s .variables ≤ 4 → (e c : Cube) (i j : ℕ)

@@ -1,7 +1,7 @@
 -- What the records of an entry load, and its 12s against the queues of a cube.
 use Prim.Native.Nat.{ℕ, zero, suc, _+_, _*_, _-_, _/_, _%_, _<_, _≤_, min}
 use mathlib.Core.Path.{_≡_, refl, sym, ap, ap₂, subst, _∙_}
-use mathlib.Core.Bool.{Bool, true, false, _&&_, not, true≢false, false≢true}
+use mathlib.Core.Bool.{Bool, true, false, _&&_, _||_, not, true≢false, false≢true}
 use mathlib.Core.List.{List, [], _∷_}
 use mathlib.Core.Option.{some}
 use native.Mathlib.Omega.{arith}
@@ -9,7 +9,7 @@ use native.Mathlib.Decide.{decLt, decLe, ℕ-discrete}
 use lib.ListN.{length, getD, set, replicate, length-set}
 use lib.Seq.{getD-set-same, getD-set-other}
 use lib.Dec.{eqb, ltb, leb}
-use borrow.Author.Tests.{eqb-true, ltb-true, leb-true, leb-false, eq-eqb, ne-eqb, lt-ltb, lt-leb}
+use borrow.Author.Tests.{eqb-true, ltb-true, leb-true, leb-false, eq-eqb, ne-eqb, lt-ltb, le-leb, lt-leb}
 use Rattle.pws.specs.declared.Message.{Message}
 use Rattle.pws.specs.Machine.{noMessage, newestWaiting, allBelow}
 use Rattle.program_part.specs.declared.program.Shape.{Shape}
@@ -26,7 +26,7 @@ use Rattle.lists.specs.Matching.{subsequence, queueMatches}
 use Rattle.matching.specs.Relation.{relation}
 use Rattle.matching.specs.Word.{Word}
 use Rattle.matching.specs.Match.{queueRow}
-use Rattle.matching.proofs.Below.{and-false, all-equal}
+use Rattle.matching.proofs.Below.{or-true, and-false, all-equal}
 use Rattle.matching.proofs.ValueLaws.{newest-at, same-bytes}
 use Rattle.by_bytes.specs.Same.{Leads, leads-none, leads-more, Kinds, Stands, WaitsAt, HeldFrom, none, more, Took, took-none, took-more, Within}
 
@@ -117,8 +117,12 @@ pub push-one : (values : List ℕ) (count x : ℕ) → count < 9 → pushed (rec
 unfolding pushed
 push-one values count x l = rw (lt-leb 9 count l) refl
 
-abbrev okay : Bool → List Queue → List Queue → ℕ → Bool
-okay exact qs queues i = queueMatches (relation exact) (waitingOf (getD qs i noQueue)) (waitingOf (getD queues i noQueue))
+-- the queue i matches, if it is of a variable that there is
+abbrev okay : Bool → ℕ → List Queue → List Queue → ℕ → Bool
+okay exact variables qs queues i = leb variables (i % 4) || queueMatches (relation exact) (waitingOf (getD qs i noQueue)) (waitingOf (getD queues i noQueue))
+
+absent : (exact : Bool) (variables : ℕ) (qs queues : List Queue) (i : ℕ) → variables ≤ i % 4 → okay exact variables qs queues i ≡ true
+absent exact variables qs queues i l = ap (λ (b : Bool). b || queueMatches (relation exact) (waitingOf (getD qs i noQueue)) (waitingOf (getD queues i noQueue))) (le-leb variables (i % 4) l)
 
 -- the first q queues were compared with the 12s from `start` up to k
 pub record Waits (exact : Bool) (f : List ℕ) (start variables : ℕ) (queues : List Queue) (k : ℕ) (waits : Bool) (q : ℕ) : Type 0 where
@@ -126,8 +130,7 @@ pub record Waits (exact : Bool) (f : List ℕ) (start variables : ℕ) (queues :
   pub took : Took f start by k
   pub room : length by ≡ 16
   pub left : (i : ℕ) → q ≤ i → i < 16 → getD by i noQueue ≡ emptyQueue
-  pub absent : (i : ℕ) → i < q → variables ≤ i % 4 → okay exact by queues i ≡ true
-  pub tested : waits ≡ allBelow q (okay exact by queues)
+  pub tested : waits ≡ allBelow q (okay exact variables by queues)
 
 sixteen : (i : ℕ) → i < 16 → getD (replicate 16 emptyQueue) i noQueue ≡ emptyQueue
 sixteen i l = replicate-at 16 i l
@@ -139,7 +142,32 @@ sixteen i l = replicate-at 16 i l
 
 pub waits-begin : (exact : Bool) (f : List ℕ) (start variables : ℕ) (queues : List Queue) → Waits exact f start variables queues start true 0
 waits-begin exact f start variables queues =
-    record { by = replicate 16 emptyQueue; took = took-none; room = refl; left = λ i x y. sixteen i y; absent = λ i x. absurd (omega arith); tested = refl }
+    record { by = replicate 16 emptyQueue; took = took-none; room = refl; left = λ i x y. sixteen i y; tested = refl }
+
+wide-row : (x d : ℕ) (h : ℕ → Bool) → ((v : ℕ) → x ≤ v → v < x + d → h v ≡ true) → allBelow (x + d) h ≡ allBelow x h
+wide-row x zero h t = let z : x + 0 ≡ x = omega arith in ap (λ (n : ℕ). allBelow n h) z
+wide-row x (suc d) h t =
+    let z : x + suc d ≡ suc (x + d) = omega arith in
+    ap (λ (n : ℕ). allBelow n h) z ∙ ap₂ _&&_ (wide-row x d h (λ v a b. t v a (omega arith))) (t (x + d) (omega arith) (omega arith)) ∙ and-right (allBelow x h)
+
+pub waits-same : {exact : Bool} {f : List ℕ} {start variables : ℕ} {queues : List Queue} {k : ℕ} {waits : Bool} (p : ℕ) → Waits exact f start variables queues k waits (4 * p) → Waits exact f start variables queues k waits (4 * p + 0)
+waits-same {exact} {f} {start} {variables} {queues} {k} {waits} p w = let z : 4 * p ≡ 4 * p + 0 = omega arith in subst (Waits exact f start variables queues k waits) z w
+
+pub waits-on : {exact : Bool} {f : List ℕ} {start variables : ℕ} {queues : List Queue} {k : ℕ} {waits : Bool} (p v : ℕ) → Waits exact f start variables queues k waits (4 * p + v + 1) → Waits exact f start variables queues k waits (4 * p + (v + 1))
+waits-on {exact} {f} {start} {variables} {queues} {k} {waits} p v w = let z : 4 * p + v + 1 ≡ 4 * p + (v + 1) = omega arith in subst (Waits exact f start variables queues k waits) z w
+
+-- the queues of a process were compared, so far as it has variables
+pub waits-row : {exact : Bool} {f : List ℕ} {start variables : ℕ} {queues : List Queue} {k : ℕ} {waits : Bool} (p : ℕ) {v : ℕ} → Waits exact f start variables queues k waits (4 * p + v) → v ≡ variables → variables ≤ 4
+    → Waits exact f start variables queues k waits (4 * (p + 1))
+waits-row {exact} {f} {start} {variables} {queues} {k} {waits} p {v} w all few =
+    let z : 4 * p + v + (4 - v) ≡ 4 * (p + 1) = omega arith in
+    record {
+      by = w .by;
+      took = w .took;
+      room = w .room;
+      left = λ i x y. w .left i (omega arith) y;
+      tested = w .tested ∙ sym (wide-row (4 * p + v) (4 - v) (okay exact variables (w .by) queues) (λ i x y. absent exact variables (w .by) queues i (omega arith))) ∙ ap (λ (n : ℕ). allBelow n (okay exact variables (w .by) queues)) z;
+    }
 
 -- one value against several: it is the last that counts
 one-found : (r : ℕ → ℕ → Bool) (x : ℕ) (ys : List ℕ) (n : ℕ) → length ys ≡ suc n → r x (getD ys n 0) ≡ true → subsequence r (x ∷ []) ys ≡ true
@@ -208,15 +236,16 @@ module _ {exact : Bool} {f : List ℕ} {start variables : ℕ} {queues : List Qu
         took = w .took;
         room = w .room;
         left = λ i x y. w .left i (omega arith) y;
-        absent = λ i x y. elim (ℕ-discrete i q) [ yes d ↦ ap (okay exact (w .by) queues) d ∙ here | no d ↦ w .absent i (omega arith) y ];
-        tested = w .tested ∙ sym (ap (_&&_ (allBelow q (okay exact (w .by) queues))) here ∙ and-right (allBelow q (okay exact (w .by) queues))) ∙ ap (λ (n : ℕ). allBelow n (okay exact (w .by) queues)) next;
+        tested = w .tested ∙ sym (ap (_&&_ (allBelow q (okay exact variables (w .by) queues))) here ∙ and-right (allBelow q (okay exact variables (w .by) queues))) ∙ ap (λ (n : ℕ). allBelow n (okay exact variables (w .by) queues)) next;
       }
     where
       next : suc q ≡ q + 1
       next = omega arith
 
-      here : okay exact (w .by) queues q ≡ true
-      here = ap (λ (u : Queue). queueMatches (relation exact) (waitingOf u) (waitingOf (getD queues q noQueue))) (w .left q (omega arith) low) ∙ none-waits (relation exact) (waitingOf (getD queues q noQueue)) e
+      here : okay exact variables (w .by) queues q ≡ true
+      here =
+          ap (_||_ (leb variables (q % 4))) (ap (λ (u : Queue). queueMatches (relation exact) (waitingOf u) (waitingOf (getD queues q noQueue))) (w .left q (omega arith) low) ∙ none-waits (relation exact) (waitingOf (getD queues q noQueue)) e)
+          ∙ or-true (leb variables (q % 4))
 
   waits-read : {u : Queue} {n : ℕ} {v good : Bool} → q % 4 < variables → Reading f start (w .by) q u n → v ≡ queueMatches (relation exact) (waitingOf u) (waitingOf (getD queues q noQueue))
       → good ≡ waits && v → Waits exact f start variables queues n good (q + 1)
@@ -226,22 +255,18 @@ module _ {exact : Bool} {f : List ℕ} {start variables : ℕ} {queues : List Qu
         took = h .took;
         room = h .room;
         left = λ i x y. h .other i (λ d. omega arith) ∙ w .left i (omega arith) y;
-        absent = λ i x y. elim (ℕ-discrete i q) [
-          | yes d ↦ absurd (omega (arith, ap (λ (z : ℕ). z % 4) d))
-          | no d ↦ kept i d ∙ w .absent i (omega arith) y
-        ];
-        tested = g ∙ ap₂ _&&_ (w .tested ∙ all-equal q (okay exact (w .by) queues) (okay exact (h .by) queues) (λ i y. sym (kept i (λ d. omega arith)))) (r ∙ sym here)
-            ∙ ap (λ (m : ℕ). allBelow m (okay exact (h .by) queues)) next;
+        tested = g ∙ ap₂ _&&_ (w .tested ∙ all-equal q (okay exact variables (w .by) queues) (okay exact variables (h .by) queues) (λ i y. sym (kept i (λ d. omega arith)))) (r ∙ sym here)
+            ∙ ap (λ (m : ℕ). allBelow m (okay exact variables (h .by) queues)) next;
       }
     where
       next : suc q ≡ q + 1
       next = omega arith
 
-      kept : (i : ℕ) → (i ≡ q → ⊥) → okay exact (h .by) queues i ≡ okay exact (w .by) queues i
-      kept i d = ap (λ (u : Queue). queueMatches (relation exact) (waitingOf u) (waitingOf (getD queues i noQueue))) (h .other i d)
+      kept : (i : ℕ) → (i ≡ q → ⊥) → okay exact variables (h .by) queues i ≡ okay exact variables (w .by) queues i
+      kept i d = ap (λ (u : Queue). leb variables (i % 4) || queueMatches (relation exact) (waitingOf u) (waitingOf (getD queues i noQueue))) (h .other i d)
 
-      here : okay exact (h .by) queues q ≡ queueMatches (relation exact) (waitingOf u) (waitingOf (getD queues q noQueue))
-      here = ap (λ (u : Queue). queueMatches (relation exact) (waitingOf u) (waitingOf (getD queues q noQueue))) (h .there)
+      here : okay exact variables (h .by) queues q ≡ queueMatches (relation exact) (waitingOf u) (waitingOf (getD queues q noQueue))
+      here = ap₂ _||_ (lt-leb variables (q % 4) narrow) (ap (λ (u : Queue). queueMatches (relation exact) (waitingOf u) (waitingOf (getD queues q noQueue))) (h .there))
 
   reading : Reading f start (w .by) q emptyQueue k
   reading = record { by = w .by; took = w .took; room = w .room; there = w .left q (omega arith) low; other = λ i d. refl }
@@ -258,12 +283,6 @@ module _ {exact : Bool} {f : List ℕ} {start variables : ℕ} {queues : List Qu
       ∙ ap (λ (u : List ℕ). queueMatches (relation exact) u (waitingOf (getD queues q noQueue))) (sym (ap (λ (y : ℕ). waitingOf (pushed emptyQueue y)) (sym b) ∙ one-pushed x))) g
 
 -- ---- queues one after another, and by process
-
-wide-row : (x d : ℕ) (h : ℕ → Bool) → ((v : ℕ) → x ≤ v → v < x + d → h v ≡ true) → allBelow (x + d) h ≡ allBelow x h
-wide-row x zero h t = let z : x + 0 ≡ x = omega arith in ap (λ (n : ℕ). allBelow n h) z
-wide-row x (suc d) h t =
-    let z : x + suc d ≡ suc (x + d) = omega arith in
-    ap (λ (n : ℕ). allBelow n h) z ∙ ap₂ _&&_ (wide-row x d h (λ v a b. t v a (omega arith))) (t (x + d) (omega arith) (omega arith)) ∙ and-right (allBelow x h)
 
 five : (a b c d e : Bool) → (((a && b) && c) && d) && e ≡ a && ((((true && b) && c) && d) && e)
 five true b c d e = refl
@@ -287,15 +306,17 @@ by-rows (suc n) x g l t =
 
 -- ---- the whole
 
-pub walked : (s : Shape) {exact : Bool} {f : List ℕ} {start : ℕ} {queues : List Queue} {last variables end q : ℕ} {waits : Bool} → end ≡ 4 * min (s .processes) 4 → variables ≡ min (s .variables) 4
-    → Waits exact f start variables queues last waits q → q ≡ end → (qs : List Queue) × Took f start qs last × (waits ≡ allBelow (min (s .processes) 4) (queueRow (s .variables) exact qs queues))
+pub walked : (s : Shape) {exact : Bool} {f : List ℕ} {start : ℕ} {queues : List Queue} {last variables p : ℕ} {waits : Bool} → variables ≡ min (s .variables) 4
+    → Waits exact f start variables queues last waits (4 * p) → p ≡ min (s .processes) 4 → (qs : List Queue) × Took f start qs last × (waits ≡ allBelow (min (s .processes) 4) (queueRow (s .variables) exact qs queues))
 unfolding queueRow
-walked s {exact} {f} {start} {queues} {last} {variables} {end} {q} few-is narrow-is v full = (
+walked s {exact} {f} {start} {queues} {last} {variables} {p} narrow v full = (
   v .by,
   v .took,
-  let z : q ≡ 4 * min (s .processes) 4 = omega arith in
-      v .tested ∙ ap (λ (d : ℕ). allBelow d (okay exact (v .by) queues)) z
-      ∙ by-rows (min (s .processes) 4) (min (s .variables) 4) (okay exact (v .by) queues) (omega arith) (λ i l y. v .absent i (omega arith) (omega arith)),
+  v .tested ∙ by-rows p variables (okay exact variables (v .by) queues) (omega arith) (λ i l y. absent exact variables (v .by) queues i y)
+      ∙ ap₂ (λ (n x : ℕ). allBelow n (λ a. allBelow x (λ b. okay exact variables (v .by) queues (4 * a + b)))) full narrow
+      ∙ all-equal (min (s .processes) 4) (λ a. allBelow (min (s .variables) 4) (λ b. okay exact variables (v .by) queues (4 * a + b))) (queueRow (s .variables) exact (v .by) queues)
+      (λ a l. all-equal (min (s .variables) 4) (λ b. okay exact variables (v .by) queues (4 * a + b)) (λ b. queueMatches (relation exact) (waitingOf (getD (v .by) (4 * a + b) noQueue)) (waitingOf (getD queues (4 * a + b) noQueue)))
+      (λ b k. ap (λ (x : Bool). x || queueMatches (relation exact) (waitingOf (getD (v .by) (4 * a + b) noQueue)) (waitingOf (getD queues (4 * a + b) noQueue))) (lt-leb variables ((4 * a + b) % 4) (omega arith)))),
 )
 
 -- what 12s load after what was loaded before, if nothing waited

@@ -1,7 +1,7 @@
 -- What is compared of an entry's bytes and a cube. No statement rests on these definitions.
-use Prim.Native.Nat.{ℕ, suc, _+_, _*_, _-_, _<_, _≤_, min}
+use Prim.Native.Nat.{ℕ, zero, suc, _+_, _*_, _-_, _<_, _≤_, min}
 use mathlib.Core.Path.{_≡_}
-use mathlib.Core.Bool.{true}
+use mathlib.Core.Bool.{true, cond}
 use mathlib.Core.List.{List, [], _∷_}
 use lib.ListN.{length, getD, set, replicate}
 use lib.Dec.{eqb}
@@ -36,13 +36,21 @@ pub record Stands (f : List ℕ) (at back m : ℕ) (e : Cube) : Type 0 where
   pub message : (i : ℕ) → i < m → getD (e .messages) i noMessage ≡ messageAt f (back + 7 + 7 * i)
   pub pointers : e .pointers ≡ byte f (at + 5) ∷ byte f (at + 6) ∷ byte f (at + 7) ∷ byte f (at + 8) ∷ []
 
--- pointers at messages that stand for those that other pointers are at
-abbrev pub PointsSame : ℕ → List ℕ → List ℕ → List ℕ → ℕ → Type 0
-PointsSame processes zs own kept m = (p : ℕ) → p < min processes 4 → (1 ≤ getD zs p 0) × (getD zs p 0 ≤ m) × (getD own p 0 ≡ suc (getD kept (getD zs p 0 - 1) 0))
+-- pointers at some of m messages
+abbrev pub PointsWithin : ℕ → List ℕ → ℕ → Type 0
+PointsWithin processes zs m = (p : ℕ) → p < min processes 4 → (1 ≤ getD zs p 0) × (getD zs p 0 ≤ m)
 
--- a process points at i and another than j, or at j and another than i
-abbrev pub PointsOther : ℕ → List ℕ → List ℕ → ℕ → ℕ → Type 0
-PointsOther processes zs own i j = (p : ℕ) × (p < min processes 4) × (eqb (getD zs p 0) i ≡ eqb (getD own p 0) j → ⊥)
+-- who of the first n processes points at message i: 1 for the first process, 2 for the next, then 4 and so on, added up
+abbrev pub oneOf : ℕ → ℕ
+oneOf zero = 1
+oneOf (suc p) = oneOf p + oneOf p
+
+abbrev pub pointedBy : ℕ → List ℕ → ℕ → ℕ
+pointedBy zero zs i = 0
+pointedBy (suc p) zs i = pointedBy p zs i + (cond (eqb (getD zs p 0) i) (oneOf p) 0)
+
+abbrev pub Pointing : ℕ → List ℕ → List ℕ → Type 0
+Pointing n zs who = (i : ℕ) → i < 21 → getD who i 0 ≡ pointedBy n zs i
 
 -- ---- waiting values
 

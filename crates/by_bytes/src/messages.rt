@@ -3,7 +3,7 @@ ghost use mathlib.Core.Path.{_≡_};
 ghost use mathlib.Core.Bool.{true, false};
 ghost use mathlib.Core.List.{[], _∷_};
 ghost use Prim.Native.Nat.{ℕ, _+_, _*_, _/_, _%_, _≤_, _<_, min};
-ghost use lib.ListN.{length};
+ghost use lib.ListN.{length, replicate};
 ghost use Rattle.program_part.specs.Bytes.{byte};
 ghost use Rattle.program_part.specs.Records.{messageAt};
 ghost use Rattle.pws.specs.declared.Message.{Message as Messages};
@@ -13,13 +13,12 @@ ghost use Rattle.lists.specs.Matching.{messageMatches};
 ghost use Rattle.matching.specs.Relation.{relation};
 ghost use Rattle.matching.specs.Match.{channelMatches};
 ghost use Rattle.matching.specs.Cue.{Cue};
-ghost use Rattle.by_bytes.specs.Same.{Leads, Kinds, Stands, PointsSame, PointsOther};
+ghost use Rattle.by_bytes.specs.Same.{Leads, Kinds, Stands, PointsWithin, Pointing};
 ghost use Rattle.by_bytes.specs.Against.{Against};
 use crate::Compared;
 use crate::not_same;
 use crate::told;
 use matching::least;
-use matching::lowest;
 use matching::values_related;
 use matching::word;
 use program_part::bytes::both;
@@ -71,44 +70,33 @@ fn pointers_at(file: &[u8], at: usize) -> [u8; 4]
     [file[at + 5], file[at + 6], file[at + 7], file[at + 8]]
 }
 
-fn small(x: u8) -> usize
-    ensures { λ r. ⌜ (r ≡ x) × (r < 256) ⌝ }
-{
-    x as usize
-}
-
-// Each pointer of the entry is at the message that stands for the one that the cube's is at.
-fn points_same(processes: usize, pointers: [u8; 4], own: [u8; 4], kept: [u8; 20], m: usize) -> bool
-    ensures { λ r. ⌜ (r ≡ true → PointsSame processes pointers own kept m) ⌝ }
+// Each pointer is at one of m messages.
+fn points_within(processes: usize, pointers: [u8; 4], m: usize) -> bool
+    ensures { λ r. ⌜ (r ≡ true → PointsWithin processes pointers m) ⌝ }
 {
     let n = least(processes, 4);
     for p in 0..n {
         let z = wide(pointers[p]);
-        if !both(0 < z, z <= least(m, 20)) {
-            return false;
-        }
-        if small(kept[z - 1]) + 1 != wide(own[p]) {
+        if !both(0 < z, z <= m) {
             return false;
         }
     }
     true
 }
 
-// Some process points at only one of message i of the entry and message j of the cube.
-fn points_other(processes: usize, pointers: [u8; 4], own: [u8; 4], i: usize, j: usize) -> bool
-    ensures { λ r. ⌜ (r ≡ true → PointsOther processes pointers own i j) ⌝ }
+// Who points at each message: 1 for the first process, 2 for the next, then 4 and 8, added up. A pointer past 20 counts at 21. The table is filled where it
+// stands, since a copy of it would have to wait for its bytes.
+fn pointing(processes: usize, pointers: [u8; 4], who: &mut [u8])
+    requires { ⌜ now who ≡ replicate 22 0 ⌝ }
+    ensures { λ _. ⌜ Pointing (min processes 4) pointers (now (who .exit)) ⌝ }
 {
     let n = least(processes, 4);
+    let mut one = 1;
     for p in 0..n {
-        if wide(pointers[p]) == i {
-            if wide(own[p]) != j {
-                return true;
-            }
-        } else if wide(own[p]) == j {
-            return true;
-        }
+        let z = least(wide(pointers[p]), 21);
+        who[z] += one;
+        one += one;
     }
-    false
 }
 
 // The four bytes that a number has.
@@ -142,23 +130,14 @@ fn meets(exact: bool, file: &[u8], k: usize, cue: usize) -> bool
     values_related(exact, values, bytes_of(other / 65536))
 }
 
-// The i-th 11 of the entry can stand for the j-th message of the cube, which a cue tells.
-fn stands_for(
-    exact: bool,
-    file: &[u8],
-    back: usize,
-    i: usize,
-    j: usize,
-    cue: usize,
-    processes: usize,
-    pointers: [u8; 4],
-    own: [u8; 4],
-) -> bool
+// The i-th 11 of the entry can stand for the message that a cue tells, if the same processes point at both.
+fn stands_for(exact: bool, file: &[u8], back: usize, i: usize, cue: usize, pointed: bool) -> bool
     requires { ⌜ back + 7 + 7 * i ≤ length (now file) ⌝ }
     requires { ⌜ i ≤ 20 ⌝ }
     ensures { λ r. ⌜ (r ≡ true → 1 ≤ i) ⌝ }
     ensures { λ r. ⌜ ((m : Messages) → (tag : ℕ) → Cue cue m tag → r ≡ true → messageMatches (relation exact) (messageAt (now (file .entry)) (back + 7 * i)) m ≡ true) ⌝ }
-    ensures { λ r. ⌜ ((m : Messages) → (tag : ℕ) → Cue cue m tag → r ≡ false → 1 ≤ i → messageMatches (relation exact) (messageAt (now (file .entry)) (back + 7 * i)) m ≡ true → PointsOther processes pointers own i j) ⌝ }
+    ensures { λ r. ⌜ (r ≡ true → pointed ≡ true) ⌝ }
+    ensures { λ r. ⌜ ((m : Messages) → (tag : ℕ) → Cue cue m tag → r ≡ false → 1 ≤ i → messageMatches (relation exact) (messageAt (now (file .entry)) (back + 7 * i)) m ≡ true → pointed ≡ false) ⌝ }
 {
     if i == 0 {
         return false;
@@ -166,14 +145,11 @@ fn stands_for(
     if !meets(exact, file, back + 7 * i, cue) {
         return false;
     }
-    if points_other(processes, pointers, own, i, j) {
-        return false;
-    }
-    true
+    pointed
 }
 
 // The m 11s behind a place, of the entry whose 10 stands at another, newest first: each stands for the newest message of the cube that is left and that it can stand for. If one
-// is left over, the entry does not match. If none is, every message with a role has one that stands for it and the pointers agree, it does.
+// is left over, the entry does not match. If none is, every message with a role has one that stands for it and the pointers are at these 11s, it does.
 pub(crate) fn channel_at(
     exact: bool,
     file: &[u8],
@@ -190,11 +166,15 @@ pub(crate) fn channel_at(
     ensures { λ r. ⌜ (r .same ≡ true → (e : Cubes) → Stands (now (file .entry)) at back m e → Against shape cube (now (cues .entry)) → (r .related ≡ true → e .count ≡ m → channelMatches shape exact e cube ≡ true) × (r .related ≡ false → channelMatches shape exact e cube ≡ false)) ⌝ }
 {
     let pointers = pointers_at(file, at);
-    if lowest(shape, pointers) != 1 {
+    let own = cube.pointers;
+    let mut theirs = [0u8; 22];
+    pointing(shape.processes, pointers, &mut theirs);
+    let mut ours = [0u8; 22];
+    pointing(shape.processes, own, &mut ours);
+    // every message counts if a process is at the first
+    if theirs[1] == 0 {
         return not_same();
     }
-    let own = cube.pointers;
-    let mut kept = [0u8; 20];
     let mut all = true;
     let mut i = m;
     let mut j = least(cube.count, 20);
@@ -206,10 +186,9 @@ pub(crate) fn channel_at(
             break;
         }
         let cue = cues[j - 1];
-        if stands_for(exact, file, back, i, j, cue, shape.processes, pointers, own) {
+        if stands_for(exact, file, back, i, cue, theirs[i] == ours[j]) {
             j -= 1;
             i -= 1;
-            kept[i] = j as u8;
         } else {
             j -= 1;
             all = both(all, cue % 2 == 0);
@@ -218,8 +197,7 @@ pub(crate) fn channel_at(
     if !all {
         return not_same();
     }
-    let theirs = cube.pointers;
-    if !points_same(shape.processes, pointers, theirs, kept, m) {
+    if !points_within(shape.processes, pointers, m) {
         return not_same();
     }
     told(true)

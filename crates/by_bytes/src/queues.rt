@@ -91,40 +91,36 @@ struct Walked {
 fn waits_from(exact: bool, file: &[u8], at: usize, shape: Shape, queues: [Queue; 16]) -> Walked
     ensures { λ r. ⌜ (r .same ≡ true → (qs : List Queues) × Took (now (file .entry)) at qs (r .next) × (r .related ≡ allBelow (min (shape .processes) 4) (queueRow (shape .variables) exact qs queues))) ⌝ }
 {
-    let end = 4 * least(shape.processes, 4);
+    let processes = least(shape.processes, 4);
     let variables = least(shape.variables, 4);
     let mut k = at;
     let mut waits = true;
-    for q in 0..end {
-        let queue = queues[q];
-        let w = waiting(queue);
-        if w == 0 {
-            continue;
+    for p in 0..processes {
+        for v in 0..variables {
+            let q = 4 * p + v;
+            let queue = queues[q];
+            let w = waiting(queue);
+            if w == 0 {
+                continue;
+            }
+            if !waits_at(file, k, q) {
+                return Walked {
+                    same: false,
+                    related: false,
+                    next: at,
+                };
+            }
+            if waits_at(file, k + 4, q) {
+                let held = held_from(file, k, q);
+                let found = held.queue;
+                waits = both(waits, queue_matches(exact, found, queue));
+                k = held.next;
+                continue;
+            }
+            // one value: it is the newest that counts
+            waits = both(waits, related(exact, file[k + 3], last_waiting(queue)));
+            k += 4;
         }
-        if variables <= q % 4 {
-            return Walked {
-                same: false,
-                related: false,
-                next: at,
-            };
-        }
-        if !waits_at(file, k, q) {
-            return Walked {
-                same: false,
-                related: false,
-                next: at,
-            };
-        }
-        if waits_at(file, k + 4, q) {
-            let held = held_from(file, k, q);
-            let found = held.queue;
-            waits = both(waits, queue_matches(exact, found, queue));
-            k = held.next;
-            continue;
-        }
-        // one value: it is the newest that counts
-        waits = both(waits, related(exact, file[k + 3], last_waiting(queue)));
-        k += 4;
     }
     Walked {
         same: true,
