@@ -1,5 +1,5 @@
 -- The table of full families: what stands in it, and what is said of a cube that is found there.
-use Prim.Native.Nat.{ℕ, zero, suc, _+_, _-_, _*_, _/_, _<_, _≤_, min}
+use Prim.Native.Nat.{ℕ, zero, suc, _+_, _-_, _*_, _/_, _%_, _<_, _≤_, min}
 use mathlib.Core.Path.{_≡_, refl, sym, ap, ap₂, subst, subst₂, _∙_}
 use mathlib.Core.Bool.{Bool, true}
 use mathlib.Core.List.{List}
@@ -27,6 +27,7 @@ use Rattle.program_part.specs.Bytes.{byte, le32}
 use Rattle.program_part.specs.ProgramPart.{shapeOf}
 use Rattle.program_part.proofs.ByteLaws.{byte-past}
 use Rattle.whole_file.specs.declared.entry.Cube.{Cube}
+use Rattle.whole_file.specs.declared.entry.Queue.{Queue}
 use Rattle.whole_file.specs.Cube.{noQueue, waitingOf, channelOf, configurationOf, loadEntry}
 use Rattle.whole_file.proofs.CubeParts.{queue-of}
 use Rattle.by_number.specs.Again.{cubeAt, entriesOf}
@@ -35,7 +36,7 @@ use Rattle.matching.specs.Match.{queueRow}
 use Rattle.by_bytes.specs.Same.{Within}
 use Rattle.summary.specs.Slots.{word, putWord}
 use Rattle.summary.proofs.WordLaws.{word-same, word-other}
-use Rattle.families.specs.Family.{InFamily, FamilyHeld, Families, Recorded, newestValues}
+use Rattle.families.specs.Family.{InFamily, FamilyHeld, standing, Families, PartsOf, Recorded, newestValues}
 use Rattle.families.proofs.FullLaws.{family-held, family-update}
 use Rattle.families.proofs.SerialiseLaws.{family-serialise}
 
@@ -83,11 +84,13 @@ module _ (s : Shape) (e c : Cube) (few : s .processes ≤ 4) (narrow : s .variab
         newest = subst T (sym z) tt;
       }
 
-pub within-family : (s : Shape) (f : List ℕ) (at : ℕ) (c : Cube) → s .processes ≤ 4 → s .variables ≤ 4 → {vs : List ℕ} → vs ≡ newestValues c → (c .count ≡ 0 → ⊥) → c .count ≤ 20
-    → Within f at s (c .states) (c .queues) vs → InFamily (shapeOf s) (configurationOf (loadEntry f at)) (configurationOf c)
-within-family s f at c few narrow d a b w =
+pub within-family : (s : Shape) (f : List ℕ) (at : ℕ) (c : Cube) → s .processes ≤ 4 → s .variables ≤ 4 → {ss : List ℕ} {qs : List Queue} {vs : List ℕ} → PartsOf c ss qs vs
+    → Within f at s ss qs vs → InFamily (shapeOf s) (configurationOf (loadEntry f at)) (configurationOf c)
+within-family s f at c few narrow {ss} {qs} {vs} P u =
+    let w = subst (λ (xs : List Queue). Within f at s (c .states) xs vs) (P .queues-are) (subst (λ (xs : List ℕ). Within f at s xs qs vs) (P .states-are) u) in
     in-family-is s (loadEntry f at) c few narrow refl (w .states) refl (w .queues)
-    (ap₂ (pairwise fills) (sym (values-some (loadEntry f at) (w .some) (w .few) ∙ values-newest (loadEntry f at) (w .some) (w .few))) (sym (d ∙ values-newest c (omega arith) b)) ∙ w .newest)
+    (ap₂ (pairwise fills) (sym (values-some (loadEntry f at) (w .some) (w .few) ∙ values-newest (loadEntry f at) (w .some) (w .few)))
+    (sym (P .values-are ∙ values-newest c (P .some) (P .few))) ∙ w .newest)
 
 -- ---- words
 
@@ -97,7 +100,7 @@ word-short table i x l = rw (le-ltb i (length table / 4) l) refl
 
 -- an empty table
 pub families-none : (S : pws.Shape) (es : List Configuration) (m : ℕ) → Families S es (replicate m 0)
-unfolding word le32
+unfolding standing word le32
 families-none S es m i a b c = absurd (omega (arith, b, blank-word i))
   where
     blank : (i : ℕ) → byte (replicate m 0) i ≡ 0
@@ -110,24 +113,39 @@ families-none S es m i a b c = absurd (omega (arith, b, blank-word i))
     ]
 
 module _ (S : pws.Shape) (es : List Configuration) (table : List ℕ) where
+  -- what stands there as before is full as before
+  unchanged : (next : List ℕ) (i : ℕ) → word next i ≡ word table i → Families S es table → i < 1024 → 1 ≤ standing next i → standing next i ≤ length es → FamilyHeld S es (entry es (standing next i - 1))
+  unfolding standing
+  unchanged next i e F a b c = subst (λ (w : ℕ). FamilyHeld S es (entry es (w % 1048576 - 1))) (sym e) (F i a (omega (arith, e)) (omega (arith, e)))
+
   -- what counts is not asked
   pub families-counted : (at x : ℕ) → 1024 ≤ at → Families S es table → Families S es (putWord table at x)
-  families-counted at x l F i a b c =
-      let e = word-other table at x i (λ d. omega arith) in
-      subst (λ (w : ℕ). FamilyHeld S es (entry es (w - 1))) (sym e) (F i a (omega (arith, e)) (omega (arith, e)))
+  families-counted at x l F i a b c = unchanged (putWord table at x) i (word-other table at x i (λ d. omega arith)) F a b c
 
-  pub families-put : (at k : ℕ) → k < 524288 → FamilyHeld S es (entry es k) → Families S es table → Families S es (putWord table at (k + 1))
-  families-put at k l H F i a b c = elim (ℕ-discrete i at) [
+  pub families-put : (at k x : ℕ) → x % 1048576 ≡ k + 1 → x < 4294967296 → FamilyHeld S es (entry es k) → Families S es table → Families S es (putWord table at x)
+  unfolding standing
+  families-put at k x r l H F i a b c = elim (ℕ-discrete i at) [
     | yes d ↦ elim (decLt at (length table / 4)) [
-      | yes m ↦ let e = ap (word (putWord table at (k + 1))) d ∙ word-same table at (k + 1) m (omega arith) in
-          subst (λ (w : ℕ). FamilyHeld S es (entry es (w - 1))) (sym e) (subst (λ (w : ℕ). FamilyHeld S es (entry es w)) {x = k} {y = k + 1 - 1} (omega arith) H)
-      | no m ↦ let e = ap (λ (t : List ℕ). word t i) (word-short table at (k + 1) (omega arith)) in
-          subst (λ (w : ℕ). FamilyHeld S es (entry es (w - 1))) (sym e) (F i a (omega (arith, e)) (omega (arith, e)))
+      | yes m ↦ let e = ap (word (putWord table at x)) d ∙ word-same table at x m l in subst (λ (w : ℕ). FamilyHeld S es (entry es w)) {x = k} {y = word (putWord table at x) i % 1048576 - 1} (omega (arith, e, r)) H
+      | no m ↦ unchanged (putWord table at x) i (ap (λ (t : List ℕ). word t i) (word-short table at x (omega arith))) F a b c
     ]
-    | no d ↦ let e = word-other table at (k + 1) i d in subst (λ (w : ℕ). FamilyHeld S es (entry es (w - 1))) (sym e) (F i a (omega (arith, e)) (omega (arith, e)))
+    | no d ↦ unchanged (putWord table at x) i (word-other table at x i d) F a b c
   ]
 
 -- ---- a cube that is found
+
+-- an entry that stands at a word
+pub recorded-at : (table f list : List ℕ) (n : ℕ) (s : Shape) (c : Cube) (slot : ℕ) {w : ℕ} → w ≡ word table slot → slot < 1024 → (w % 1048576 ≡ 0 → ⊥) → w % 1048576 ≤ n
+    → (s .processes ≤ 4 → s .variables ≤ 4 → InFamily (shapeOf s) (configurationOf (cubeAt f list (w % 1048576 - 1))) (configurationOf c)) → Recorded table f list n s c
+unfolding standing
+recorded-at table f list n s c slot e l a b i =
+    record {
+      slot = slot;
+      low = l;
+      some = omega (arith, a, e);
+      known = omega (arith, b, e);
+      inside = subst (λ (w : ℕ). s .processes ≤ 4 → s .variables ≤ 4 → InFamily (shapeOf s) (configurationOf (cubeAt f list (w % 1048576 - 1))) (configurationOf c)) e i;
+    }
 
 -- entries that fit, by number, as entries of the list
 pub listed : (S : pws.Shape) (f list : List ℕ) (n : ℕ) → ((k : ℕ) → k < n → Fits (ValueOrFF S) S (configurationOf (cubeAt f list k)))
@@ -141,7 +159,7 @@ module _ (s : Shape) (R : pws.ShapeInRange (shapeOf s)) (f list : List ℕ) (n :
   es = entriesOf f list n
 
   abbrev number : ℕ
-  number = word table (r .slot) - 1
+  number = standing table (r .slot) - 1
 
   found-full : FamilyHeld (shapeOf s) es (configurationOf (cubeAt f list number))
   found-full =

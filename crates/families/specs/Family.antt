@@ -1,5 +1,5 @@
 -- Families of configurations: what number 11 asks of an entry does not depend on most of its channel, so it is often asked of all of them at once.
-use Prim.Native.Nat.{ℕ, _-_, _<_, _≤_}
+use Prim.Native.Nat.{ℕ, _-_, _%_, _<_, _≤_}
 use mathlib.Core.Path.{_≡_}
 use mathlib.Core.Bool.{cond, _&&_}
 use mathlib.Core.List.{List, [], _∷_, map}
@@ -17,6 +17,7 @@ use Rattle.lists.specs.Shapes.{memoryShapes}
 use Rattle.program_part.specs.declared.program.Shape as file
 use Rattle.program_part.specs.ProgramPart.{shapeOf}
 use Rattle.whole_file.specs.declared.entry.Cube.{Cube}
+use Rattle.whole_file.specs.declared.entry.Queue.{Queue}
 use Rattle.whole_file.specs.Cube.{configurationOf}
 use Rattle.by_number.specs.Again.{cubeAt}
 use Rattle.summary.specs.Slots.{word}
@@ -32,22 +33,34 @@ pub record InFamily (S : Shape) (e d : Configuration) : Type 0 where
 abbrev pub FamilyHeld : Shape → List Configuration → Configuration → Type 0
 FamilyHeld S es e = (d : Configuration) → Fits (ValueOf S) S d → InFamily S e d → AboveList S es d
 
--- A table of entries whose families are full: 1,024 words, each the number of an entry, counted from 1; other words are not asked. What it has of other
+-- the number of the entry that stands at word i of a table, counted from 1, 0 for none; the upper bits of a word say nothing
+unfoldable pub standing : List ℕ → ℕ → ℕ
+standing table i = word table i % 1048576
+
+-- A table of entries whose families are full: 1,024 words, each with the number of an entry; other words are not asked. What it has of other
 -- numbers says nothing.
 abbrev pub Families : Shape → List Configuration → List ℕ → Type 0
-Families S es table = (i : ℕ) → i < 1024 → 1 ≤ word table i → word table i ≤ length es → FamilyHeld S es (entry es (word table i - 1))
+Families S es table = (i : ℕ) → i < 1024 → 1 ≤ standing table i → standing table i ≤ length es → FamilyHeld S es (entry es (standing table i - 1))
 
 -- the values of the newest of at most 20 messages
 unfoldable pub newestValues : Cube → List ℕ
 newestValues c = cond (leb 1 (c .count) && leb (c .count) 20) (getD (c .messages) (c .count - 1) noMessage .snapshot) (replicate 4 0)
 
+-- what a cube, which has messages, is looked for by
+pub record PartsOf (c : Cube) (states : List ℕ) (queues : List Queue) (values : List ℕ) : Type 0 where
+  pub some : 1 ≤ c .count
+  pub few : c .count ≤ 20
+  pub states-are : states ≡ c .states
+  pub queues-are : queues ≡ c .queues
+  pub values-are : values ≡ newestValues c
+
 -- a cube is in the family of an entry that stands in the table
 pub record Recorded (table f list : List ℕ) (n : ℕ) (s : file.Shape) (c : Cube) : Type 0 where
   pub slot : ℕ
   pub low : slot < 1024
-  pub some : 1 ≤ word table slot
-  pub known : word table slot ≤ n
-  pub inside : s .processes ≤ 4 → s .variables ≤ 4 → InFamily (shapeOf s) (configurationOf (cubeAt f list (word table slot - 1))) (configurationOf c)
+  pub some : 1 ≤ standing table slot
+  pub known : standing table slot ≤ n
+  pub inside : s .processes ≤ 4 → s .variables ≤ 4 → InFamily (shapeOf s) (configurationOf (cubeAt f list (standing table slot - 1))) (configurationOf c)
 
 -- ---- the cubes that are looked for: e with every irreducible memory in place of its own
 

@@ -13,7 +13,7 @@ ghost use Rattle.lists.specs.Cubes.{topmost};
 ghost use Rattle.program_part.specs.ProgramPart.{shapeOf};
 ghost use Rattle.whole_file.specs.Cube.{configurationOf, loadEntry};
 ghost use Rattle.by_number.specs.Again.{cubeAt};
-ghost use Rattle.families.specs.Family.{InFamily, FamilyHeld, Families, Recorded, newestValues};
+ghost use Rattle.families.specs.Family.{InFamily, FamilyHeld, Families, PartsOf, Recorded, newestValues};
 use by_bytes::within_at;
 use by_number::offset_at;
 use matching::least;
@@ -84,21 +84,21 @@ fn in_built_family(file: &[u8], at: usize, shape: Shape, cube: Cube) -> bool
     newest_fits(entry, cube)
 }
 
-// The cube is in the family of entry k.
-fn in_family(file: &[u8], list: &[u8], shape: Shape, k: usize, cube: Cube) -> bool
+// The cube, which has these parts, is in the family of entry k.
+fn in_family(
+    file: &[u8],
+    list: &[u8],
+    shape: Shape,
+    k: usize,
+    states: [u8; 4],
+    queues: [Queue; 16],
+    values: [u8; 4],
+    cube: Cube,
+) -> bool
+    requires { ⌜ PartsOf cube states queues values ⌝ }
     ensures { λ r. ⌜ (r ≡ true → shape .processes ≤ 4 → shape .variables ≤ 4 → InFamily (shapeOf shape) (configurationOf (cubeAt (now (file .entry)) (now (list .entry)) k)) (configurationOf cube)) ⌝ }
 {
-    let n = cube.count;
-    if n == 0 {
-        return false;
-    }
-    if 20 < n {
-        return false;
-    }
     let at = offset_at(list, k);
-    let states = cube.states;
-    let queues = cube.queues;
-    let values = newest_values(cube);
     // most entries are told by their bytes
     let compared = within_at(file, at, shape, states, queues, values);
     if compared.same {
@@ -108,34 +108,96 @@ fn in_family(file: &[u8], list: &[u8], shape: Shape, k: usize, cube: Cube) -> bo
 }
 
 // ---- the table: words 0 to 1,023 are entries whose families are full, eight in a row for local states and empty queues that fall together;
-// words 1,024 to 2,047 count entries. Where something stands changes only the speed.
+// words 1,024 to 2,047 count entries. Where something stands changes only the speed. A word has its entry's number, counted from 1, in its lower 20 bits. In
+// the upper 12 it has a digest of that entry, which changes only the speed too: most cubes that are not in its family are told without looking into the file.
 
-// A bit for each queue: does something wait there?
-fn open_queues(shape: Shape, queues: [Queue; 16]) -> u64 {
+// The next two of eight bits.
+fn next_pair(unit: usize) -> usize {
+    (unit << 2 | unit >> 6) % 256
+}
+
+// The bit of a value that is not free, of the pair that `unit` begins.
+fn value_bit(unit: usize, x: u8) -> usize {
+    if x == 255 {
+        return 0;
+    }
+    unit << x % 2
+}
+
+// The bits of the newest values: a pair for each variable.
+fn newest_bits(variables: usize, values: [u8; 4]) -> usize {
+    let m = least(variables, 4);
+    let mut unit = 1;
+    let mut bits = 0;
+    for v in 0..m {
+        bits = bits | value_bit(unit, values[v]);
+        unit = next_pair(unit);
+    }
+    bits
+}
+
+// The bit of the newest value that waits in a queue.
+fn last_bit(unit: usize, queue: Queue) -> usize {
+    let n = waiting(queue);
+    if n == 0 {
+        return 0;
+    }
+    value_bit(unit, queue.values[n - 1])
+}
+
+// A bit for each queue: does something wait there? And the bits of the newest waiting values, a pair for each queue, behind those of the variables.
+struct Waiting {
+    busy: u64,
+    bits: usize,
+}
+
+fn waiting_bits(shape: Shape, queues: [Queue; 16]) -> Waiting {
     let n = least(shape.processes, 4);
     let m = least(shape.variables, 4);
+    let mut unit = 1 << (m << 1) % 8;
+    let mut busy = 0;
     let mut bits = 0;
     for p in 0..n {
         for v in 0..m {
             let queue = queues[4 * p + v];
             if waiting(queue) == 0 {
-                bits = bits << 1;
+                busy = busy << 1;
             } else {
-                bits = bits << 1 ^ 1;
+                busy = busy << 1 ^ 1;
+                bits = bits | last_bit(unit, queue);
             }
+            unit = next_pair(unit);
         }
     }
-    bits
+    Waiting {
+        busy: busy,
+        bits: bits,
+    }
 }
 
-// The row in which full families of a cube with these local states and empty queues stand.
-fn row_of(shape: Shape, cube: Cube) -> usize
-    ensures { λ r. ⌜ r ≤ 1016 ⌝ }
+// What a cube is looked for by: the row in which full families with its local states and empty queues stand; bits of the number of its local states that the row
+// has not; and the bits of its values. A cube in the family of an entry has the entry's mark and all of the entry's bits.
+struct Look {
+    row: usize,
+    mark: usize,
+    bits: usize,
+}
+
+fn look_of(shape: Shape, states: [u8; 4], queues: [Queue; 16], values: [u8; 4]) -> Look
+    ensures { λ r. ⌜ r .row ≤ 1016 ⌝ }
 {
-    let states = cube.states;
-    let queues = cube.queues;
-    let h = states_number(shape, states) ^ open_queues(shape, queues);
-    ((h % 128) as usize) << 3
+    let seen = waiting_bits(shape, queues);
+    let h = states_number(shape, states);
+    Look {
+        row: (((h ^ seen.busy) % 128) as usize) << 3,
+        mark: ((h / 128 % 16) as usize) << 8,
+        bits: newest_bits(shape.variables, values) | seen.bits,
+    }
+}
+
+// The family of a word may have the cube in it.
+fn may_have(word: usize, mark: usize, bits: usize) -> bool {
+    (word / 1048576 ^ mark) | bits == bits
 }
 
 // The cube is in a family that stands in the table.
@@ -149,17 +211,30 @@ pub fn in_full_family(
 ) -> bool
     ensures { λ r. ⌜ (r ≡ true → Recorded (now (table .entry)) (now (file .entry)) (now (list .entry)) n shape cube) ⌝ }
 {
-    let row = row_of(shape, cube);
+    let count = cube.count;
+    if count == 0 {
+        return false;
+    }
+    if 20 < count {
+        return false;
+    }
+    let states = cube.states;
+    let queues = cube.queues;
+    let values = newest_values(cube);
+    let look = look_of(shape, states, queues, values);
     for j in 0..8 {
-        let x = word_at(table, row + j);
+        let word = word_at(table, look.row + j);
+        let x = word % 1048576;
         if x == 0 {
             return false;
         }
         if n < x {
             return false;
         }
-        if in_family(file, list, shape, x - 1, cube) {
-            return true;
+        if may_have(word, look.mark, look.bits) {
+            if in_family(file, list, shape, x - 1, states, queues, values, cube) {
+                return true;
+            }
         }
     }
     false
@@ -185,8 +260,12 @@ pub fn put_family(table: &mut [u8], shape: Shape, cube: Cube, k: usize)
     if 524288 <= k {
         return;
     }
-    let at = free_word(table, row_of(shape, cube));
-    put_word(table, at, k + 1);
+    let states = cube.states;
+    let queues = cube.queues;
+    let look = look_of(shape, states, queues, newest_values(cube));
+    let digest = (look.mark | look.bits) % 4096;
+    let at = free_word(table, look.row);
+    put_word(table, at, k + 1 + (digest << 20));
 }
 
 // ---- how many entries of a family were met

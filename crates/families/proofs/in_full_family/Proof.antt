@@ -1,53 +1,58 @@
-use Prim.Native.Nat.{ℕ, _+_, _-_, _≤_}
-use mathlib.Core.Path.{subst}
+use Prim.Native.Nat.{_+_, _-_, _≤_}
+use mathlib.Core.Path.{refl}
 use mathlib.Core.Bool.{false≢true}
 use native.Mathlib.Omega.{arith}
-use Rattle.program_part.specs.ProgramPart.{shapeOf}
-use Rattle.whole_file.specs.Cube.{configurationOf}
-use Rattle.by_number.specs.Again.{cubeAt}
-use Rattle.families.specs.Family.{InFamily}
+use Rattle.families.proofs.TableLaws.{recorded-at}
 use Rattle.families.proofs.in_full_family.Statement.{statement}
 use Rattle.families.proofs.in_full_family.Tie as tie
 
 abbrev Inv-loop : tie.InvT-loop
-Inv-loop table file list n shape cube row j₀ j = j ≤ 8
+Inv-loop table file list n shape cube count states queues values look j₀ j = j ≤ 8
 
 abbrev μ-loop : tie.MeasureT-loop
-μ-loop table file list n shape cube row j₀ j = 8 - j
+μ-loop table file list n shape cube count states queues values look j₀ j = 8 - j
 
 pub in-full-family-spec : {M : Type 1} → statement M
 in-full-family-spec = tie.close (tie.spec
     Inv-loop
     μ-loop
-    -- row-of-requires
-    (λ c κs. tt)
-    -- loop-holds
-    (λ c. omega arith)
-    -- add-word-at
-    (λ c. omega (arith, c .loop-test .taken, c .before .before .row-of .ensures))
-    -- word-at-requires
-    (λ c κs. tt)
     -- returns
     (λ c e. absurd (false≢true e))
     -- returns-2
     (λ c e. absurd (false≢true e))
-    -- sub-in-family
-    (λ c. omega (arith, c .before .if1 .left))
-    -- in-family-requires
+    -- newest-values-requires
+    (λ c κs. tt)
+    -- look-of-requires
+    (λ c κs. tt)
+    -- loop-holds
+    (λ c. omega arith)
+    -- add-word-at
+    (λ c. omega (arith, c .before .loop-test .taken, c .before .before .before .look-of .ensures))
+    -- word-at-requires
     (λ c κs. tt)
     -- returns-3
-    (λ c e. let w = c .before .before .before .before .word-at .ensures .0 in record {
-      slot = c .before .before .before .before .before .before .before .row-of .result + c .before .before .before .before .before .before .loop .j;
-      low = omega (arith, c .before .before .before .before .before .loop-test .taken, c .before .before .before .before .before .before .before .row-of .ensures);
-      some = omega (arith, c .before .before .before .if1 .left, w);
-      known = omega (arith, c .before .before .if2 .left, w);
-      inside = λ a b. subst (λ (x : ℕ). InFamily (shapeOf (c .before .before .before .before .before .before .before .before .before .before .before .args .shape)) (configurationOf (cubeAt (c .before .before .before .before .before .before .before .before .before .before .before .args .file .now) (c .before .before .before .before .before .before .before .before .before .before .before .args .list .now) (x - 1))) (configurationOf (c .before .before .before .before .before .before .before .before .before .before .before .args .cube))) w (c .before .in-family .ensures (c .if3 .taken) a b);
-    })
-    -- add-j
-    (λ c. omega (arith, c .before .before .before .before .before .loop-test .taken))
-    -- loop-less
-    (λ c. omega (arith, c .before .before .before .before .before .loop-test .taken))
-    -- loop-again
-    (λ c. omega (arith, c .before .before .before .before .before .loop-test .taken))
+    (λ c e. absurd (false≢true e))
     -- returns-4
+    (λ c e. absurd (false≢true e))
+    -- may-have-requires
+    (λ c κs. tt)
+    -- sub-in-family
+    (λ c. omega (arith, c .before .before .before .if3 .left))
+    -- in-family-requires
+    (λ c κs. record {
+      some = omega (arith, c .before .before .before .before .before .before .before .before .before .before .before .before .before .if1 .left);
+      few = c .before .before .before .before .before .before .before .before .before .before .before .before .if2 .left;
+      states-are = refl;
+      queues-are = refl;
+      values-are = c .before .before .before .before .before .before .before .before .before .newest-values .ensures;
+    })
+    -- returns-5
+    (λ c e. recorded-at (c .before .before .before .before .before .before .before .before .before .before .before .before .before .before .before .before .before .before .before .args .table .now) (c .before .before .before .before .before .before .before .before .before .before .before .before .before .before .before .before .before .before .before .args .file .now) (c .before .before .before .before .before .before .before .before .before .before .before .before .before .before .before .before .before .before .before .args .list .now) (c .before .before .before .before .before .before .before .before .before .before .before .before .before .before .before .before .before .before .before .args .n) (c .before .before .before .before .before .before .before .before .before .before .before .before .before .before .before .before .before .before .before .args .shape) (c .before .before .before .before .before .before .before .before .before .before .before .before .before .before .before .before .before .before .before .args .cube) (c .before .before .before .before .before .before .before .before .before .before .look-of .result .row + c .before .before .before .before .before .before .before .before .before .loop .j) (c .before .before .before .before .before .before .word-at .ensures .0) (omega (arith, c .before .before .before .before .before .before .before .before .loop-test .taken, c .before .before .before .before .before .before .before .before .before .before .look-of .ensures)) (c .before .before .before .before .before .if3 .left) (c .before .before .before .before .if4 .left) (c .before .in-family .ensures (c .if6 .taken)))
+    -- add-j
+    (λ c. omega (arith, c .before .before .before .before .before .before .loop-test .taken))
+    -- loop-less
+    (λ c. omega (arith, c .before .before .before .before .before .before .loop-test .taken))
+    -- loop-again
+    (λ c. omega (arith, c .before .before .before .before .before .before .loop-test .taken))
+    -- returns-6
     (λ c e. absurd (false≢true e)))

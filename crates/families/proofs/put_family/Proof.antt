@@ -13,15 +13,19 @@ pub put-family-spec : {M : Type 1} → statement M
 put-family-spec = tie.close (tie.spec
     -- returns
     (λ c. (refl, λ S es H F. F))
-    -- row-of-requires
+    -- newest-values-requires
+    (λ c κs. tt)
+    -- look-of-requires
     (λ c κs. tt)
     -- free-word-requires
-    (λ c κs. c .row-of .ensures)
+    (λ c κs. search needs)
     -- add-put-word
-    (λ c. omega (arith, c .before .before .before .before .if1 .left))
+    (λ c. search needs)
+    -- add-put-word-2
+    (λ c. search needs)
     -- put-word-requires
     (λ c κs. tt)
     -- same-length
     (λ c. search needs)
     -- returns-2
-    (λ c. let e = c .before .before .put-word .ensures in (ap length e ∙ put-length (c .before .before .before .before .before .before .before .before .before .args .table .now) (c .before .before .before .before .free-word .result) (c .before .before .before .before .before .before .before .before .before .args .k + 1), λ S es H F. subst (Families S es) (sym e) (families-put S es (c .before .before .before .before .before .before .before .before .before .args .table .now) (c .before .before .before .before .free-word .result) (c .before .before .before .before .before .before .before .before .before .args .k) (c .before .before .before .before .before .before .before .if1 .left) H F))))
+    (λ c. let e = c .before .before .put-word .ensures in (ap length e ∙ put-length (c .before .before .before .before .before .before .before .before .before .before .before .before .before .args .table .now) (c .before .before .before .before .free-word .result) _, λ S es H F. subst (Families S es) (sym e) (families-put S es (c .before .before .before .before .before .before .before .before .before .before .before .before .before .args .table .now) (c .before .before .before .before .free-word .result) (c .before .before .before .before .before .before .before .before .before .before .before .before .before .args .k) _ (omega (arith, c .before .before .before .before .before .before .before .before .before .before .before .if1 .left)) (omega (arith, c .before .before .before .before .before .before .before .before .before .before .before .if1 .left)) H F))))
