@@ -32,11 +32,12 @@ use Rattle.whole_file.specs.Cube.{noQueue, waitingOf, channelOf, configurationO
 use Rattle.whole_file.proofs.CubeParts.{queue-of}
 use Rattle.by_number.specs.Again.{cubeAt, entriesOf}
 use Rattle.by_number.proofs.Tables.{table-length, table-number}
+use Rattle.matching.specs.Relation.{relation}
 use Rattle.matching.specs.Match.{queueRow}
 use Rattle.by_bytes.specs.Same.{Within}
 use Rattle.summary.specs.Slots.{word, putWord}
 use Rattle.summary.proofs.WordLaws.{word-same, word-other}
-use Rattle.families.specs.Family.{InFamily, FamilyHeld, standing, Families, PartsOf, Recorded, newestValues}
+use Rattle.families.specs.Family.{InFamily, FamilyHeld, standing, Families, Recorded, newestValues}
 use Rattle.families.proofs.FullLaws.{family-held, family-update}
 use Rattle.families.proofs.SerialiseLaws.{family-serialise}
 
@@ -84,13 +85,22 @@ module _ (s : Shape) (e c : Cube) (few : s .processes ≤ 4) (narrow : s .variab
         newest = subst T (sym z) tt;
       }
 
-pub within-family : (s : Shape) (f : List ℕ) (at : ℕ) (c : Cube) → s .processes ≤ 4 → s .variables ≤ 4 → {ss : List ℕ} {qs : List Queue} {vs : List ℕ} → PartsOf c ss qs vs
-    → Within f at s ss qs vs → InFamily (shapeOf s) (configurationOf (loadEntry f at)) (configurationOf c)
-within-family s f at c few narrow {ss} {qs} {vs} P u =
-    let w = subst (λ (xs : List Queue). Within f at s (c .states) xs vs) (P .queues-are) (subst (λ (xs : List ℕ). Within f at s xs qs vs) (P .states-are) u) in
+pub within-family : (s : Shape) (f : List ℕ) (at : ℕ) (c : Cube) → s .processes ≤ 4 → s .variables ≤ 4 → {vs : List ℕ} → vs ≡ newestValues c → (c .count ≡ 0 → ⊥) → c .count ≤ 20
+    → Within f at s (c .states) (c .queues) vs → InFamily (shapeOf s) (configurationOf (loadEntry f at)) (configurationOf c)
+within-family s f at c few narrow d a b w =
     in-family-is s (loadEntry f at) c few narrow refl (w .states) refl (w .queues)
-    (ap₂ (pairwise fills) (sym (values-some (loadEntry f at) (w .some) (w .few) ∙ values-newest (loadEntry f at) (w .some) (w .few)))
-    (sym (P .values-are ∙ values-newest c (P .some) (P .few))) ∙ w .newest)
+    (ap₂ (pairwise fills) (sym (values-some (loadEntry f at) (w .some) (w .few) ∙ values-newest (loadEntry f at) (w .some) (w .few))) (sym (d ∙ values-newest c (omega arith) b)) ∙ w .newest)
+
+-- an entry that was built
+pub built-within : (s : Shape) (f : List ℕ) (at : ℕ) {e : Cube} → e ≡ loadEntry f at → (e .count ≡ 0 → ⊥) → e .count ≤ 20 → {ls : List ℕ} {qs : List Queue} {xs ys : List ℕ}
+    → {a : Bool} → a ≡ allBelow (min (s .processes) 4) (λ p. eqb (getD (e .states) p 0) (getD ls p 0)) → a ≡ true
+    → {b : Bool} → b ≡ allBelow (min (s .processes) 4) (queueRow (s .variables) true (e .queues) qs) → b ≡ true
+    → ys ≡ newestValues e → {r : Bool} → r ≡ pairwise (relation true) ys xs → r ≡ true → Within f at s ls qs xs
+built-within s f at {e} same some few {ls} {qs} {xs} x xe y ye n z ze =
+    subst (λ (d : Cube). 1 ≤ d .count → d .count ≤ 20 → allBelow (min (s .processes) 4) (λ p. eqb (getD (d .states) p 0) (getD ls p 0)) ≡ true
+    → allBelow (min (s .processes) 4) (queueRow (s .variables) true (d .queues) qs) ≡ true → pairwise (relation true) (getD (d .messages) (d .count - 1) noMessage .snapshot) xs ≡ true
+    → Within f at s ls qs xs) (sym same) (λ a b c d g. record { some = a; few = b; states = c; queues = d; newest = g })
+    (omega arith) few (sym x ∙ xe) (sym y ∙ ye) (ap (λ (ws : List ℕ). pairwise (relation true) ws xs) (values-some e (omega arith) few ∙ sym n) ∙ sym z ∙ ze)
 
 -- ---- words
 

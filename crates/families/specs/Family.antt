@@ -17,7 +17,6 @@ use Rattle.lists.specs.Shapes.{memoryShapes}
 use Rattle.program_part.specs.declared.program.Shape as file
 use Rattle.program_part.specs.ProgramPart.{shapeOf}
 use Rattle.whole_file.specs.declared.entry.Cube.{Cube}
-use Rattle.whole_file.specs.declared.entry.Queue.{Queue}
 use Rattle.whole_file.specs.Cube.{configurationOf}
 use Rattle.by_number.specs.Again.{cubeAt}
 use Rattle.summary.specs.Slots.{word}
@@ -45,14 +44,6 @@ Families S es table = (i : ℕ) → i < 1024 → 1 ≤ standing table i → stan
 -- the values of the newest of at most 20 messages
 unfoldable pub newestValues : Cube → List ℕ
 newestValues c = cond (leb 1 (c .count) && leb (c .count) 20) (getD (c .messages) (c .count - 1) noMessage .snapshot) (replicate 4 0)
-
--- what a cube, which has messages, is looked for by
-pub record PartsOf (c : Cube) (states : List ℕ) (queues : List Queue) (values : List ℕ) : Type 0 where
-  pub some : 1 ≤ c .count
-  pub few : c .count ≤ 20
-  pub states-are : states ≡ c .states
-  pub queues-are : queues ≡ c .queues
-  pub values-are : values ≡ newestValues c
 
 -- a cube is in the family of an entry that stands in the table
 pub record Recorded (table f list : List ℕ) (n : ℕ) (s : file.Shape) (c : Cube) : Type 0 where

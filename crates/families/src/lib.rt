@@ -8,12 +8,9 @@ ghost use lib.ListN.{length};
 ghost use Rattle.pws.specs.Program as pws;
 ghost use Rattle.pws.specs.Machine.{Configuration};
 ghost use Rattle.pws.specs.Entries.{entry};
-ghost use Rattle.lists.specs.Values.{fills, pairwise};
-ghost use Rattle.lists.specs.Cubes.{topmost};
-ghost use Rattle.program_part.specs.ProgramPart.{shapeOf};
-ghost use Rattle.whole_file.specs.Cube.{configurationOf, loadEntry};
-ghost use Rattle.by_number.specs.Again.{cubeAt};
-ghost use Rattle.families.specs.Family.{InFamily, FamilyHeld, Families, PartsOf, Recorded, newestValues};
+ghost use Rattle.by_number.specs.Again.{offsetAt};
+ghost use Rattle.by_bytes.specs.Same.{Within};
+ghost use Rattle.families.specs.Family.{FamilyHeld, Families, Recorded, newestValues};
 use by_bytes::within_at;
 use by_number::offset_at;
 use matching::least;
@@ -47,44 +44,39 @@ pub fn newest_values(cube: Cube) -> [u8; 4]
 
 // ---- membership
 
-// There are newest messages, and the values of one may stand where the other has its own.
-fn newest_fits(entry: Cube, cube: Cube) -> bool
-    ensures { λ r. ⌜ (r ≡ true → pairwise fills (topmost (configurationOf entry .memory .channel) .snapshot) (topmost (configurationOf cube .memory .channel) .snapshot) ≡ true) ⌝ }
-{
-    if entry.count == 0 {
-        return false;
-    }
-    if 20 < entry.count {
-        return false;
-    }
-    if cube.count == 0 {
-        return false;
-    }
-    if 20 < cube.count {
-        return false;
-    }
-    values_related(true, newest_values(entry), newest_values(cube))
-}
-
-// The cube is in the family of the entry whose 10 stands at a place, which is built.
-fn in_built_family(file: &[u8], at: usize, shape: Shape, cube: Cube) -> bool
-    ensures { λ r. ⌜ (r ≡ true → shape .processes ≤ 4 → shape .variables ≤ 4 → InFamily (shapeOf shape) (configurationOf (loadEntry (now (file .entry)) at)) (configurationOf cube)) ⌝ }
+// The entry whose 10 stands at a place, which is built, has these local states, waiting values below those of these queues, and newest values for which these
+// may stand.
+fn built_within(
+    file: &[u8],
+    at: usize,
+    shape: Shape,
+    states: [u8; 4],
+    queues: [Queue; 16],
+    values: [u8; 4],
+) -> bool
+    ensures { λ r. ⌜ (r ≡ true → Within (now (file .entry)) at shape states queues values) ⌝ }
 {
     let entry = load_entry(file, at);
-    let states = entry.states;
-    let own = cube.states;
-    if !states_match(shape.processes, states, own) {
+    let count = entry.count;
+    if count == 0 {
         return false;
     }
-    let before = entry.queues;
-    let after = cube.queues;
-    if !queues_match(true, shape, before, after) {
+    if 20 < count {
         return false;
     }
-    newest_fits(entry, cube)
+    let own = entry.states;
+    if !states_match(shape.processes, own, states) {
+        return false;
+    }
+    let below = entry.queues;
+    if !queues_match(true, shape, below, queues) {
+        return false;
+    }
+    let newest = newest_values(entry);
+    values_related(true, newest, values)
 }
 
-// The cube, which has these parts, is in the family of entry k.
+// And so has entry k: a cube with them is in its family.
 fn in_family(
     file: &[u8],
     list: &[u8],
@@ -93,10 +85,8 @@ fn in_family(
     states: [u8; 4],
     queues: [Queue; 16],
     values: [u8; 4],
-    cube: Cube,
 ) -> bool
-    requires { ⌜ PartsOf cube states queues values ⌝ }
-    ensures { λ r. ⌜ (r ≡ true → shape .processes ≤ 4 → shape .variables ≤ 4 → InFamily (shapeOf shape) (configurationOf (cubeAt (now (file .entry)) (now (list .entry)) k)) (configurationOf cube)) ⌝ }
+    ensures { λ r. ⌜ (r ≡ true → Within (now (file .entry)) (offsetAt (now (list .entry)) k) shape states queues values) ⌝ }
 {
     let at = offset_at(list, k);
     // most entries are told by their bytes
@@ -104,7 +94,7 @@ fn in_family(
     if compared.same {
         return compared.related;
     }
-    in_built_family(file, at, shape, cube)
+    built_within(file, at, shape, states, queues, values)
 }
 
 // ---- the table: words 0 to 1,023 are entries whose families are full, eight in a row for local states and empty queues that fall together;
@@ -232,7 +222,7 @@ pub fn in_full_family(
             return false;
         }
         if may_have(word, look.mark, look.bits) {
-            if in_family(file, list, shape, x - 1, states, queues, values, cube) {
+            if in_family(file, list, shape, x - 1, states, queues, values) {
                 return true;
             }
         }

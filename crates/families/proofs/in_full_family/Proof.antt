@@ -1,16 +1,15 @@
 use Prim.Native.Nat.{_+_, _-_, _≤_}
-use mathlib.Core.Path.{refl}
 use mathlib.Core.Bool.{false≢true}
 use native.Mathlib.Omega.{arith}
-use Rattle.families.proofs.TableLaws.{recorded-at}
+use Rattle.families.proofs.TableLaws.{within-family, recorded-at}
 use Rattle.families.proofs.in_full_family.Statement.{statement}
 use Rattle.families.proofs.in_full_family.Tie as tie
 
 abbrev Inv-loop : tie.InvT-loop
-Inv-loop table file list n shape cube count states queues values look j₀ j = j ≤ 8
+Inv-loop table file list n shape count states queues values look j₀ j = j ≤ 8
 
 abbrev μ-loop : tie.MeasureT-loop
-μ-loop table file list n shape cube count states queues values look j₀ j = 8 - j
+μ-loop table file list n shape count states queues values look j₀ j = 8 - j
 
 pub in-full-family-spec : {M : Type 1} → statement M
 in-full-family-spec = tie.close (tie.spec
@@ -39,15 +38,9 @@ in-full-family-spec = tie.close (tie.spec
     -- sub-in-family
     (λ c. omega (arith, c .before .before .before .if3 .left))
     -- in-family-requires
-    (λ c κs. record {
-      some = omega (arith, c .before .before .before .before .before .before .before .before .before .before .before .before .before .if1 .left);
-      few = c .before .before .before .before .before .before .before .before .before .before .before .before .if2 .left;
-      states-are = refl;
-      queues-are = refl;
-      values-are = c .before .before .before .before .before .before .before .before .before .newest-values .ensures;
-    })
+    (λ c κs. tt)
     -- returns-5
-    (λ c e. recorded-at (c .before .before .before .before .before .before .before .before .before .before .before .before .before .before .before .before .before .before .before .args .table .now) (c .before .before .before .before .before .before .before .before .before .before .before .before .before .before .before .before .before .before .before .args .file .now) (c .before .before .before .before .before .before .before .before .before .before .before .before .before .before .before .before .before .before .before .args .list .now) (c .before .before .before .before .before .before .before .before .before .before .before .before .before .before .before .before .before .before .before .args .n) (c .before .before .before .before .before .before .before .before .before .before .before .before .before .before .before .before .before .before .before .args .shape) (c .before .before .before .before .before .before .before .before .before .before .before .before .before .before .before .before .before .before .before .args .cube) (c .before .before .before .before .before .before .before .before .before .before .look-of .result .row + c .before .before .before .before .before .before .before .before .before .loop .j) (c .before .before .before .before .before .before .word-at .ensures .0) (omega (arith, c .before .before .before .before .before .before .before .before .loop-test .taken, c .before .before .before .before .before .before .before .before .before .before .look-of .ensures)) (c .before .before .before .before .before .if3 .left) (c .before .before .before .before .if4 .left) (c .before .in-family .ensures (c .if6 .taken)))
+    (λ c e. recorded-at (c .before .before .before .before .before .before .before .before .before .before .before .before .before .before .before .before .before .before .before .args .table .now) (c .before .before .before .before .before .before .before .before .before .before .before .before .before .before .before .before .before .before .before .args .file .now) (c .before .before .before .before .before .before .before .before .before .before .before .before .before .before .before .before .before .before .before .args .list .now) (c .before .before .before .before .before .before .before .before .before .before .before .before .before .before .before .before .before .before .before .args .n) (c .before .before .before .before .before .before .before .before .before .before .before .before .before .before .before .before .before .before .before .args .shape) (c .before .before .before .before .before .before .before .before .before .before .before .before .before .before .before .before .before .before .before .args .cube) (c .before .before .before .before .before .before .before .before .before .before .look-of .result .row + c .before .before .before .before .before .before .before .before .before .loop .j) (c .before .before .before .before .before .before .word-at .ensures .0) (omega (arith, c .before .before .before .before .before .before .before .before .loop-test .taken, c .before .before .before .before .before .before .before .before .before .before .look-of .ensures)) (c .before .before .before .before .before .if3 .left) (c .before .before .before .before .if4 .left) (λ few narrow. within-family (c .before .before .before .before .before .before .before .before .before .before .before .before .before .before .before .before .before .before .before .args .shape) (c .before .before .before .before .before .before .before .before .before .before .before .before .before .before .before .before .before .before .before .args .file .now) _ (c .before .before .before .before .before .before .before .before .before .before .before .before .before .before .before .before .before .before .before .args .cube) few narrow (c .before .before .before .before .before .before .before .before .before .before .before .newest-values .ensures) (c .before .before .before .before .before .before .before .before .before .before .before .before .before .before .before .if1 .left) (c .before .before .before .before .before .before .before .before .before .before .before .before .before .before .if2 .left) (c .before .in-family .ensures (c .if6 .taken))))
     -- add-j
     (λ c. omega (arith, c .before .before .before .before .before .before .loop-test .taken))
     -- loop-less
