@@ -50,10 +50,8 @@ fn built_matches(exact: bool, file: &[u8], at: usize, shape: Shape, cube: Cube) 
     if !queues_match(exact, shape, before, after) {
         return false;
     }
-    let mut left = [0u64; 20];
-    tags_of(shape, entry, &mut left);
-    let mut right = [0u64; 20];
-    tags_of(shape, cube, &mut right);
+    let left = tags_of(shape, entry);
+    let right = tags_of(shape, cube);
     channel_matches(exact, shape, entry, &left, cube, &right)
 }
 

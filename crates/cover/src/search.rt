@@ -50,8 +50,7 @@ fn parts_held(
     let m = fillings(shape, place);
     'fillings: for x in 0..m {
         let part = part_of(cube, place, x as u8);
-        let mut right = [0u64; 20];
-        tags_of(shape, part, &mut right);
+        let right = tags_of(shape, part);
         let mut cues = [0usize; 20];
         let number = number_of(shape, part, &right, &mut cues);
         let states = part.states;
@@ -93,8 +92,7 @@ pub fn search(file: &[u8], list: &[u8], sum: &[u8], n: usize, shape: Shape, cube
     ensures { λ r. ⌜ (Searchable (now (file .entry)) (now (list .entry)) (now (sum .entry)) n shape cube → r ≡ held (shapeOf shape) (entriesOf (now (file .entry)) (now (list .entry)) n) (configurationOf cube)) ⌝ }
 {
     let sizes = rooms(cube);
-    let mut right = [0u64; 20];
-    tags_of(shape, cube, &mut right);
+    let right = tags_of(shape, cube);
     let mut cues = [0usize; 20];
     let number = number_of(shape, cube, &right, &mut cues);
     let states = cube.states;

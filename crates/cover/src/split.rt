@@ -63,10 +63,8 @@ fn with_gaps(split: Split, shape: Shape, cube: Cube, gaps: Gaps) -> Split
 
 fn gaps_at(file: &[u8], list: &[u8], i: usize, shape: Shape, cube: Cube) -> Gaps {
     let entry = entry_at(file, list, i);
-    let mut left = [0u64; 20];
-    tags_of(shape, entry, &mut left);
-    let mut right = [0u64; 20];
-    tags_of(shape, cube, &mut right);
+    let left = tags_of(shape, entry);
+    let right = tags_of(shape, cube);
     gaps_between(shape, entry, &left, cube, &right)
 }
 

@@ -36,10 +36,10 @@ fn role_bit(q: usize) -> u64
     65536 << q
 }
 
-// The tags of a cube's messages, oldest first, and 0 past them, in an array that the caller lends, so that none is copied. Of process p, the
-// message that it points at is kept at 5 p, and its LastWrite of v at 5 p + 1 + v.
-pub fn tags_of(shape: Shape, cube: Cube, tags: &mut [u64; 20])
-    ensures { λ _. ⌜ now (tags .exit) ≡ tagsOf shape cube ⌝ }
+// The tags of a cube's messages, oldest first, and 0 past them. Of process p, the message that it points at is kept at 5 p, and its
+// LastWrite of v at 5 p + 1 + v.
+pub fn tags_of(shape: Shape, cube: Cube) -> [u64; 20]
+    ensures { λ r. ⌜ r ≡ tagsOf shape cube ⌝ }
 {
     let n = least(cube.count, 20);
     let end = 5 * least(shape.processes, 4);
@@ -72,7 +72,7 @@ pub fn tags_of(shape: Shape, cube: Cube, tags: &mut [u64; 20])
         d,
         0,
     ];
-    *tags = [0; 20];
+    let mut tags = [0; 20];
     let messages = cube.messages;
     for i in 0..n {
         let message = messages[i];
@@ -99,6 +99,7 @@ pub fn tags_of(shape: Shape, cube: Cube, tags: &mut [u64; 20])
             k = 0;
         }
     }
+    tags
 }
 
 fn lesser(a: u8, b: u8) -> u8

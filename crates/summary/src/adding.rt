@@ -119,8 +119,7 @@ fn place_of(file: &[u8], upper: &[u8], at: usize, n: usize, shape: Shape, k: usi
             number: states_number(shape, states),
         };
     }
-    let mut tags = [0u64; 20];
-    tags_of(shape, cube, &mut tags);
+    let tags = tags_of(shape, cube);
     // an entry's cues are not looked at
     let mut cues = [0usize; 20];
     Joining {

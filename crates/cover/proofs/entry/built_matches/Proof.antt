@@ -1,4 +1,3 @@
-use mathlib.Core.Path.{refl}
 use borrow.Author.Tests.{not-true, not-false}
 use Rattle.cover.proofs.EntryLaws.{queues-differ, channel-decides}
 use native.Mathlib.Omega.{arith}
@@ -38,7 +37,7 @@ channel-matches-requires c κs = tt
 
 -- src/entry.rt:44:1
 returns-2 : tie.Need-returns-2
-returns-2 c = λ Z. channel-decides (c .before .before .before .before .before .before .before .before .before .before .before .before .before .args .exact) (c .before .before .before .before .before .before .before .before .before .before .before .before .before .args .shape) (c .before .before .before .before .before .before .before .before .before .before .before .before .before .args .file .now) (c .before .before .before .before .before .before .before .before .before .before .before .before .before .args .at) (c .before .before .before .before .before .before .before .before .before .before .before .before .before .args .cube) Z (c .before .before .before .before .before .before .before .before .before .before .before .load-entry .ensures) (c .before .before .before .before .before .before .before .before .queues-match .ensures) (not-false (c .before .before .before .before .before .before .before .before .queues-match .result) (c .before .before .before .before .before .before .before .if1 .left)) (c .before .before .before .before .before .tags-of .ensures) (c .before .before .before .tags-of2 .ensures) (c .channel-matches .ensures)
+returns-2 c = λ Z. channel-decides (c .before .before .before .before .before .before .before .before .before .before .before .args .exact) (c .before .before .before .before .before .before .before .before .before .before .before .args .shape) (c .before .before .before .before .before .before .before .before .before .before .before .args .file .now) (c .before .before .before .before .before .before .before .before .before .before .before .args .at) (c .before .before .before .before .before .before .before .before .before .before .before .args .cube) Z (c .before .before .before .before .before .before .before .before .before .load-entry .ensures) (c .before .before .before .before .before .before .queues-match .ensures) (not-false (c .before .before .before .before .before .before .queues-match .result) (c .before .before .before .before .before .if1 .left)) (c .before .before .before .before .tags-of .ensures) (c .before .before .before .tags-of2 .ensures) (c .channel-matches .ensures)
 
 pub built-matches-spec : {M : Type 1} → statement M
 built-matches-spec =

@@ -345,7 +345,7 @@ parts-held-loop-holds : (t : ℕ) → parts-held-lts.Need-loop-holds (
     parts-held-μ-loop
     parts-held-Inv-fillings
     parts-held-μ-fillings
-parts-held-loop-holds t c = (parting-begin (c .before .before .before .before .before .before .before .before .before .before .before .before .before .before .before .args .file .now) (c .before .before .before .before .before .before .before .before .before .before .before .before .before .before .before .args .list .now) (c .before .before .before .before .before .before .before .before .before .before .before .before .before .before .before .args .sum .now) (c .before .before .before .before .before .before .before .before .before .before .before .before .before .before .before .args .n) (c .before .before .before .before .before .before .before .before .before .before .before .before .before .before .before .args .shape) (c .before .before .before .before .before .before .before .before .before .before .before .before .before .before .before .args .cube) (c .before .before .before .before .before .before .before .before .before .before .before .before .before .before .before .args .place) (c .before .before .before .before .before .before .before .before .before .fillings .inv) (omega (arith, c .before .before .before .before .before .before .before .before .fillings-test .taken, c .before .before .before .before .before .before .before .before .before .before .fillings2 .ensures)) (c .before .before .before .before .before .before .before .part-of .ensures) (cued (c .before .before .before .before .before .before .before .before .before .before .before .before .before .before .before .args .shape) (c .before .before .before .before .before .before .before .part-of .result) (c .before .before .number-of .last .1 .1 .1 .0) (c .before .before .before .before .before .tags-of .ensures) (c .before .before .number-of .ensures .1 refl)) (c .before .before .number-of .ensures .0 (c .before .before .before .before .before .tags-of .ensures)) (c .walk-from .ensures), refl)
+parts-held-loop-holds t c = (parting-begin (c .before .before .before .before .before .before .before .before .before .before .before .before .before .before .args .file .now) (c .before .before .before .before .before .before .before .before .before .before .before .before .before .before .args .list .now) (c .before .before .before .before .before .before .before .before .before .before .before .before .before .before .args .sum .now) (c .before .before .before .before .before .before .before .before .before .before .before .before .before .before .args .n) (c .before .before .before .before .before .before .before .before .before .before .before .before .before .before .args .shape) (c .before .before .before .before .before .before .before .before .before .before .before .before .before .before .args .cube) (c .before .before .before .before .before .before .before .before .before .before .before .before .before .before .args .place) (c .before .before .before .before .before .before .before .before .fillings .inv) (omega (arith, c .before .before .before .before .before .before .before .fillings-test .taken, c .before .before .before .before .before .before .before .before .before .fillings2 .ensures)) (c .before .before .before .before .before .before .part-of .ensures) (cued (c .before .before .before .before .before .before .before .before .before .before .before .before .before .before .args .shape) (c .before .before .before .before .before .before .part-of .result) (c .before .before .number-of .last .1 .1 .1 .0) (c .before .before .before .before .before .tags-of .ensures) (c .before .before .number-of .ensures .1 refl)) (c .before .before .number-of .ensures .0 (c .before .before .before .before .before .tags-of .ensures)) (c .walk-from .ensures), refl)
 
 -- src/search.rt:62:21
 parts-held-sub-i : (t : ℕ) → parts-held-lts.Need-sub-i (
@@ -444,7 +444,7 @@ parts-held-add-x : (t : ℕ) → parts-held-lts.Need-add-x (
     parts-held-μ-loop
     parts-held-Inv-fillings
     parts-held-μ-fillings
-parts-held-add-x t c = omega (arith, fillings-few (c .before .before .before .before .before .before .before .before .before .before .before .before .before .before .before .before .before .before .before .before .before .before .args .shape) (c .before .before .before .before .before .before .before .before .before .before .before .before .before .before .before .before .before .before .before .before .before .before .args .place), c .before .before .before .before .before .before .loop .inv .0 .one)
+parts-held-add-x t c = omega (arith, fillings-few (c .before .before .before .before .before .before .before .before .before .before .before .before .before .before .before .before .before .before .before .before .before .args .shape) (c .before .before .before .before .before .before .before .before .before .before .before .before .before .before .before .before .before .before .before .before .before .args .place), c .before .before .before .before .before .before .loop .inv .0 .one)
 
 -- src/search.rt:52:5
 parts-held-fillings-less : (t : ℕ) → parts-held-lts.Need-fillings-less (
@@ -477,7 +477,7 @@ parts-held-fillings-less : (t : ℕ) → parts-held-lts.Need-fillings-less (
     parts-held-μ-loop
     parts-held-Inv-fillings
     parts-held-μ-fillings
-parts-held-fillings-less t c = omega (arith, c .before .before .before .before .before .before .loop .inv .0 .one, c .before .before .before .before .before .before .loop .inv .1, c .before .before .before .before .before .before .before .before .before .before .before .before .before .before .before .before .before .fillings2 .ensures)
+parts-held-fillings-less t c = omega (arith, c .before .before .before .before .before .before .loop .inv .0 .one, c .before .before .before .before .before .before .loop .inv .1, c .before .before .before .before .before .before .before .before .before .before .before .before .before .before .before .before .fillings2 .ensures)
 
 -- src/search.rt:52:5
 parts-held-fillings-again : (t : ℕ) → parts-held-lts.Need-fillings-again (
@@ -510,7 +510,7 @@ parts-held-fillings-again : (t : ℕ) → parts-held-lts.Need-fillings-again (
     parts-held-μ-loop
     parts-held-Inv-fillings
     parts-held-μ-fillings
-parts-held-fillings-again t c = parting-covered (c .before .before .before .before .before .before .before .before .before .before .before .before .before .before .before .before .before .before .before .before .before .before .args .file .now) (c .before .before .before .before .before .before .before .before .before .before .before .before .before .before .before .before .before .before .before .before .before .before .args .list .now) (c .before .before .before .before .before .before .before .before .before .before .before .before .before .before .before .before .before .before .before .before .before .before .args .sum .now) (c .before .before .before .before .before .before .before .before .before .before .before .before .before .before .before .before .before .before .before .before .before .before .args .n) (c .before .before .before .before .before .before .before .before .before .before .before .before .before .before .before .before .before .before .before .before .before .before .args .shape) (c .before .before .before .before .before .before .before .before .before .before .before .before .before .before .before .before .before .before .before .before .before .before .args .cube) (c .before .before .before .before .before .before .before .before .before .before .before .before .before .before .before .before .before .before .before .before .before .before .args .place) (c .before .before .before .before .before .before .loop .inv .0) (c .before .before .before .before .if1 .taken) (λ A. sym (c .before .matches-at .ensures A) ∙ c .if2 .taken)
+parts-held-fillings-again t c = parting-covered (c .before .before .before .before .before .before .before .before .before .before .before .before .before .before .before .before .before .before .before .before .before .args .file .now) (c .before .before .before .before .before .before .before .before .before .before .before .before .before .before .before .before .before .before .before .before .before .args .list .now) (c .before .before .before .before .before .before .before .before .before .before .before .before .before .before .before .before .before .before .before .before .before .args .sum .now) (c .before .before .before .before .before .before .before .before .before .before .before .before .before .before .before .before .before .before .before .before .before .args .n) (c .before .before .before .before .before .before .before .before .before .before .before .before .before .before .before .before .before .before .before .before .before .args .shape) (c .before .before .before .before .before .before .before .before .before .before .before .before .before .before .before .before .before .before .before .before .before .args .cube) (c .before .before .before .before .before .before .before .before .before .before .before .before .before .before .before .before .before .before .before .before .before .args .place) (c .before .before .before .before .before .before .loop .inv .0) (c .before .before .before .before .if1 .taken) (λ A. sym (c .before .matches-at .ensures A) ∙ c .if2 .taken)
 
 -- src/search.rt:66:17
 parts-held-onward-requires : (t : ℕ) → parts-held-lts.Need-onward-requires (
@@ -609,7 +609,7 @@ parts-held-loop-again : (t : ℕ) → parts-held-lts.Need-loop-again (
     parts-held-μ-loop
     parts-held-Inv-fillings
     parts-held-μ-fillings
-parts-held-loop-again t c = (parting-next (c .before .before .before .before .before .before .before .before .before .before .before .before .before .before .before .before .before .before .before .before .before .before .before .args .file .now) (c .before .before .before .before .before .before .before .before .before .before .before .before .before .before .before .before .before .before .before .before .before .before .before .args .list .now) (c .before .before .before .before .before .before .before .before .before .before .before .before .before .before .before .before .before .before .before .before .before .before .before .args .sum .now) (c .before .before .before .before .before .before .before .before .before .before .before .before .before .before .before .before .before .before .before .before .before .before .before .args .n) (c .before .before .before .before .before .before .before .before .before .before .before .before .before .before .before .before .before .before .before .before .before .before .before .args .shape) (c .before .before .before .before .before .before .before .before .before .before .before .before .before .before .before .before .before .before .before .before .before .before .before .args .cube) (c .before .before .before .before .before .before .before .before .before .before .before .before .before .before .before .before .before .before .before .before .before .before .before .args .place) (c .before .before .before .before .before .before .before .loop .inv .0) (λ A. sym (c .before .before .matches-at .ensures A) ∙ c .before .if2 .left) (c .onward .ensures), c .before .before .before .before .before .before .before .loop .inv .1)
+parts-held-loop-again t c = (parting-next (c .before .before .before .before .before .before .before .before .before .before .before .before .before .before .before .before .before .before .before .before .before .before .args .file .now) (c .before .before .before .before .before .before .before .before .before .before .before .before .before .before .before .before .before .before .before .before .before .before .args .list .now) (c .before .before .before .before .before .before .before .before .before .before .before .before .before .before .before .before .before .before .before .before .before .before .args .sum .now) (c .before .before .before .before .before .before .before .before .before .before .before .before .before .before .before .before .before .before .before .before .before .before .args .n) (c .before .before .before .before .before .before .before .before .before .before .before .before .before .before .before .before .before .before .before .before .before .before .args .shape) (c .before .before .before .before .before .before .before .before .before .before .before .before .before .before .before .before .before .before .before .before .before .before .args .cube) (c .before .before .before .before .before .before .before .before .before .before .before .before .before .before .before .before .before .before .before .before .before .before .args .place) (c .before .before .before .before .before .before .before .loop .inv .0) (λ A. sym (c .before .before .matches-at .ensures A) ∙ c .before .if2 .left) (c .onward .ensures), c .before .before .before .before .before .before .before .loop .inv .1)
 
 -- src/search.rt:80:13
 parts-held-place-for-requires : (t : ℕ) → parts-held-lts.Need-place-for-requires (
@@ -708,7 +708,7 @@ parts-held-returns : (t : ℕ) → parts-held-lts.Need-returns (
     parts-held-μ-loop
     parts-held-Inv-fillings
     parts-held-μ-fillings
-parts-held-returns t c = ((λ Z e. absurd (true-not-false (sym e))), (λ Z e. parting-stuck (c .before .before .before .before .before .before .before .before .before .before .before .before .before .before .before .before .before .before .before .before .before .before .args .file .now) (c .before .before .before .before .before .before .before .before .before .before .before .before .before .before .before .before .before .before .before .before .before .before .args .list .now) (c .before .before .before .before .before .before .before .before .before .before .before .before .before .before .before .before .before .before .before .before .before .before .args .sum .now) (c .before .before .before .before .before .before .before .before .before .before .before .before .before .before .before .before .before .before .before .before .before .before .args .n) (c .before .before .before .before .before .before .before .before .before .before .before .before .before .before .before .before .before .before .before .before .before .before .args .shape) (c .before .before .before .before .before .before .before .before .before .before .before .before .before .before .before .before .before .before .before .before .before .before .args .cube) (c .before .before .before .before .before .before .before .before .before .before .before .before .before .before .before .before .before .before .before .before .before .before .args .place) (c .before .before .before .before .before .before .loop .inv .0) (c .before .before .before .before .before .before .before .before .before .before .before .before .before .before .before .before .before .before .rooms .ensures .0) (c .before .before .before .before .before .before .before .before .before .before .before .before .before .before .before .before .before .before .rooms .ensures .1) (c .before .before .before .before .before .before .before .before .before .before .before .before .before .before .before .before .before .before .before .before .before .before .pre .1) Z (c .before .before .before .before .if1 .left) (c .before .before .place-for .ensures .1 (sym (c .before .is-whole .ensures) ∙ c .if3 .taken))))
+parts-held-returns t c = ((λ Z e. absurd (true-not-false (sym e))), (λ Z e. parting-stuck (c .before .before .before .before .before .before .before .before .before .before .before .before .before .before .before .before .before .before .before .before .before .args .file .now) (c .before .before .before .before .before .before .before .before .before .before .before .before .before .before .before .before .before .before .before .before .before .args .list .now) (c .before .before .before .before .before .before .before .before .before .before .before .before .before .before .before .before .before .before .before .before .before .args .sum .now) (c .before .before .before .before .before .before .before .before .before .before .before .before .before .before .before .before .before .before .before .before .before .args .n) (c .before .before .before .before .before .before .before .before .before .before .before .before .before .before .before .before .before .before .before .before .before .args .shape) (c .before .before .before .before .before .before .before .before .before .before .before .before .before .before .before .before .before .before .before .before .before .args .cube) (c .before .before .before .before .before .before .before .before .before .before .before .before .before .before .before .before .before .before .before .before .before .args .place) (c .before .before .before .before .before .before .loop .inv .0) (c .before .before .before .before .before .before .before .before .before .before .before .before .before .before .before .before .before .rooms .ensures .0) (c .before .before .before .before .before .before .before .before .before .before .before .before .before .before .before .before .before .rooms .ensures .1) (c .before .before .before .before .before .before .before .before .before .before .before .before .before .before .before .before .before .before .before .before .before .pre .1) Z (c .before .before .before .before .if1 .left) (c .before .before .place-for .ensures .1 (sym (c .before .is-whole .ensures) ∙ c .if3 .taken))))
 
 -- src/search.rt:84:13
 parts-held-parts-held-requires : (t : ℕ) → parts-held-lts.Need-parts-held-requires (
@@ -741,7 +741,7 @@ parts-held-parts-held-requires : (t : ℕ) → parts-held-lts.Need-parts-held-re
     parts-held-μ-loop
     parts-held-Inv-fillings
     parts-held-μ-fillings
-parts-held-parts-held-requires t c κs = let l = c .before .before .before .before .before .before .loop .inv .0 .one in (subst (λ (k : Cube). weight k (c .before .before .place-for .result) < t) (sym (c .before .before .before .before .before .before .loop .inv .0 .is)) (let y = part-less (c .before .before .before .before .before .before .before .before .before .before .before .before .before .before .before .before .before .before .before .before .before .before .args .shape) (c .before .before .before .before .before .before .before .before .before .before .before .before .before .before .before .before .before .before .before .before .before .before .args .cube) (c .before .before .before .before .before .before .before .before .before .before .before .before .before .before .before .before .before .before .rooms .ensures .0) (c .before .before .before .before .before .before .before .before .before .before .before .before .before .before .before .before .before .before .rooms .ensures .1) (c .before .before .before .before .before .before .before .before .before .before .before .before .before .before .before .before .before .before .before .before .before .before .args .place) (c .before .before .before .before .before .before .before .before .before .before .before .before .before .before .before .before .before .before .before .before .before .before .pre .1) (c .before .before .before .before .before .before .loop .x) (omega (arith, fillings-few (c .before .before .before .before .before .before .before .before .before .before .before .before .before .before .before .before .before .before .before .before .before .before .args .shape) (c .before .before .before .before .before .before .before .before .before .before .before .before .before .before .before .before .before .before .before .before .before .before .args .place), l)) (c .before .before .place-for .result) (sym (c .before .is-whole .ensures) ∙ c .if3 .left) in omega (arith, y, c .before .before .before .before .before .before .before .before .before .before .before .before .before .before .before .before .before .before .before .before .before .before .pre .0)), c .before .before .place-for .ensures .0)
+parts-held-parts-held-requires t c κs = let l = c .before .before .before .before .before .before .loop .inv .0 .one in (subst (λ (k : Cube). weight k (c .before .before .place-for .result) < t) (sym (c .before .before .before .before .before .before .loop .inv .0 .is)) (let y = part-less (c .before .before .before .before .before .before .before .before .before .before .before .before .before .before .before .before .before .before .before .before .before .args .shape) (c .before .before .before .before .before .before .before .before .before .before .before .before .before .before .before .before .before .before .before .before .before .args .cube) (c .before .before .before .before .before .before .before .before .before .before .before .before .before .before .before .before .before .rooms .ensures .0) (c .before .before .before .before .before .before .before .before .before .before .before .before .before .before .before .before .before .rooms .ensures .1) (c .before .before .before .before .before .before .before .before .before .before .before .before .before .before .before .before .before .before .before .before .before .args .place) (c .before .before .before .before .before .before .before .before .before .before .before .before .before .before .before .before .before .before .before .before .before .pre .1) (c .before .before .before .before .before .before .loop .x) (omega (arith, fillings-few (c .before .before .before .before .before .before .before .before .before .before .before .before .before .before .before .before .before .before .before .before .before .args .shape) (c .before .before .before .before .before .before .before .before .before .before .before .before .before .before .before .before .before .before .before .before .before .args .place), l)) (c .before .before .place-for .result) (sym (c .before .is-whole .ensures) ∙ c .if3 .left) in omega (arith, y, c .before .before .before .before .before .before .before .before .before .before .before .before .before .before .before .before .before .before .before .before .before .pre .0)), c .before .before .place-for .ensures .0)
 
 -- src/search.rt:85:13
 parts-held-returns-2 : (t : ℕ) → parts-held-lts.Need-returns-2 (
@@ -774,7 +774,7 @@ parts-held-returns-2 : (t : ℕ) → parts-held-lts.Need-returns-2 (
     parts-held-μ-loop
     parts-held-Inv-fillings
     parts-held-μ-fillings
-parts-held-returns-2 t c = ((λ Z e. absurd (true-not-false (sym e))), (λ Z e. parting-outside (c .before .before .before .before .before .before .before .before .before .before .before .before .before .before .before .before .before .before .before .before .before .before .before .before .args .file .now) (c .before .before .before .before .before .before .before .before .before .before .before .before .before .before .before .before .before .before .before .before .before .before .before .before .args .list .now) (c .before .before .before .before .before .before .before .before .before .before .before .before .before .before .before .before .before .before .before .before .before .before .before .before .args .sum .now) (c .before .before .before .before .before .before .before .before .before .before .before .before .before .before .before .before .before .before .before .before .before .before .before .before .args .n) (c .before .before .before .before .before .before .before .before .before .before .before .before .before .before .before .before .before .before .before .before .before .before .before .before .args .shape) (c .before .before .before .before .before .before .before .before .before .before .before .before .before .before .before .before .before .before .before .before .before .before .before .before .args .cube) (c .before .before .before .before .before .before .before .before .before .before .before .before .before .before .before .before .before .before .before .before .before .before .before .before .args .place) (c .before .before .before .before .before .before .before .before .loop .inv .0) (c .before .before .before .before .before .before .before .before .before .before .before .before .before .before .before .before .before .before .before .before .rooms .ensures .0) (c .before .before .before .before .before .before .before .before .before .before .before .before .before .before .before .before .before .before .before .before .rooms .ensures .1) (c .before .before .before .before .before .before .before .before .before .before .before .before .before .before .before .before .before .before .before .before .before .before .before .before .pre .1) Z (c .before .parts-held .ensures .1) (not-true (c .before .parts-held .result) (c .if4 .taken))))
+parts-held-returns-2 t c = ((λ Z e. absurd (true-not-false (sym e))), (λ Z e. parting-outside (c .before .before .before .before .before .before .before .before .before .before .before .before .before .before .before .before .before .before .before .before .before .before .before .args .file .now) (c .before .before .before .before .before .before .before .before .before .before .before .before .before .before .before .before .before .before .before .before .before .before .before .args .list .now) (c .before .before .before .before .before .before .before .before .before .before .before .before .before .before .before .before .before .before .before .before .before .before .before .args .sum .now) (c .before .before .before .before .before .before .before .before .before .before .before .before .before .before .before .before .before .before .before .before .before .before .before .args .n) (c .before .before .before .before .before .before .before .before .before .before .before .before .before .before .before .before .before .before .before .before .before .before .before .args .shape) (c .before .before .before .before .before .before .before .before .before .before .before .before .before .before .before .before .before .before .before .before .before .before .before .args .cube) (c .before .before .before .before .before .before .before .before .before .before .before .before .before .before .before .before .before .before .before .before .before .before .before .args .place) (c .before .before .before .before .before .before .before .before .loop .inv .0) (c .before .before .before .before .before .before .before .before .before .before .before .before .before .before .before .before .before .before .before .rooms .ensures .0) (c .before .before .before .before .before .before .before .before .before .before .before .before .before .before .before .before .before .before .before .rooms .ensures .1) (c .before .before .before .before .before .before .before .before .before .before .before .before .before .before .before .before .before .before .before .before .before .before .before .pre .1) Z (c .before .parts-held .ensures .1) (not-true (c .before .parts-held .result) (c .if4 .taken))))
 
 -- src/search.rt:52:20
 parts-held-add-x-2 : (t : ℕ) → parts-held-lts.Need-add-x-2 (
@@ -807,7 +807,7 @@ parts-held-add-x-2 : (t : ℕ) → parts-held-lts.Need-add-x-2 (
     parts-held-μ-loop
     parts-held-Inv-fillings
     parts-held-μ-fillings
-parts-held-add-x-2 t c = omega (arith, fillings-few (c .before .before .before .before .before .before .before .before .before .before .before .before .before .before .before .before .before .before .before .before .before .before .before .before .args .shape) (c .before .before .before .before .before .before .before .before .before .before .before .before .before .before .before .before .before .before .before .before .before .before .before .before .args .place), c .before .before .before .before .before .before .before .before .loop .inv .0 .one)
+parts-held-add-x-2 t c = omega (arith, fillings-few (c .before .before .before .before .before .before .before .before .before .before .before .before .before .before .before .before .before .before .before .before .before .before .before .args .shape) (c .before .before .before .before .before .before .before .before .before .before .before .before .before .before .before .before .before .before .before .before .before .before .before .args .place), c .before .before .before .before .before .before .before .before .loop .inv .0 .one)
 
 -- src/search.rt:52:5
 parts-held-fillings-less-2 : (t : ℕ) → parts-held-lts.Need-fillings-less-2 (
@@ -840,7 +840,7 @@ parts-held-fillings-less-2 : (t : ℕ) → parts-held-lts.Need-fillings-less-2 (
     parts-held-μ-loop
     parts-held-Inv-fillings
     parts-held-μ-fillings
-parts-held-fillings-less-2 t c = omega (arith, c .before .before .before .before .before .before .before .before .loop .inv .0 .one, c .before .before .before .before .before .before .before .before .loop .inv .1, c .before .before .before .before .before .before .before .before .before .before .before .before .before .before .before .before .before .before .before .fillings2 .ensures)
+parts-held-fillings-less-2 t c = omega (arith, c .before .before .before .before .before .before .before .before .loop .inv .0 .one, c .before .before .before .before .before .before .before .before .loop .inv .1, c .before .before .before .before .before .before .before .before .before .before .before .before .before .before .before .before .before .before .fillings2 .ensures)
 
 -- src/search.rt:52:5
 parts-held-fillings-again-2 : (t : ℕ) → parts-held-lts.Need-fillings-again-2 (
@@ -873,7 +873,7 @@ parts-held-fillings-again-2 : (t : ℕ) → parts-held-lts.Need-fillings-again-2
     parts-held-μ-loop
     parts-held-Inv-fillings
     parts-held-μ-fillings
-parts-held-fillings-again-2 t c = parting-held (c .before .before .before .before .before .before .before .before .before .before .before .before .before .before .before .before .before .before .before .before .before .before .before .before .args .file .now) (c .before .before .before .before .before .before .before .before .before .before .before .before .before .before .before .before .before .before .before .before .before .before .before .before .args .list .now) (c .before .before .before .before .before .before .before .before .before .before .before .before .before .before .before .before .before .before .before .before .before .before .before .before .args .sum .now) (c .before .before .before .before .before .before .before .before .before .before .before .before .before .before .before .before .before .before .before .before .before .before .before .before .args .n) (c .before .before .before .before .before .before .before .before .before .before .before .before .before .before .before .before .before .before .before .before .before .before .before .before .args .shape) (c .before .before .before .before .before .before .before .before .before .before .before .before .before .before .before .before .before .before .before .before .before .before .before .before .args .cube) (c .before .before .before .before .before .before .before .before .before .before .before .before .before .before .before .before .before .before .before .before .before .before .before .before .args .place) (c .before .before .before .before .before .before .before .before .loop .inv .0) (c .before .parts-held .ensures .0) (not-false (c .before .parts-held .result) (c .if4 .left))
+parts-held-fillings-again-2 t c = parting-held (c .before .before .before .before .before .before .before .before .before .before .before .before .before .before .before .before .before .before .before .before .before .before .before .args .file .now) (c .before .before .before .before .before .before .before .before .before .before .before .before .before .before .before .before .before .before .before .before .before .before .before .args .list .now) (c .before .before .before .before .before .before .before .before .before .before .before .before .before .before .before .before .before .before .before .before .before .before .before .args .sum .now) (c .before .before .before .before .before .before .before .before .before .before .before .before .before .before .before .before .before .before .before .before .before .before .before .args .n) (c .before .before .before .before .before .before .before .before .before .before .before .before .before .before .before .before .before .before .before .before .before .before .before .args .shape) (c .before .before .before .before .before .before .before .before .before .before .before .before .before .before .before .before .before .before .before .before .before .before .before .args .cube) (c .before .before .before .before .before .before .before .before .before .before .before .before .before .before .before .before .before .before .before .before .before .before .before .args .place) (c .before .before .before .before .before .before .before .before .loop .inv .0) (c .before .parts-held .ensures .0) (not-false (c .before .parts-held .result) (c .if4 .left))
 
 -- src/search.rt:37:1
 parts-held-returns-3 : (t : ℕ) → parts-held-lts.Need-returns-3 (

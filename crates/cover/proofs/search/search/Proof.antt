@@ -40,7 +40,7 @@ walk-from-requires c κs = tt
 
 -- src/search.rt:98:5
 loop-holds : tie.Need-loop-holds Inv-loop μ-loop
-loop-holds c = scanning-begin (c .before .before .before .before .before .before .before .before .before .before .before .args .file .now) (c .before .before .before .before .before .before .before .before .before .before .before .args .list .now) (c .before .before .before .before .before .before .before .before .before .before .before .args .sum .now) (c .before .before .before .before .before .before .before .before .before .before .before .args .n) (c .before .before .before .before .before .before .before .before .before .before .before .args .shape) (c .before .before .before .before .before .before .before .before .before .before .before .args .cube) (c .before .before .number-of .last .1 .1 .1 .0) (c .before .before .number-of .result) (c .walk-from .ensures)
+loop-holds c = scanning-begin (c .before .before .before .before .before .before .before .before .before .before .args .file .now) (c .before .before .before .before .before .before .before .before .before .before .args .list .now) (c .before .before .before .before .before .before .before .before .before .before .args .sum .now) (c .before .before .before .before .before .before .before .before .before .before .args .n) (c .before .before .before .before .before .before .before .before .before .before .args .shape) (c .before .before .before .before .before .before .before .before .before .before .args .cube) (c .before .before .number-of .last .1 .1 .1 .0) (c .before .before .number-of .result) (c .walk-from .ensures)
 
 -- src/search.rt:99:17
 sub-i : tie.Need-sub-i Inv-loop μ-loop
@@ -52,7 +52,7 @@ matches-at-requires c κs = tt
 
 -- src/search.rt:101:13
 returns : tie.Need-returns Inv-loop μ-loop
-returns c = ((λ Z e. cube-covered (c .before .before .before .before .before .before .before .before .before .before .before .before .before .before .before .before .before .before .args .file .now) (c .before .before .before .before .before .before .before .before .before .before .before .before .before .before .before .before .before .before .args .list .now) (c .before .before .before .before .before .before .before .before .before .before .before .before .before .before .before .before .before .before .args .sum .now) (c .before .before .before .before .before .before .before .before .before .before .before .before .before .before .before .before .before .before .args .n) (c .before .before .before .before .before .before .before .before .before .before .before .before .before .before .before .before .before .before .args .shape) (c .before .before .before .before .before .before .before .before .before .before .before .before .before .before .before .before .before .before .args .cube) (c .before .before .before .before .before .before .before .before .before .number-of .last .1 .1 .1 .0) (c .before .before .before .before .before .before .before .before .before .number-of .result) (cued (c .before .before .before .before .before .before .before .before .before .before .before .before .before .before .before .before .before .before .args .shape) (c .before .before .before .before .before .before .before .before .before .before .before .before .before .before .before .before .before .before .args .cube) (c .before .before .before .before .before .before .before .before .before .number-of .last .1 .1 .1 .0) (c .before .before .before .before .before .before .before .before .before .before .before .before .tags-of .ensures) (c .before .before .before .before .before .before .before .before .before .number-of .ensures .1 refl)) (scanning-covered (c .before .before .before .before .before .before .before .before .before .before .before .before .before .before .before .before .before .before .args .file .now) (c .before .before .before .before .before .before .before .before .before .before .before .before .before .before .before .before .before .before .args .list .now) (c .before .before .before .before .before .before .before .before .before .before .before .before .before .before .before .before .before .before .args .sum .now) (c .before .before .before .before .before .before .before .before .before .before .before .before .before .before .before .before .before .before .args .n) (c .before .before .before .before .before .before .before .before .before .before .before .before .before .before .before .before .before .before .args .shape) (c .before .before .before .before .before .before .before .before .before .before .before .before .before .before .before .before .before .before .args .cube) (c .before .before .before .before .before .before .before .before .before .number-of .last .1 .1 .1 .0) (c .before .before .before .before .before .before .before .before .before .number-of .result) (c .before .before .before .before .before .before .loop .inv) (c .before .before .before .before .if1 .taken) (λ A. sym (c .before .matches-at .ensures A) ∙ c .if2 .taken)) Z), found (c .before .before .before .before .before .before .before .before .before .before .before .before .before .before .rooms .ensures .0) (c .before .before .before .before .before .before .before .before .before .before .before .before .before .before .rooms .ensures .1) (λ Z e. cube-covered (c .before .before .before .before .before .before .before .before .before .before .before .before .before .before .before .before .before .before .args .file .now) (c .before .before .before .before .before .before .before .before .before .before .before .before .before .before .before .before .before .before .args .list .now) (c .before .before .before .before .before .before .before .before .before .before .before .before .before .before .before .before .before .before .args .sum .now) (c .before .before .before .before .before .before .before .before .before .before .before .before .before .before .before .before .before .before .args .n) (c .before .before .before .before .before .before .before .before .before .before .before .before .before .before .before .before .before .before .args .shape) (c .before .before .before .before .before .before .before .before .before .before .before .before .before .before .before .before .before .before .args .cube) (c .before .before .before .before .before .before .before .before .before .number-of .last .1 .1 .1 .0) (c .before .before .before .before .before .before .before .before .before .number-of .result) (cued (c .before .before .before .before .before .before .before .before .before .before .before .before .before .before .before .before .before .before .args .shape) (c .before .before .before .before .before .before .before .before .before .before .before .before .before .before .before .before .before .before .args .cube) (c .before .before .before .before .before .before .before .before .before .number-of .last .1 .1 .1 .0) (c .before .before .before .before .before .before .before .before .before .before .before .before .tags-of .ensures) (c .before .before .before .before .before .before .before .before .before .number-of .ensures .1 refl)) (scanning-covered (c .before .before .before .before .before .before .before .before .before .before .before .before .before .before .before .before .before .before .args .file .now) (c .before .before .before .before .before .before .before .before .before .before .before .before .before .before .before .before .before .before .args .list .now) (c .before .before .before .before .before .before .before .before .before .before .before .before .before .before .before .before .before .before .args .sum .now) (c .before .before .before .before .before .before .before .before .before .before .before .before .before .before .before .before .before .before .args .n) (c .before .before .before .before .before .before .before .before .before .before .before .before .before .before .before .before .before .before .args .shape) (c .before .before .before .before .before .before .before .before .before .before .before .before .before .before .before .before .before .before .args .cube) (c .before .before .before .before .before .before .before .before .before .number-of .last .1 .1 .1 .0) (c .before .before .before .before .before .before .before .before .before .number-of .result) (c .before .before .before .before .before .before .loop .inv) (c .before .before .before .before .if1 .taken) (λ A. sym (c .before .matches-at .ensures A) ∙ c .if2 .taken)) Z) (λ Z e. absurd (true-not-false e)))
+returns c = ((λ Z e. cube-covered (c .before .before .before .before .before .before .before .before .before .before .before .before .before .before .before .before .before .args .file .now) (c .before .before .before .before .before .before .before .before .before .before .before .before .before .before .before .before .before .args .list .now) (c .before .before .before .before .before .before .before .before .before .before .before .before .before .before .before .before .before .args .sum .now) (c .before .before .before .before .before .before .before .before .before .before .before .before .before .before .before .before .before .args .n) (c .before .before .before .before .before .before .before .before .before .before .before .before .before .before .before .before .before .args .shape) (c .before .before .before .before .before .before .before .before .before .before .before .before .before .before .before .before .before .args .cube) (c .before .before .before .before .before .before .before .before .before .number-of .last .1 .1 .1 .0) (c .before .before .before .before .before .before .before .before .before .number-of .result) (cued (c .before .before .before .before .before .before .before .before .before .before .before .before .before .before .before .before .before .args .shape) (c .before .before .before .before .before .before .before .before .before .before .before .before .before .before .before .before .before .args .cube) (c .before .before .before .before .before .before .before .before .before .number-of .last .1 .1 .1 .0) (c .before .before .before .before .before .before .before .before .before .before .before .before .tags-of .ensures) (c .before .before .before .before .before .before .before .before .before .number-of .ensures .1 refl)) (scanning-covered (c .before .before .before .before .before .before .before .before .before .before .before .before .before .before .before .before .before .args .file .now) (c .before .before .before .before .before .before .before .before .before .before .before .before .before .before .before .before .before .args .list .now) (c .before .before .before .before .before .before .before .before .before .before .before .before .before .before .before .before .before .args .sum .now) (c .before .before .before .before .before .before .before .before .before .before .before .before .before .before .before .before .before .args .n) (c .before .before .before .before .before .before .before .before .before .before .before .before .before .before .before .before .before .args .shape) (c .before .before .before .before .before .before .before .before .before .before .before .before .before .before .before .before .before .args .cube) (c .before .before .before .before .before .before .before .before .before .number-of .last .1 .1 .1 .0) (c .before .before .before .before .before .before .before .before .before .number-of .result) (c .before .before .before .before .before .before .loop .inv) (c .before .before .before .before .if1 .taken) (λ A. sym (c .before .matches-at .ensures A) ∙ c .if2 .taken)) Z), found (c .before .before .before .before .before .before .before .before .before .before .before .before .before .rooms .ensures .0) (c .before .before .before .before .before .before .before .before .before .before .before .before .before .rooms .ensures .1) (λ Z e. cube-covered (c .before .before .before .before .before .before .before .before .before .before .before .before .before .before .before .before .before .args .file .now) (c .before .before .before .before .before .before .before .before .before .before .before .before .before .before .before .before .before .args .list .now) (c .before .before .before .before .before .before .before .before .before .before .before .before .before .before .before .before .before .args .sum .now) (c .before .before .before .before .before .before .before .before .before .before .before .before .before .before .before .before .before .args .n) (c .before .before .before .before .before .before .before .before .before .before .before .before .before .before .before .before .before .args .shape) (c .before .before .before .before .before .before .before .before .before .before .before .before .before .before .before .before .before .args .cube) (c .before .before .before .before .before .before .before .before .before .number-of .last .1 .1 .1 .0) (c .before .before .before .before .before .before .before .before .before .number-of .result) (cued (c .before .before .before .before .before .before .before .before .before .before .before .before .before .before .before .before .before .args .shape) (c .before .before .before .before .before .before .before .before .before .before .before .before .before .before .before .before .before .args .cube) (c .before .before .before .before .before .before .before .before .before .number-of .last .1 .1 .1 .0) (c .before .before .before .before .before .before .before .before .before .before .before .before .tags-of .ensures) (c .before .before .before .before .before .before .before .before .before .number-of .ensures .1 refl)) (scanning-covered (c .before .before .before .before .before .before .before .before .before .before .before .before .before .before .before .before .before .args .file .now) (c .before .before .before .before .before .before .before .before .before .before .before .before .before .before .before .before .before .args .list .now) (c .before .before .before .before .before .before .before .before .before .before .before .before .before .before .before .before .before .args .sum .now) (c .before .before .before .before .before .before .before .before .before .before .before .before .before .before .before .before .before .args .n) (c .before .before .before .before .before .before .before .before .before .before .before .before .before .before .before .before .before .args .shape) (c .before .before .before .before .before .before .before .before .before .before .before .before .before .before .before .before .before .args .cube) (c .before .before .before .before .before .before .before .before .before .number-of .last .1 .1 .1 .0) (c .before .before .before .before .before .before .before .before .before .number-of .result) (c .before .before .before .before .before .before .loop .inv) (c .before .before .before .before .if1 .taken) (λ A. sym (c .before .matches-at .ensures A) ∙ c .if2 .taken)) Z) (λ Z e. absurd (true-not-false e)))
 
 -- src/search.rt:103:13
 onward-requires : tie.Need-onward-requires Inv-loop μ-loop
@@ -64,7 +64,7 @@ loop-less c = far-less (c .before .before .before .before .before .before .befor
 
 -- src/search.rt:98:5
 loop-again : tie.Need-loop-again Inv-loop μ-loop
-loop-again c = scanning-next (c .before .before .before .before .before .before .before .before .before .before .before .before .before .before .before .before .before .before .before .args .file .now) (c .before .before .before .before .before .before .before .before .before .before .before .before .before .before .before .before .before .before .before .args .list .now) (c .before .before .before .before .before .before .before .before .before .before .before .before .before .before .before .before .before .before .before .args .sum .now) (c .before .before .before .before .before .before .before .before .before .before .before .before .before .before .before .before .before .before .before .args .n) (c .before .before .before .before .before .before .before .before .before .before .before .before .before .before .before .before .before .before .before .args .shape) (c .before .before .before .before .before .before .before .before .before .before .before .before .before .before .before .before .before .before .before .args .cube) (c .before .before .before .before .before .before .before .before .before .before .number-of .last .1 .1 .1 .0) (c .before .before .before .before .before .before .before .before .before .before .number-of .result) (c .before .before .before .before .before .before .before .loop .inv) (λ A. sym (c .before .before .matches-at .ensures A) ∙ c .before .if2 .left) (c .onward .ensures)
+loop-again c = scanning-next (c .before .before .before .before .before .before .before .before .before .before .before .before .before .before .before .before .before .before .args .file .now) (c .before .before .before .before .before .before .before .before .before .before .before .before .before .before .before .before .before .before .args .list .now) (c .before .before .before .before .before .before .before .before .before .before .before .before .before .before .before .before .before .before .args .sum .now) (c .before .before .before .before .before .before .before .before .before .before .before .before .before .before .before .before .before .before .args .n) (c .before .before .before .before .before .before .before .before .before .before .before .before .before .before .before .before .before .before .args .shape) (c .before .before .before .before .before .before .before .before .before .before .before .before .before .before .before .before .before .before .args .cube) (c .before .before .before .before .before .before .before .before .before .before .number-of .last .1 .1 .1 .0) (c .before .before .before .before .before .before .before .before .before .before .number-of .result) (c .before .before .before .before .before .before .before .loop .inv) (λ A. sym (c .before .before .matches-at .ensures A) ∙ c .before .if2 .left) (c .onward .ensures)
 
 -- src/search.rt:117:9
 place-for-requires : tie.Need-place-for-requires Inv-loop μ-loop
@@ -76,7 +76,7 @@ is-whole-requires c κs = tt
 
 -- src/search.rt:119:9
 returns-2 : tie.Need-returns-2 Inv-loop μ-loop
-returns-2 c = ((λ Z e. absurd (true-not-false (sym e))), found (c .before .before .before .before .before .before .before .before .before .before .before .before .before .before .rooms .ensures .0) (c .before .before .before .before .before .before .before .before .before .before .before .before .before .before .rooms .ensures .1) (λ Z e. absurd (true-not-false (sym e))) (λ Z e. cube-out (c .before .before .before .before .before .before .before .before .before .before .before .before .before .before .before .before .before .before .args .file .now) (c .before .before .before .before .before .before .before .before .before .before .before .before .before .before .before .before .before .before .args .list .now) (c .before .before .before .before .before .before .before .before .before .before .before .before .before .before .before .before .before .before .args .sum .now) (c .before .before .before .before .before .before .before .before .before .before .before .before .before .before .before .before .before .before .args .n) (c .before .before .before .before .before .before .before .before .before .before .before .before .before .before .before .before .before .before .args .shape) (c .before .before .before .before .before .before .before .before .before .before .before .before .before .before .before .before .before .before .args .cube) (c .before .before .before .before .before .before .before .before .before .number-of .last .1 .1 .1 .0) (c .before .before .before .before .before .before .before .before .before .number-of .result) (cued (c .before .before .before .before .before .before .before .before .before .before .before .before .before .before .before .before .before .before .args .shape) (c .before .before .before .before .before .before .before .before .before .before .before .before .before .before .before .before .before .before .args .cube) (c .before .before .before .before .before .before .before .before .before .number-of .last .1 .1 .1 .0) (c .before .before .before .before .before .before .before .before .before .before .before .before .tags-of .ensures) (c .before .before .before .before .before .before .before .before .before .number-of .ensures .1 refl)) (c .before .before .before .before .before .before .before .before .before .number-of .ensures .0 (c .before .before .before .before .before .before .before .before .before .before .before .before .tags-of .ensures)) (scanning-end (c .before .before .before .before .before .before .before .before .before .before .before .before .before .before .before .before .before .before .args .file .now) (c .before .before .before .before .before .before .before .before .before .before .before .before .before .before .before .before .before .before .args .list .now) (c .before .before .before .before .before .before .before .before .before .before .before .before .before .before .before .before .before .before .args .sum .now) (c .before .before .before .before .before .before .before .before .before .before .before .before .before .before .before .before .before .before .args .n) (c .before .before .before .before .before .before .before .before .before .before .before .before .before .before .before .before .before .before .args .shape) (c .before .before .before .before .before .before .before .before .before .before .before .before .before .before .before .before .before .before .args .cube) (c .before .before .before .before .before .before .before .before .before .number-of .last .1 .1 .1 .0) (c .before .before .before .before .before .before .before .before .before .number-of .result) (c .before .before .before .before .before .before .loop .inv) (c .before .before .before .before .if1 .left)) (c .before .before .place-for .ensures .1 (sym (c .before .is-whole .ensures) ∙ c .if3 .taken)) Z))
+returns-2 c = ((λ Z e. absurd (true-not-false (sym e))), found (c .before .before .before .before .before .before .before .before .before .before .before .before .before .rooms .ensures .0) (c .before .before .before .before .before .before .before .before .before .before .before .before .before .rooms .ensures .1) (λ Z e. absurd (true-not-false (sym e))) (λ Z e. cube-out (c .before .before .before .before .before .before .before .before .before .before .before .before .before .before .before .before .before .args .file .now) (c .before .before .before .before .before .before .before .before .before .before .before .before .before .before .before .before .before .args .list .now) (c .before .before .before .before .before .before .before .before .before .before .before .before .before .before .before .before .before .args .sum .now) (c .before .before .before .before .before .before .before .before .before .before .before .before .before .before .before .before .before .args .n) (c .before .before .before .before .before .before .before .before .before .before .before .before .before .before .before .before .before .args .shape) (c .before .before .before .before .before .before .before .before .before .before .before .before .before .before .before .before .before .args .cube) (c .before .before .before .before .before .before .before .before .before .number-of .last .1 .1 .1 .0) (c .before .before .before .before .before .before .before .before .before .number-of .result) (cued (c .before .before .before .before .before .before .before .before .before .before .before .before .before .before .before .before .before .args .shape) (c .before .before .before .before .before .before .before .before .before .before .before .before .before .before .before .before .before .args .cube) (c .before .before .before .before .before .before .before .before .before .number-of .last .1 .1 .1 .0) (c .before .before .before .before .before .before .before .before .before .before .before .before .tags-of .ensures) (c .before .before .before .before .before .before .before .before .before .number-of .ensures .1 refl)) (c .before .before .before .before .before .before .before .before .before .number-of .ensures .0 (c .before .before .before .before .before .before .before .before .before .before .before .before .tags-of .ensures)) (scanning-end (c .before .before .before .before .before .before .before .before .before .before .before .before .before .before .before .before .before .args .file .now) (c .before .before .before .before .before .before .before .before .before .before .before .before .before .before .before .before .before .args .list .now) (c .before .before .before .before .before .before .before .before .before .before .before .before .before .before .before .before .before .args .sum .now) (c .before .before .before .before .before .before .before .before .before .before .before .before .before .before .before .before .before .args .n) (c .before .before .before .before .before .before .before .before .before .before .before .before .before .before .before .before .before .args .shape) (c .before .before .before .before .before .before .before .before .before .before .before .before .before .before .before .before .before .args .cube) (c .before .before .before .before .before .before .before .before .before .number-of .last .1 .1 .1 .0) (c .before .before .before .before .before .before .before .before .before .number-of .result) (c .before .before .before .before .before .before .loop .inv) (c .before .before .before .before .if1 .left)) (c .before .before .place-for .ensures .1 (sym (c .before .is-whole .ensures) ∙ c .if3 .taken)) Z))
 
 -- src/search.rt:121:5
 parts-held-requires : tie.Need-parts-held-requires Inv-loop μ-loop
@@ -84,7 +84,7 @@ parts-held-requires c κs = c .before .before .place-for .ensures .0
 
 -- src/search.rt:89:1
 returns-3 : tie.Need-returns-3 Inv-loop μ-loop
-returns-3 c = (c .parts-held .ensures .0, found (c .before .before .before .before .before .before .before .before .before .before .before .before .before .before .before .rooms .ensures .0) (c .before .before .before .before .before .before .before .before .before .before .before .before .before .before .before .rooms .ensures .1) (c .parts-held .ensures .0) (c .parts-held .ensures .1))
+returns-3 c = (c .parts-held .ensures .0, found (c .before .before .before .before .before .before .before .before .before .before .before .before .before .before .rooms .ensures .0) (c .before .before .before .before .before .before .before .before .before .before .before .before .before .before .rooms .ensures .1) (c .parts-held .ensures .0) (c .parts-held .ensures .1))
 
 pub search-spec : {M : Type 1} → statement M
 search-spec =

@@ -1,4 +1,4 @@
-use mathlib.Core.Path.{refl, sym}
+use mathlib.Core.Path.{sym}
 use lib.Seq.{length-take-le}
 use Rattle.summary.proofs.WalkLaws.{place-first, place-other}
 use native.Mathlib.Omega.{arith}
@@ -59,7 +59,7 @@ number-of-requires c κs = tt
 
 -- src/adding.rt:109:1
 returns-2 : tie.Need-returns-2
-returns-2 c = place-other (c .before .before .before .before .before .before .before .before .before .before .before .before .before .before .args .file .now) (c .before .before .before .before .before .before .before .before .before .before .before .before .before .before .args .upper .now) (c .before .before .before .before .before .before .before .before .before .before .before .before .before .before .args .shape) (c .before .before .before .before .before .before .before .before .before .before .before .before .before .before .args .at) (c .before .before .before .before .before .before .before .before .before .before .before .before .before .before .args .n) (c .before .before .before .before .before .before .before .before .before .before .entry-at .ensures) (c .before .before .before .before .before .before .leader-of .ensures .0) (c .before .before .before .before .before .before .leader-of .ensures .1 .0) (c .before .before .before .before .before .if1 .left) (c .before .before .before .tags-of .ensures) (c .number-of .ensures .0)
+returns-2 c = place-other (c .before .before .before .before .before .before .before .before .before .before .before .before .before .args .file .now) (c .before .before .before .before .before .before .before .before .before .before .before .before .before .args .upper .now) (c .before .before .before .before .before .before .before .before .before .before .before .before .before .args .shape) (c .before .before .before .before .before .before .before .before .before .before .before .before .before .args .at) (c .before .before .before .before .before .before .before .before .before .before .before .before .before .args .n) (c .before .before .before .before .before .before .before .before .before .entry-at .ensures) (c .before .before .before .before .before .leader-of .ensures .0) (c .before .before .before .before .before .leader-of .ensures .1 .0) (c .before .before .before .before .if1 .left) (c .before .before .before .tags-of .ensures) (c .number-of .ensures .0)
 
 pub place-of-spec : {M : Type 1} → statement M
 place-of-spec =
