@@ -153,7 +153,7 @@ fn raise(k: u8, i: u8) -> u8
 }
 
 // The pointers after that.
-pub(crate) fn raised(pointers: [u8; 4], k: u8) -> [u8; 4]
+pub fn raised(pointers: [u8; 4], k: u8) -> [u8; 4]
     ensures { λ r. ⌜ (((q : ℕ) → q < 4 → getD pointers q 0 < 255) → 1 ≤ k → byNumber r ≡ (λ q. up k (getD pointers q 0))) ⌝ }
 {
     [
@@ -165,7 +165,7 @@ pub(crate) fn raised(pointers: [u8; 4], k: u8) -> [u8; 4]
 }
 
 // With a message put in as number k, and these pointers.
-pub(crate) fn inserted(cube: Cube, k: u8, message: Message, pointers: [u8; 4]) -> Cube
+pub fn inserted(cube: Cube, k: u8, message: Message, pointers: [u8; 4]) -> Cube
     ensures { λ r. ⌜ (1 ≤ k → k ≤ cube .count + 1 → cube .count < 20 → Inserted r cube k message pointers) ⌝ }
 {
     let n = cube.count;
@@ -186,7 +186,7 @@ pub(crate) fn inserted(cube: Cube, k: u8, message: Message, pointers: [u8; 4]) -
 
 // ---- a message with another value
 
-pub(crate) fn with_value(snapshot: [u8; 4], v: usize, x: u8) -> [u8; 4]
+pub fn with_value(snapshot: [u8; 4], v: usize, x: u8) -> [u8; 4]
     ensures { λ r. ⌜ r ≡ set snapshot v x ⌝ }
 {
     if 4 <= v {
@@ -214,7 +214,7 @@ pub(crate) fn value_in(cube: Cube, i: usize, v: usize) -> u8
 }
 
 // The messages with x as the value of v in that of number i.
-pub(crate) fn with_value_in(cube: Cube, i: usize, v: usize, x: u8) -> [Message; 20]
+pub fn with_value_in(cube: Cube, i: usize, v: usize, x: u8) -> [Message; 20]
     ensures { λ r. ⌜ (cube .count ≤ 20 → 1 ≤ i → i ≤ cube .count → channelOf r (cube .count) ≡ setValue (configurationOf cube .memory .channel) i v x) ⌝ }
 {
     let messages = cube.messages;

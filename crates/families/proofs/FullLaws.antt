@@ -10,11 +10,11 @@ use lib.Dec.{T}
 use Rattle.pws.specs.declared.Message.{Message}
 use Rattle.pws.specs.declared.Step.the-variants.{Update}
 use Rattle.pws.specs.Program.{Shape, ShapeInRange, Program, ProgramInRange}
-use Rattle.pws.specs.Machine.{Memory, Configuration, message, after}
+use Rattle.pws.specs.Machine.{Memory, Configuration, message, point, after}
 use Rattle.pws.specs.Configurations.{MessageIn, MemoryIn, Fits, ValueOf}
 use Rattle.pws.specs.Order.{Maps}
 use Rattle.pws.specs.Entries.{EntryOf, entry, ValueOrFF, FillValues, values-nil, FillChannel, channel-nil, channel-cons, filled, AboveList, Above}
-use Rattle.pws.proofs.Facts.{T-or-not, message-each, message-new, message-old, proper}
+use Rattle.pws.proofs.Facts.{T-or-not, put-each, message-each, message-new, message-old, proper}
 use Rattle.pws.proofs.Moves.{maps-newest}
 use Rattle.pws.proofs.Preorder.{list-up, queue-refl}
 use Rattle.pws.proofs.Dropping.{smaller}
@@ -31,21 +31,21 @@ use Rattle.lists.proofs.Lists.{T-true, every-yes}
 use Rattle.lists.proofs.Covering.{above-match, above-over}
 use Rattle.lists.proofs.Shapes.{shape-of, irreducible-short, memory-shape}
 use Rattle.lists.proofs.Splitting.{held-decided, decided-yes, decided-no}
-use Rattle.families.specs.Family.{InFamily, FamilyHeld, topped, familyCube, familyCubes}
+use Rattle.families.specs.Family.{Clue, newest, sees, Clued, InFamily, FamilyHeld, topped, familyCube, familyCubes}
 use Rattle.families.proofs.Steps.{shut-step}
-use Rattle.families.proofs.InLaws.{family-trans, pairwise-values, family-filled, top-newest, family-above}
+use Rattle.families.proofs.InLaws.{pairwise-values, family-fill, top-newest, family-up}
 
 module _ (S : Shape) (R : ShapeInRange S) (es : List Configuration) (oes : (k : ℕ) → k < length es → Fits (ValueOrFF S) S (entry es k)) where
   -- ---- what a full family says
 
   -- a cube in it is held
-  pub family-held : (e c : Configuration) → FamilyHeld S es e → InFamily S e c → Fits (ValueOrFF S) S c → held S es c ≡ true
-  family-held e c H i o =
+  pub family-held : (q : Clue) (e c : Configuration) → FamilyHeld S es q e → InFamily S q e c → Fits (ValueOrFF S) S c → held S es c ≡ true
+  family-held q e c H i o =
       ⊎-elim (T-true (held S es c))
-      (λ t. let x = decided-no (held-decided S R es oes c o) t in absurd (x .outside (H (filled c (x .queues) (x .channel)) (x .filling .fits) (family-trans i (family-filled (x .queues) (x .channel) (x .filling))))))
+      (λ t. let x = decided-no (held-decided S R es oes c o) t in absurd (x .outside (H (filled c (x .queues) (x .channel)) (x .filling .fits) (family-fill S q e c (x .queues) (x .channel) (x .filling) i))))
       (T-or-not (held S es c))
 
-  -- ---- how it is tested
+  -- ---- how it is tested, if it is one of newest values
 
   topped-fill : (xs : List ℕ) {es ms : List Message} → FillChannel es ms → FillValues xs (topmost ms .snapshot) → FillChannel (topped xs es) ms
   topped-fill xs channel-nil f = channel-nil
@@ -85,7 +85,7 @@ module _ (S : Shape) (R : ShapeInRange S) (es : List Configuration) (oes : (k : 
           queues = oe .queues;
         }
 
-    module _ (d : Configuration) (od : Fits (ValueOf S) S d) (i : InFamily S e d) where
+    module _ (d : Configuration) (od : Fits (ValueOf S) S d) (i : InFamily S newest e d) where
       abbrev bare : Memory → Configuration
       bare m = record { state = d .state; queue = λ p v. []; memory = m }
 
@@ -109,7 +109,7 @@ module _ (S : Shape) (R : ShapeInRange S) (es : List Configuration) (oes : (k : 
           ∙ sym (maps-newest S m (d .memory) (proper om) (proper (od .memory)) (w .below .h) (w .below .maps) 0 (R .someProcess))
           ∙ sym (top-newest (m .channel) (om .some)) in
           let f = topped-fill values (k .fill) (pairwise-values values (topmost (m .channel) .snapshot)
-          (subst (λ (x : Message). T (pairwise fills values (x .snapshot))) same (i .newest))) in
+          (subst (λ (x : Message). T (pairwise fills values (x .snapshot))) same (i .clue))) in
           let of = family-fits (k .shape) (memory-shape S R (k .shape) (k .in-shapes)) in
           let A = above-over S R (bare (familyCube e (k .shape) .memory)) (bare (d .memory)) (bare-fits _ (of .memory)) (bare-fits _ (od .memory)) (λ p l. refl)
           (record {
@@ -131,7 +131,7 @@ module _ (S : Shape) (R : ShapeInRange S) (es : List Configuration) (oes : (k : 
             above = above-match S R (familyCube e (k .shape)) d of od .1 (record { states = i .states; queues = i .queues; channel = M .channel });
           }
 
-    pub family-shapes : ((m : Memory) → List·Memᴰ m (memoryShapes S) → Held S es (familyCube e m)) → FamilyHeld S es e
+    pub family-shapes : ((m : Memory) → List·Memᴰ m (memoryShapes S) → Held S es (familyCube e m)) → FamilyHeld S es newest e
     family-shapes H d od i =
         let w = family-shape d od i in
         list-up (H (w .memory) (w .in-shapes) (w .above .queues) (w .above .channel) (w .above .filling)) (w .above .below)
@@ -142,17 +142,30 @@ module _ (S : Shape) (R : ShapeInRange S) (es : List Configuration) (oes : (k : 
         subst (Fits (ValueOrFF S) S) (r .2) (family-fits (r .0) (memory-shape S R (r .0) (r .1)))
 
     -- all of its cubes are held
-    pub family-full : every (held S es) (familyCubes S e) ≡ true → FamilyHeld S es e
+    pub family-full : every (held S es) (familyCubes S e) ≡ true → FamilyHeld S es newest e
     family-full y = family-shapes (λ m j.
         let k = Memᴰ·map (familyCube e) j in
         decided-yes (held-decided S R es oes (familyCube e m) (cubes-fit (familyCube e m) k)) (every-yes (held S es) (familyCubes S e) (subst T (sym y) tt) (familyCube e m) k))
 
--- an update leaves local states, queues and the newest message as they are: none leads in from outside
+-- An update leaves local states, queues and the channel as they are, and takes no LastWrite down: none leads in from outside.
+clued-update : (S : Shape) (q : Clue) (e m : Memory) (p : ℕ) → Clued S q e (point m p (suc (m .pointer p))) → Clued S q e m
+clued-update S newest e m p y = y
+clued-update S (sees r v x) e m p y =
+    record {
+      process = y .process;
+      variable = y .variable;
+      small = y .small;
+      at = y .at;
+      from = omega (arith, y .from, put-each (λ q z. m .pointer q ≤ z) (m .pointer) p (suc (m .pointer p)) r (omega arith) (λ d. omega arith));
+      upto = y .upto;
+      is = y .is;
+    }
+
 module _ (P : Program) (R : ProgramInRange P) (es : List Configuration) (oes : (k : ℕ) → k < length es → Fits (ValueOrFF (P .shape)) (P .shape) (entry es k)) where
   abbrev S : Shape
   S = P .shape
 
-  pub family-update : (e c : Configuration) → FamilyHeld S es e → InFamily S e c → EntryOf P c → (p : ℕ) → every (held S es) (predecessors P c (Update p)) ≡ true
-  family-update e c H i o p = shut-step P R es oes c o (Update p) (λ d w m A.
-      let j = family-above S (R .shape) c (after P d (Update p)) (o .fits) (step-configuration P R d w (Update p) m .fits) A in
-      H d (w .fits) (family-trans i (record { states = j .states; queues = j .queues; newest = j .newest })))
+  pub family-update : (q : Clue) (e c : Configuration) → FamilyHeld S es q e → InFamily S q e c → EntryOf P c → (p : ℕ) → every (held S es) (predecessors P c (Update p)) ≡ true
+  family-update q e c H i o p = shut-step P R es oes c o (Update p) (λ d w m A.
+      let j = family-up S (R .shape) c (after P d (Update p)) (o .fits) (step-configuration P R d w (Update p) m .fits) A q e i in
+      H d (w .fits) (record { states = j .states; queues = j .queues; clue = clued-update S q (e .memory) (d .memory) p (j .clue) }))

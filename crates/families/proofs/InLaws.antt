@@ -1,26 +1,29 @@
 -- What is in a family: it goes on from a cube to its fillings, and to what is above it.
 use Prim.Native.Nat.{ℕ, _<_, _≤_}
 use mathlib.Core.Path.{_≡_, refl, sym, ap, subst, _∙_}
-use mathlib.Core.Bool.{Bool, _&&_}
+use mathlib.Core.Logic.{inr}
 use mathlib.Core.Option.{Option, none, some}
 use mathlib.Core.List.{List, [], _∷_}
 use native.Mathlib.Omega.{arith}
-use lib.ListN.{length}
+use lib.ListN.{length, getD}
 use lib.Dec.{T}
 use mir.Facts.{and-yes, yes-and}
 use Rattle.pws.specs.declared.Message.{Message}
 use Rattle.pws.specs.Program.{Shape, ShapeInRange}
-use Rattle.pws.specs.Machine.{Configuration, newestWaiting, newest}
+use Rattle.pws.specs.Machine.{Memory, Configuration, message, lastWrite, newestWaiting, newest}
 use Rattle.pws.specs.Configurations.{Fits, ValueOf}
+use Rattle.pws.specs.Order.{Live, Maps}
 use Rattle.pws.specs.Entries.{ValueOrFF, FillValues, values-nil, values-cons, FillChannel, channel-nil, channel-cons, filled, Filling, Above}
-use Rattle.pws.proofs.Facts.{message-new, proper}
-use Rattle.pws.proofs.Moves.{maps-newest}
+use Rattle.pws.proofs.Facts.{message-new, Proper, proper, live-last}
+use Rattle.pws.proofs.Moves.{maps-le, maps-newest}
 use Rattle.lists.specs.Values.{fills, pairwise}
 use Rattle.lists.specs.Cubes.{memoryOf, topmost}
 use Rattle.lists.specs.Matching.{Subsequence, nothing, skip, keep, ends, QueueMatch}
-use Rattle.lists.proofs.Fillings.{fills-yes, yes-fills, fill-trans, proper-fill}
+use Rattle.lists.proofs.Fillings.{fills-yes, yes-fills, fill-trans, fill-value, fill-at, channel-length, channel-at, channel-last}
 use Rattle.lists.proofs.Covering.{above-match}
-use Rattle.families.specs.Family.{InFamily}
+use Rattle.families.specs.Seen.{Sees}
+use Rattle.families.specs.Family as family
+use Rattle.families.specs.Family.{Clue, Clued, InFamily}
 
 -- ---- values
 
@@ -44,7 +47,7 @@ queue-trans : {xs ys zs : List ℕ} → QueueMatch fills xs ys → QueueMatch fi
 queue-trans {xs} {ys} {zs} a b =
     record { subsequence = sub-trans (a .subsequence) (b .subsequence); end = ends-trans (newestWaiting xs) (newestWaiting ys) (newestWaiting zs) (a .end) (b .end) }
 
-pairwise-trans : (xs ys zs : List ℕ) → T (pairwise fills xs ys) → T (pairwise fills ys zs) → T (pairwise fills xs zs)
+pub pairwise-trans : (xs ys zs : List ℕ) → T (pairwise fills xs ys) → T (pairwise fills ys zs) → T (pairwise fills xs zs)
 pairwise-trans [] [] zs t u = u
 pairwise-trans [] (y ∷ ys) zs t u = absurd t
 pairwise-trans (x ∷ xs) [] zs t u = absurd t
@@ -54,12 +57,13 @@ pairwise-trans (x ∷ xs) (y ∷ ys) (z ∷ zs) t u =
     let b = and-yes (fills y z) (pairwise fills ys zs) u in
     yes-and (fills x z) (pairwise fills xs zs) (fills-trans x y z (a .0) (b .0)) (pairwise-trans xs ys zs (a .1) (b .1))
 
-pub family-trans : {S : Shape} {e c d : Configuration} → InFamily S e c → InFamily S c d → InFamily S e d
-family-trans {S} {e} {c} {d} a b =
+-- what is in the family of a cube's newest values, and meets the clue itself
+pub family-trans : {S : Shape} {q : Clue} {e c d : Configuration} → InFamily S q e c → InFamily S family.newest c d → Clued S q (e .memory) (d .memory) → InFamily S q e d
+family-trans a b y =
     record {
       states = λ p l. a .states p l ∙ b .states p l;
       queues = λ p v l m. queue-trans (a .queues p v l m) (b .queues p v l m);
-      newest = pairwise-trans (topmost (e .memory .channel) .snapshot) (topmost (c .memory .channel) .snapshot) (topmost (d .memory .channel) .snapshot) (a .newest) (b .newest);
+      clue = y;
     }
 
 -- ---- fillings
@@ -88,13 +92,37 @@ newest-filled channel-nil = tt
 newest-filled (channel-cons f r) = values-pairwise (f .snapshot)
 
 -- a filling of a cube is in its family
-pub family-filled : {S : Shape} {c : Configuration} (qs : ℕ → ℕ → List ℕ) (ms : List Message) → Filling S c qs ms → InFamily S c (filled c qs ms)
+family-filled : {S : Shape} {c : Configuration} (qs : ℕ → ℕ → List ℕ) (ms : List Message) → Filling S c qs ms → InFamily S family.newest c (filled c qs ms)
 family-filled qs ms F =
     record {
       states = λ p l. refl;
       queues = λ p v l m. record { subsequence = values-sub (F .queues p v l m); end = values-end (F .queues p v l m) };
-      newest = newest-filled (F .channel);
+      clue = newest-filled (F .channel);
     }
+
+-- a value that can be seen is none that is filled in
+pub fill-seen : (xs ys : List ℕ) (v : ℕ) {x : ℕ} → x < 4 → FillValues xs ys → getD xs v 0 ≡ x → getD ys v 0 ≡ x
+fill-seen xs ys v l f e = fill-value (getD xs v 0) (getD ys v 0) (λ z. omega (arith, z, e)) (fill-at f v) ∙ e
+
+pub sees-fill : (S : Shape) (p v x : ℕ) (m : Memory) (ms : List Message) → FillChannel (m .channel) ms → Sees S p v x m → Sees S p v x (memoryOf ms (m .pointer))
+sees-fill S p v x m ms f s =
+    record {
+      process = s .process;
+      variable = s .variable;
+      small = s .small;
+      at = s .at;
+      from = omega (arith, s .from, channel-last f p v);
+      upto = omega (arith, s .upto, channel-length f);
+      is = fill-seen (message (m .channel) (s .at) .snapshot) (message ms (s .at) .snapshot) v (s .small) (channel-at f (s .at) .snapshot) (s .is);
+    }
+
+clued-fill : (S : Shape) (q : Clue) (e m : Memory) (ms : List Message) → FillChannel (m .channel) ms → Clued S q e m → Clued S q e (memoryOf ms (m .pointer))
+clued-fill S family.newest e m ms f y = pairwise-trans (topmost (e .channel) .snapshot) (topmost (m .channel) .snapshot) (topmost ms .snapshot) y (newest-filled f)
+clued-fill S (family.sees p v x) e m ms f y = sees-fill S p v x m ms f y
+
+-- what is in a family stays there when it is filled
+pub family-fill : (S : Shape) (q : Clue) (e c : Configuration) (qs : ℕ → ℕ → List ℕ) (ms : List Message) → Filling S c qs ms → InFamily S q e c → InFamily S q e (filled c qs ms)
+family-fill S q e c qs ms F i = family-trans i (family-filled qs ms F) (clued-fill S q (e .memory) (c .memory) ms (F .channel) (i .clue))
 
 -- ---- what is above
 
@@ -102,17 +130,48 @@ pub top-newest : (ms : List Message) → 1 ≤ length ms → topmost ms ≡ newe
 top-newest [] l = absurd (omega arith)
 top-newest (m ∷ ms) l = sym (message-new m ms)
 
-module _ (S : Shape) (R : ShapeInRange S) (c d : Configuration) (oc : Fits (ValueOrFF S) S c) (od : Fits (ValueOf S) S d) where
-  pub family-above : Above S c d → InFamily S c d
-  family-above A =
+module _ (S : Shape) (m n : Memory) (gm : Proper S m) (gn : Proper S n) (h : ℕ → ℕ) (M : Maps S m n h) where
+  -- the message that shows it is mapped, and stays at or past LastWrite
+  pub sees-maps : (p v x : ℕ) → Sees S p v x m → Sees S p v x n
+  sees-maps p v x s =
+      let k : Live S m (lastWrite m p v) = live-last S m gm p v (s .process) in
+      let l : Live S m (s .at) = record { who = k .who; exists = k .exists; from = omega (arith, k .from, s .from); upto = s .upto } in
+      record {
+        process = s .process;
+        variable = s .variable;
+        small = s .small;
+        at = h (s .at);
+        from = omega (arith, M .lastWrites p v (s .process) (s .variable), maps-le S m n gm gn h M (lastWrite m p v) (s .at) k l (s .from));
+        upto = M .lands (s .at) l .upto;
+        is = ap (λ (y : Message). getD (y .snapshot) v 0) (sym (M .equal (s .at) l)) ∙ s .is;
+      }
+
+  newest-mapped : 1 ≤ length (m .channel) → 1 ≤ length (n .channel) → 1 ≤ S .processes → topmost (m .channel) ≡ topmost (n .channel)
+  newest-mapped a b c = top-newest (m .channel) a ∙ maps-newest S m n gm gn h M 0 c ∙ sym (top-newest (n .channel) b)
+
+  clued-maps : 1 ≤ length (m .channel) → 1 ≤ length (n .channel) → 1 ≤ S .processes → (q : Clue) (e : Memory) → Clued S q e m → Clued S q e n
+  clued-maps a b c family.newest e y = subst (λ (z : Message). T (pairwise fills (topmost (e .channel) .snapshot) (z .snapshot))) (newest-mapped a b c) y
+  clued-maps a b c (family.sees p v x) e y = sees-maps p v x y
+
+module _ (S : Shape) (R : ShapeInRange S) (c d : Configuration) (oc : Fits (ValueOrFF S) S c) (od : Fits (ValueOf S) S d) (A : Above S c d) where
+  clued-above : (q : Clue) (e : Memory) → Clued S q e (c .memory) → Clued S q e (d .memory)
+  clued-above q e y =
+      clued-maps S (memoryOf (A .channel) (c .memory .pointer)) (d .memory) (proper (A .filling .fits .memory)) (proper (od .memory)) (A .below .h) (A .below .maps)
+      (A .filling .fits .memory .some) (od .memory .some) (R .someProcess) q e (clued-fill S q e (c .memory) (A .channel) (A .filling .channel) y)
+
+  pub family-above : InFamily S family.newest c d
+  family-above =
       let M = above-match S R c d oc od .0 A in
-      let g = proper (A .filling .fits .memory) in
-      let e : topmost (A .channel) ≡ topmost (d .memory .channel) =
-      top-newest (A .channel) (A .filling .fits .memory .some)
-      ∙ maps-newest S (memoryOf (A .channel) (c .memory .pointer)) (d .memory) g (proper (od .memory)) (A .below .h) (A .below .maps) 0 (R .someProcess)
-      ∙ sym (top-newest (d .memory .channel) (od .memory .some)) in
       record {
         states = M .states;
         queues = M .queues;
-        newest = subst (λ (m : Message). T (pairwise fills (topmost (c .memory .channel) .snapshot) (m .snapshot))) e (newest-filled (A .filling .channel));
+        clue = clued-above family.newest (c .memory) (own (topmost (c .memory .channel) .snapshot));
       }
+    where
+      own : (xs : List ℕ) → T (pairwise fills xs xs)
+      own [] = tt
+      own (x ∷ xs) = yes-and (fills x x) (pairwise fills xs xs) (yes-fills x x (inr refl)) (own xs)
+
+  -- what is above what is in a family is in it
+  pub family-up : (q : Clue) (e : Configuration) → InFamily S q e c → InFamily S q e d
+  family-up q e i = family-trans i family-above (clued-above q (e .memory) (i .clue))

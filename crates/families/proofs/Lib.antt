@@ -3,3 +3,5 @@ pub mod Steps
 pub mod FullLaws
 pub mod SerialiseLaws
 pub mod TableLaws
+pub mod ClueLaws
+pub mod SeenLaws

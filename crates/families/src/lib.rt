@@ -1,16 +1,19 @@
 // Families of configurations (theory, section 5): the family of an entry has its local states, waiting values above its own and newest values that fit,
-// and any other messages and pointers. At number 11 a cube in a full family is held, and no update leads in; nothing is searched for.
+// and any other messages and pointers; or messages by which a process can come to see a value. At number 11 a cube in a full family is held, and no update leads in; nothing is searched for.
 ghost use mathlib.Core.Path.{_≡_};
 ghost use mathlib.Core.Bool.{true};
 ghost use mathlib.Core.List.{List};
 ghost use Prim.Native.Nat.{ℕ, _+_, _≤_, _<_};
 ghost use lib.ListN.{length};
 ghost use Rattle.pws.specs.Program as pws;
-ghost use Rattle.pws.specs.Machine.{Configuration};
+ghost use Rattle.pws.specs.Machine.{Memory, Configuration, labelled};
 ghost use Rattle.pws.specs.Entries.{entry};
+ghost use Rattle.program_part.specs.ProgramPart.{shapeOf};
 ghost use Rattle.by_number.specs.Again.{offsetAt};
 ghost use Rattle.by_bytes.specs.Same.{Within};
-ghost use Rattle.families.specs.Family.{FamilyHeld, Families, Recorded, newestValues};
+ghost use Rattle.whole_file.specs.Cube.{configurationOf};
+ghost use Rattle.families.specs.Seen.{Sees};
+ghost use Rattle.families.specs.Family.{newest, Clued, FamilyHeld, clueOf, Families, Recorded, newestValues};
 use by_bytes::within_at;
 use by_number::offset_at;
 use matching::least;
@@ -19,7 +22,10 @@ use matching::states_match;
 use matching::states_number;
 use matching::values_related;
 use matching::waiting;
+use program_part::bytes::both;
+use program_part::bytes::wide;
 use program_part::program::Shape;
+use pws::Message;
 use summary::put_word;
 use summary::word_at;
 use whole_file::entry::Cube;
@@ -97,8 +103,68 @@ fn in_family(
     built_within(file, at, shape, states, queues, values)
 }
 
-// ---- the table: words 0 to 1,023 are entries whose families are full, eight in a row for local states and empty queues that fall together;
-// words 1,024 to 2,047 count entries. Where something stands changes only the speed. A word has its entry's number, counted from 1, in its lower 20 bits. In
+// ---- clues
+
+fn carries(message: Message, p: usize, v: usize) -> bool
+    ensures { λ r. ⌜ r ≡ labelled message p v ⌝ }
+{
+    both(
+        message.process as usize == p,
+        message.variable as usize == v,
+    )
+}
+
+// The process p can come to see x in v. The newest message is looked at first, and the LastWrite of p and v last.
+fn sees_value(cube: Cube, p: usize, v: usize, x: usize) -> bool
+    requires { ⌜ cube .count ≤ 20 ⌝ }
+    requires { ⌜ p < 4 ⌝ }
+    requires { ⌜ v < 4 ⌝ }
+    ensures { λ r. ⌜ (r ≡ true → (S : pws.Shape) → p < S .processes → v < S .variables → x < 4 → Sees S p v x (configurationOf cube .memory)) ⌝ }
+{
+    let n = cube.count;
+    let pointers = cube.pointers;
+    let pointer = wide(pointers[p]);
+    if n < pointer {
+        return false;
+    }
+    let messages = cube.messages;
+    for i in 0..n {
+        let older = n - 1 - i;
+        let message = messages[older];
+        if wide(message.snapshot[v]) == x {
+            return true;
+        }
+        if older < pointer {
+            return false;
+        }
+        if carries(message, p, v) {
+            return false;
+        }
+    }
+    false
+}
+
+// What a number asks of a memory is met by that of a cube, whose newest values were looked at.
+fn clue_met(shape: Shape, cube: Cube, clue: usize) -> bool
+    requires { ⌜ cube .count ≤ 20 ⌝ }
+    ensures { λ r. ⌜ (r ≡ true → (e : Memory) → Clued (shapeOf shape) newest e (configurationOf cube .memory) → Clued (shapeOf shape) (clueOf clue) e (configurationOf cube .memory)) ⌝ }
+{
+    if clue == 0 {
+        return true;
+    }
+    let p = (clue - 1) / 16 % 4;
+    let v = (clue - 1) / 4 % 4;
+    if shape.processes <= p {
+        return false;
+    }
+    if shape.variables <= v {
+        return false;
+    }
+    sees_value(cube, p, v, (clue - 1) % 4)
+}
+
+// ---- the table: words 0 to 1,023 are entries of which a family is full, eight in a row for local states and empty queues that fall together;
+// words 1,024 to 2,047 count entries; words 2,048 to 3,071 say which of their families are full. Where something stands changes only the speed. A word has its entry's number, counted from 1, in its lower 20 bits. In
 // the upper 12 it has a digest of that entry, which changes only the speed too: most cubes that are not in its family are told without looking into the file.
 
 // The next two of eight bits.
@@ -213,7 +279,8 @@ pub fn in_full_family(
     let values = newest_values(cube);
     let look = look_of(shape, states, queues, values);
     for j in 0..8 {
-        let word = word_at(table, look.row + j);
+        let at = look.row + j;
+        let word = word_at(table, at);
         let x = word % 1048576;
         if x == 0 {
             return false;
@@ -223,7 +290,10 @@ pub fn in_full_family(
         }
         if may_have(word, look.mark, look.bits) {
             if in_family(file, list, shape, x - 1, states, queues, values) {
-                return true;
+                let clue = word_at(table, 2048 + at);
+                if clue_met(shape, cube, clue) {
+                    return true;
+                }
             }
         }
     }
@@ -242,12 +312,19 @@ fn free_word(table: &[u8], row: usize) -> usize
     2048
 }
 
-// The family of entry k, which the cube is, stands in the table from now on, if there is room in its row.
-pub fn put_family(table: &mut [u8], shape: Shape, cube: Cube, k: usize)
-    ensures { λ _. ⌜ (length (now (table .exit)) ≡ length (now (table .entry))) × ((S : pws.Shape) (es : List Configuration) → FamilyHeld S es (entry es k) → Families S es (now (table .entry)) → Families S es (now (table .exit))) ⌝ }
+// The family of entry k, which the cube is, and of this clue stands in the table from now on, if there is room in its row.
+pub fn put_family(table: &mut [u8], shape: Shape, cube: Cube, k: usize, clue: usize)
+    ensures { λ _. ⌜ (length (now (table .exit)) ≡ length (now (table .entry))) × ((S : pws.Shape) (es : List Configuration) → FamilyHeld S es (clueOf clue) (entry es k) → Families S es (now (table .entry)) → Families S es (now (table .exit))) ⌝ }
 {
     // no list has so many entries
     if 524288 <= k {
+        return;
+    }
+    // there are no more clues
+    if 64 < clue {
+        return;
+    }
+    if table.len() < 12288 {
         return;
     }
     let states = cube.states;
@@ -255,6 +332,10 @@ pub fn put_family(table: &mut [u8], shape: Shape, cube: Cube, k: usize)
     let look = look_of(shape, states, queues, newest_values(cube));
     let digest = (look.mark | look.bits) % 4096;
     let at = free_word(table, look.row);
+    if 1024 <= at {
+        return;
+    }
+    put_word(table, 2048 + at, clue);
     put_word(table, at, k + 1 + (digest << 20));
 }
 
@@ -277,7 +358,7 @@ fn with_queue(h: u64, queue: Queue) -> u64 {
 
 // The word that counts the entries with the local states, waiting values and newest values of this one.
 fn counter_of(shape: Shape, cube: Cube) -> usize
-    ensures { λ r. ⌜ 1024 ≤ r ⌝ }
+    ensures { λ r. ⌜ (1024 ≤ r) × (r < 2048) ⌝ }
 {
     let states = cube.states;
     let queues = cube.queues;

@@ -92,7 +92,7 @@ module _ (g f list sum : List ℕ) (n : ℕ) (p : Program) (R : Ready g f list s
 pub record Going (g f list : List ℕ) (n : ℕ) (p : Program) (table shut rows : List ℕ) (k : ℕ) : Type 0 where
   pub room : length table ≡ 4096
   pub space : length shut ≡ 4096
-  pub size : length rows ≡ 8192
+  pub size : length rows ≡ 12288
   pub passed : SoFar (closedTest g f list n p) n k
   pub full : Full (programOf g p) (entriesOf f list n) table
   pub shuts : Shuts g f list n p shut
@@ -100,7 +100,7 @@ pub record Going (g f list : List ℕ) (n : ℕ) (p : Program) (table shut rows 
 
 module _ (g f list sum : List ℕ) (n : ℕ) (p : Program) (R : Ready g f list sum n p) where
   pub going-begin : TargetsHeld g f list n p → (m : ℕ) (table new : List ℕ) → table ≡ replicate m 255 → new ≡ withTargets g p table (p .targets .count) → length new ≡ 4096 → (s : ℕ) (shut : List ℕ) → shut ≡ replicate s 255 → length shut ≡ 4096
-      → (q : ℕ) (families : List ℕ) → families ≡ replicate q 0 → length families ≡ 8192 → Going g f list n p new shut families 0
+      → (q : ℕ) (families : List ℕ) → families ≡ replicate q 0 → length families ≡ 12288 → Going g f list n p new shut families 0
   going-begin H m table new e d l s shut x v q families z y =
       record {
         room = l;

@@ -254,7 +254,7 @@ fn lowest_entered(
     let mut table = [255u8; 4096];
     put_targets(code, program, &mut table);
     let mut shut = [255u8; 4096];
-    let mut families = [0u8; 8192];
+    let mut families = [0u8; 12288];
     for k in 0..n {
         put_others(file, list, sum, n, shape, k, &mut table);
         put_like(&table, file, list, sum, n, shape, k, &mut families);

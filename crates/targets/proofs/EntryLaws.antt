@@ -93,18 +93,18 @@ loaded-room f at = elim (decLt at (length f)) [
     begun : at < length f → loaded f at ≡ loadFrom (length f) f (at + 9) nothingLoaded
     begun d = rw (lt-ltb at (length f) d) refl
 
-entry-room : (f : List ℕ) (at : ℕ) → Room (loadEntry f at .queues)
+pub entry-room : (f : List ℕ) (at : ℕ) → Room (loadEntry f at .queues)
 unfolding loadEntry
 entry-room f at = loaded-room f at
 
-queue-short : (qs : List Queue) → Room qs → (p v : ℕ) → length (queueOf qs p v) ≤ 9
+pub queue-short : (qs : List Queue) → ((i : ℕ) → i < 16 → getD qs i noQueue .count ≤ 9) → (p v : ℕ) → length (queueOf qs p v) ≤ 9
 queue-short qs r p v = at (ltb p 4 && ltb v 4) refl
   where
     at : (b : Bool) → ltb p 4 && ltb v 4 ≡ b → length (queueOf qs p v) ≤ 9
     at true e =
         let w = labels p v e in
         let q = getD qs (4 * p + v) noQueue in
-        subst (λ (xs : List ℕ). length xs ≤ 9) (sym (queue-of qs p v (w .0) (w .1))) (omega (arith, length-take (q .count) (q .values), r (4 * p + v)))
+        subst (λ (xs : List ℕ). length xs ≤ 9) (sym (queue-of qs p v (w .0) (w .1))) (omega (arith, length-take (q .count) (q .values), r (4 * p + v) (omega (arith, w .0, w .1))))
     at false e = subst (λ (xs : List ℕ). length xs ≤ 9) (sym (queue-none qs p v e)) (omega arith)
 
 -- ---- an entry with the memory of a shape
@@ -170,7 +170,7 @@ module _ (s : Shape) (states : List ℕ) (ms : List Message) (d : ℕ) (places :
           let W = w e1 e2 (omega (arith, counted, u)) few in
           let is : configurationOf r ≡ cube = W .0 ∙ ap₂ {A = Cube} {B = Memory} (λ y m. familyCube (configurationOf y) m) z memory-is in
           let short : (p v : ℕ) → length (configurationOf r .queue p v) ≤ 9 = λ p v.
-          subst (λ (qs : List Queue). length (queueOf qs p v) ≤ 9) (sym (W .1 .0 ∙ ap (λ (y : Cube). y .queues) z)) (queue-short (own .queues) (entry-room f (offsetAt list k)) p v) in
+          subst (λ (qs : List Queue). length (queueOf qs p v) ≤ 9) (sym (W .1 .0 ∙ ap (λ (y : Cube). y .queues) z)) (queue-short (own .queues) (λ i l. entry-room f (offsetAt list k) i) p v) in
           q (record {
             plain =
                 record {

@@ -80,6 +80,9 @@ module _ {f list sum : List ℕ} {n : ℕ} {s : Shape} where
     | no d ↦ judges-first (g k) (below-false k g i (omega arith) x)
   ]
 
+  pub below-not : (k : ℕ) (g : ℕ → List Configuration) (i : ℕ) → i < k → {r : Bool} → Judges f list sum n s (g i) r → r ≡ false → Judges f list sum n s (forBelow k g) r
+  below-not k g i l x e = judges-is (sym e) (below-false k g i l (judges-is e x))
+
 -- ---- a loop over the lists of the numbers below k, so far: each of them is held
 
 pub record EachHeld (f list sum : List ℕ) (n : ℕ) (s : Shape) (g : ℕ → List Configuration) (k i : ℕ) : Type 0 where

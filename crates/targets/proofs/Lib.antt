@@ -8,4 +8,6 @@ pub mod ChannelWalk
 pub mod QueueSteps
 pub mod ChannelSteps
 pub mod TargetLaws
+pub mod SeenLaws
 pub mod GroupLaws
+pub mod MemberLaws

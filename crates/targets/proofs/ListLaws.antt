@@ -2,7 +2,7 @@
 use Prim.Native.Nat.{ℕ, zero, suc}
 use mathlib.Core.Path.{_≡_, refl, sym, ap, ap₂, _∙_}
 use mathlib.Core.Bool.{Bool, true, false, _&&_}
-use mathlib.Core.List.{List, [], _∷_, _++_, map, append-nil, append-assoc}
+use mathlib.Core.List.{List, [], _∷_, _++_, map, map-append, append-nil, append-assoc, List·Memᴰ, List·Memᴰ·head, List·Memᴰ·tail}
 use Rattle.lists.specs.Lists.{forBelow, forEach, every}
 
 module _ {A : Type 0} (f : A → Bool) where
@@ -55,3 +55,12 @@ below-none (suc n) g e = ap₂ {A = List _} {B = List _} _++_ (below-none n g e)
 pub each-itself : {A : Type 0} (xs : List A) → forEach xs (λ x. x ∷ []) ≡ xs
 each-itself [] = refl
 each-itself (x ∷ xs) = ap {A = List _} {B = List _} (λ ys. x ∷ ys) (each-itself xs)
+
+pub map-below : {A B : Type 0} (h : B → A) (n : ℕ) (f : ℕ → List B) → map h (forBelow n f) ≡ forBelow n (λ i. map h (f i))
+map-below h zero f = refl
+map-below h (suc n) f = map-append h (forBelow n f) (f n) ∙ ap (λ (xs : List _). xs ++ map h (f n)) (map-below h n f)
+
+-- what is the same for each of a list
+pub each-same : {A B : Type 0} (xs : List B) (f g : B → List A) → ((x : B) → List·Memᴰ x xs → f x ≡ g x) → forEach xs f ≡ forEach xs g
+each-same [] f g e = refl
+each-same (x ∷ xs) f g e = ap₂ {A = List _} {B = List _} _++_ (e x (List·Memᴰ·head refl)) (each-same xs f g (λ y m. e y (List·Memᴰ·tail m)))

@@ -13,12 +13,10 @@ use Rattle.lists.specs.Lists.{every}
 use Rattle.lists.specs.Shapes.{shapeCubes}
 use Rattle.lists.specs.Decision.{held, targetHeld}
 use Rattle.pws.specs.Machine.{Configuration}
-use Rattle.pws.specs.Entries.{noEntry, entry}
 use Rattle.whole_file.specs.Cube.{configurationOf}
 use Rattle.by_number.specs.Again.{cubeAt, entriesOf}
-use Rattle.by_number.proofs.Tables.{table-number}
-use Rattle.families.specs.Family.{FamilyHeld, familyCubes}
-use Rattle.families.proofs.FullLaws.{cubes-fit, family-full}
+use Rattle.families.specs.Family.{familyCubes}
+use Rattle.families.proofs.FullLaws.{cubes-fit}
 use Rattle.families.proofs.TableLaws.{listed}
 use Rattle.targets.specs.Walk.{Searches, Judges, Leaf, targetLeaf, familyLeaf, outlineCubes, allCubes}
 use Rattle.targets.proofs.ChannelWalk.{walk-all, target-cubes, family-cubes, shapes-fit}
@@ -54,10 +52,3 @@ family-is s k f list sum n r l j h =
     let w = family-cubes s (cubeAt f list k) in
     j .judged h (λ c m. cubes-fit (shapeOf s) (h .shape) (entriesOf f list n) (listed (shapeOf s) f list n (h .entries)) (configurationOf (cubeAt f list k)) (h .entries k l) c (subst (List·Memᴰ c) (sym w) m))
     ∙ ap (every (held (shapeOf s) (entriesOf f list n))) (sym w)
-
-pub family-yes : (s : Shape) (k : ℕ) (f list sum : List ℕ) (n : ℕ) {r : Bool} → k < n → Searches f list sum n s
-    → r ≡ every (held (shapeOf s) (entriesOf f list n)) (familyCubes (shapeOf s) (configurationOf (cubeAt f list k))) → r ≡ true
-    → FamilyHeld (shapeOf s) (entriesOf f list n) (entry (entriesOf f list n) k)
-family-yes s k f list sum n l h x y =
-    subst (FamilyHeld (shapeOf s) (entriesOf f list n)) (sym (table-number (λ i. configurationOf (cubeAt f list i)) n k noEntry l))
-    (family-full (shapeOf s) (h .shape) (entriesOf f list n) (listed (shapeOf s) f list n (h .entries)) (configurationOf (cubeAt f list k)) (h .entries k l) (sym x ∙ y))

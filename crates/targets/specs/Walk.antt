@@ -20,8 +20,11 @@ use Rattle.lists.specs.Decision.{held}
 use Rattle.whole_file.specs.declared.entry.Cube.{Cube}
 use Rattle.by_number.specs.Again.{cubeAt, entriesOf}
 use Rattle.families.specs.Family.{familyCube}
+use Rattle.families.specs.Seen.{withMemory}
 use Rattle.summary.specs.Summary.{Summed}
+use Rattle.targets.specs.declared.Aim.{Aim}
 use Rattle.targets.specs.ShapeCube.{emptyShape}
+use Rattle.targets.specs.Seeing.{seenAt}
 
 -- ---- what a walk over some shapes says
 
@@ -81,10 +84,18 @@ targetLeaf s states o = map (withQueues (emptyShape s states o)) (queueShapes (s
 abbrev pub familyLeaf : Shape → Cube → Leaf
 familyLeaf s e o = familyCube (configurationOf e) (outlineMemory (shapeOf s) o) ∷ []
 
--- of the target for 0, and else of the family of an entry, counted from 1
-abbrev pub leafOf : List ℕ → List ℕ → Shape → List ℕ → ℕ → Leaf
-leafOf f list s states zero = targetLeaf s states
-leafOf f list s states (suc k) = familyLeaf s (cubeAt f list k)
+-- of an entry: the cubes with its local states and queues, in which a process can come to see a value
+abbrev pub seenLeaf : Shape → Aim → Cube → Leaf
+seenLeaf s aim e o = seenAt (shapeOf s) aim (withMemory (configurationOf e) (outlineMemory (shapeOf s) o))
+
+-- of the target for 0, and else of an entry, counted from 1
+abbrev pub leafFor : List ℕ → List ℕ → Shape → List ℕ → Aim → ℕ → Bool → Leaf
+leafFor f list s states aim zero b = targetLeaf s states
+leafFor f list s states aim (suc k) false = familyLeaf s (cubeAt f list k)
+leafFor f list s states aim (suc k) true = seenLeaf s aim (cubeAt f list k)
+
+abbrev pub leafOf : List ℕ → List ℕ → Shape → List ℕ → Aim → Leaf
+leafOf f list s states aim = leafFor f list s states aim (aim .rep) (aim .sees)
 
 -- that of these messages, newest first, before those of an outline
 abbrev pub cubesAfter : Leaf → List Message → Outline → List Configuration

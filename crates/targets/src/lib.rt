@@ -17,6 +17,8 @@ ghost use Rattle.by_number.specs.Again.{cubeAt, entriesOf};
 ghost use Rattle.families.specs.Family.{familyCube, familyCubes};
 ghost use Rattle.targets.specs.Walk.{Searches, Judges, queueCubes, leafOf, outlineCubes, allCubes, choiceCubes};
 ghost use Rattle.targets.specs.Depth.{SmallShape, AtQueue, AtMessage, AtPlace};
+use crate::seen::moved;
+use crate::seen::seen_held;
 use crate::starts::same_bytes;
 use by_number::entry_at;
 use cover::search::search;
@@ -32,6 +34,7 @@ use whole_file::entry::Queue;
 
 mod groups;
 mod members;
+mod seen;
 mod starts;
 
 pub use groups::put_groups;
@@ -239,7 +242,17 @@ fn queues_held(
     search(file, list, sum, n, shape, cube)
 }
 
-// The shapes with these messages, newest first, and these places; of a family, the one cube with them.
+// What the walk looks for at each shape: for 0 the cubes of a target, else cubes of entry `rep`, counted from 1. These are of its family, or with `sees`
+// those in whose memory the process can come to see the value.
+pub(crate) struct Aim {
+    pub rep: usize,
+    pub sees: bool,
+    pub process: usize,
+    pub variable: usize,
+    pub value: u8,
+}
+
+// The shapes with these messages, newest first, and these places; of an entry, its cubes with them.
 fn channel_held(
     file: &[u8],
     list: &[u8],
@@ -250,16 +263,20 @@ fn channel_held(
     messages: [Message; 20],
     d: usize,
     places: [u8; 4],
-    rep: usize,
+    aim: Aim,
 ) -> bool
     requires { ⌜ SmallShape shape × (d ≤ 20) ⌝ }
-    ensures { λ r. ⌜ Judges (now (file .entry)) (now (list .entry)) (now (sum .entry)) n shape (leafOf (now (file .entry)) (now (list .entry)) shape states rep (outlineOf messages d places)) r ⌝ }
+    ensures { λ r. ⌜ Judges (now (file .entry)) (now (list .entry)) (now (sum .entry)) n shape (leafOf (now (file .entry)) (now (list .entry)) shape states aim (outlineOf messages d places)) r ⌝ }
 {
     let cube = shape_cube(shape, states, messages, d, places);
+    let rep = aim.rep;
     if rep == 0 {
         return queues_held(file, list, sum, n, shape, cube, 0, 0);
     }
     let entry = entry_at(file, list, rep - 1);
+    if aim.sees {
+        return seen_held(file, list, sum, n, shape, moved(entry, cube), aim);
+    }
     search(file, list, sum, n, shape, with_memory(entry, cube))
 }
 
@@ -275,15 +292,15 @@ fn outlines_held(
     messages: [Message; 20],
     d: usize,
     places: [u8; 4],
-    rep: usize,
+    aim: Aim,
 ) -> bool
     requires { ⌜ AtMessage shape most d ⌝ }
-    ensures { λ r. ⌜ Judges (now (file .entry)) (now (list .entry)) (now (sum .entry)) n shape (outlineCubes shape (leafOf (now (file .entry)) (now (list .entry)) shape states rep) messages d places) r ⌝ }
+    ensures { λ r. ⌜ Judges (now (file .entry)) (now (list .entry)) (now (sum .entry)) n shape (outlineCubes shape (leafOf (now (file .entry)) (now (list .entry)) shape states aim) messages d places) r ⌝ }
 {
     let processes = shape.processes;
     let variables = shape.variables;
     if all_placed(processes, places) {
-        return channel_held(file, list, sum, n, shape, states, messages, d, places, rep);
+        return channel_held(file, list, sum, n, shape, states, messages, d, places, aim);
     }
     if most <= d {
         return true;
@@ -305,7 +322,7 @@ fn outlines_held(
                 v,
                 places,
                 0,
-                rep,
+                aim,
             );
             if !held {
                 return held;
@@ -331,10 +348,10 @@ fn choices_held(
     v: usize,
     new: [u8; 4],
     q: usize,
-    rep: usize,
+    aim: Aim,
 ) -> bool
     requires { ⌜ AtPlace shape most d p v q ⌝ }
-    ensures { λ r. ⌜ Judges (now (file .entry)) (now (list .entry)) (now (sum .entry)) n shape (choiceCubes shape (leafOf (now (file .entry)) (now (list .entry)) shape states rep) messages d places p v new q) r ⌝ }
+    ensures { λ r. ⌜ Judges (now (file .entry)) (now (list .entry)) (now (sum .entry)) n shape (choiceCubes shape (leafOf (now (file .entry)) (now (list .entry)) shape states aim) messages d places p v new q) r ⌝ }
 {
     let processes = shape.processes;
     if processes <= q {
@@ -355,7 +372,7 @@ fn choices_held(
             longer,
             d + 1,
             new,
-            rep,
+            aim,
         );
     }
     let unplaced = choices_held(
@@ -373,7 +390,7 @@ fn choices_held(
         v,
         new,
         q + 1,
-        rep,
+        aim,
     );
     if !unplaced {
         return unplaced;
@@ -398,21 +415,21 @@ fn choices_held(
         v,
         placed,
         q + 1,
-        rep,
+        aim,
     )
 }
 
-// All shapes: those of a target with these local states for 0, and else the cubes of the family of entry `rep`, counted from 1.
-fn shapes_held(
+// All shapes.
+pub(crate) fn shapes_held(
     file: &[u8],
     list: &[u8],
     sum: &[u8],
     n: usize,
     shape: Shape,
     states: [u8; 4],
-    rep: usize,
+    aim: Aim,
 ) -> bool
-    ensures { λ r. ⌜ Judges (now (file .entry)) (now (list .entry)) (now (sum .entry)) n shape (allCubes shape (leafOf (now (file .entry)) (now (list .entry)) shape states rep)) r ⌝ }
+    ensures { λ r. ⌜ Judges (now (file .entry)) (now (list .entry)) (now (sum .entry)) n shape (allCubes shape (leafOf (now (file .entry)) (now (list .entry)) shape states aim)) r ⌝ }
 {
     let processes = shape.processes;
     let variables = shape.variables;
@@ -444,7 +461,7 @@ fn shapes_held(
         messages,
         0,
         places,
-        rep,
+        aim,
     )
 }
 
@@ -459,7 +476,14 @@ pub fn target_held(
 ) -> bool
     ensures { λ r. ⌜ ((P : Program) → P .shape ≡ shapeOf shape → Searches (now (file .entry)) (now (list .entry)) (now (sum .entry)) n shape → r ≡ targetHeld P (entriesOf (now (file .entry)) (now (list .entry)) n) (λ q. getD states q 0)) ⌝ }
 {
-    shapes_held(file, list, sum, n, shape, states, 0)
+    let aim = Aim {
+        rep: 0,
+        sees: false,
+        process: 0,
+        variable: 0,
+        value: 0,
+    };
+    shapes_held(file, list, sum, n, shape, states, aim)
 }
 
 // All configurations in the family of entry k are above the list.
@@ -468,5 +492,12 @@ fn family_held(file: &[u8], list: &[u8], sum: &[u8], n: usize, shape: Shape, k: 
     ensures { λ r. ⌜ (k < n → Searches (now (file .entry)) (now (list .entry)) (now (sum .entry)) n shape → r ≡ every (held (shapeOf shape) (entriesOf (now (file .entry)) (now (list .entry)) n)) (familyCubes (shapeOf shape) (configurationOf (cubeAt (now (file .entry)) (now (list .entry)) k)))) ⌝ }
 {
     let none = [0u8; 4];
-    shapes_held(file, list, sum, n, shape, none, k + 1)
+    let aim = Aim {
+        rep: k + 1,
+        sees: false,
+        process: 0,
+        variable: 0,
+        value: 0,
+    };
+    shapes_held(file, list, sum, n, shape, none, aim)
 }

@@ -7,14 +7,126 @@ ghost use Rattle.program_part.specs.ProgramPart.{shapeOf};
 ghost use Rattle.by_number.specs.Again.{entriesOf};
 ghost use Rattle.families.specs.Family.{Families};
 ghost use Rattle.targets.specs.Walk.{Searches};
+ghost use Rattle.targets.specs.Members.{Kept};
 use crate::family_held;
+use crate::seen::sees_held;
 use by_number::entry_at;
 use families::count_member;
 use families::in_full_family;
 use families::put_family;
+use matching::least;
+use matching::waiting;
+use program_part::bytes::both;
+use program_part::bytes::either;
+use program_part::bytes::wide;
 use program_part::program::Shape;
+use program_part::program::value_count;
+use whole_file::entry::Cube;
 
-// The table of full families with that of entry k, if it is, and if `most` entries like it were met.
+// The family of entry k by its newest values joins the table, if it is full.
+fn put_newest(
+    file: &[u8],
+    list: &[u8],
+    sum: &[u8],
+    n: usize,
+    shape: Shape,
+    cube: Cube,
+    k: usize,
+    table: &mut [u8],
+)
+    requires { ⌜ k < 524288 ⌝ }
+    ensures { λ _. ⌜ Kept (now (file .entry)) (now (list .entry)) (now (sum .entry)) n shape k (now (table .entry)) (now (table .exit)) ⌝ }
+{
+    if !family_held(file, list, sum, n, shape, k) {
+        return;
+    }
+    put_family(table, shape, cube, k, 0);
+}
+
+// What p can come to see of v first: the newest value that is not free, down to its LastWrite; 255 if there is none, or if a value of its own waits. No contract
+// says which is found, since it changes only the speed.
+fn visible(cube: Cube, p: usize, v: usize) -> u8
+    requires { ⌜ (p < 4) × (v < 4) ⌝ }
+{
+    let queues = cube.queues;
+    let queue = queues[4 * p + v];
+    if 0 < waiting(queue) {
+        return 255;
+    }
+    let n = least(cube.count, 20);
+    let messages = cube.messages;
+    let pointers = cube.pointers;
+    let pointer = wide(pointers[p]);
+    for i in 0..n {
+        let older = n - 1 - i;
+        let message = messages[older];
+        let x = message.snapshot[v];
+        if x != 255 {
+            return x;
+        }
+        if older < pointer {
+            return 255;
+        }
+        if both(wide(message.process) == p, wide(message.variable) == v) {
+            return 255;
+        }
+    }
+    255
+}
+
+// The family of entry k by what p can come to see of v joins the table, if it is full.
+fn put_sight(
+    file: &[u8],
+    list: &[u8],
+    sum: &[u8],
+    n: usize,
+    shape: Shape,
+    cube: Cube,
+    k: usize,
+    p: usize,
+    v: usize,
+    table: &mut [u8],
+)
+    requires { ⌜ (k < 524288) × (p < 4) × (v < 4) ⌝ }
+    ensures { λ _. ⌜ Kept (now (file .entry)) (now (list .entry)) (now (sum .entry)) n shape k (now (table .entry)) (now (table .exit)) ⌝ }
+{
+    let x = visible(cube, p, v);
+    if shape.variables <= v {
+        return;
+    }
+    if !both(x < 4, x < value_count(shape, v)) {
+        return;
+    }
+    if !sees_held(file, list, sum, n, shape, k, p, v, x) {
+        return;
+    }
+    put_family(table, shape, cube, k, 1 + wide(x) + 4 * (v + 4 * p));
+}
+
+fn put_sights(
+    file: &[u8],
+    list: &[u8],
+    sum: &[u8],
+    n: usize,
+    shape: Shape,
+    cube: Cube,
+    k: usize,
+    table: &mut [u8],
+)
+    requires { ⌜ k < 524288 ⌝ }
+    ensures { λ _. ⌜ Kept (now (file .entry)) (now (list .entry)) (now (sum .entry)) n shape k (now (table .entry)) (now (table .exit)) ⌝ }
+{
+    let processes = least(shape.processes, 4);
+    let variables = least(shape.variables, 4);
+    for p in 0..processes {
+        for v in 0..variables {
+            put_sight(file, list, sum, n, shape, cube, k, p, v, table);
+        }
+    }
+}
+
+// The table of full families with one of entry k, if it is: that by newest values when `most` entries like it were met, and those by what processes can come to see,
+// which have about four times as many cubes, when four times as many were.
 pub fn put_member(
     file: &[u8],
     list: &[u8],
@@ -31,14 +143,18 @@ pub fn put_member(
         return;
     }
     let cube = entry_at(file, list, k);
-    if count_member(table, shape, cube) != most {
+    let count = count_member(table, shape, cube);
+    if !either(count == most, count / 4 == most) {
         return;
     }
     if in_full_family(table, file, list, n, shape, cube) {
         return;
     }
-    if !family_held(file, list, sum, n, shape, k) {
+    if count == most {
+        put_newest(file, list, sum, n, shape, cube, k, table);
         return;
     }
-    put_family(table, shape, cube, k);
+    if count % 4 == 0 {
+        put_sights(file, list, sum, n, shape, cube, k, table);
+    }
 }

@@ -28,4 +28,4 @@ count-member-spec = tie.close (tie.spec
     -- same-length-2
     (λ c. search needs)
     -- returns-2
-    (λ c. let e = c .before .before .put-word .ensures in (ap length e ∙ put-length (c .before .before .before .before .before .before .before .before .before .args .table .now) (c .before .before .before .before .before .before .before .counter-of .result) (c .before .before .before .before .before .word-at .result + 1), λ S es F. subst (Families S es) (sym e) (families-counted S es (c .before .before .before .before .before .before .before .before .before .args .table .now) (c .before .before .before .before .before .before .before .counter-of .result) (c .before .before .before .before .before .word-at .result + 1) (c .before .before .before .before .before .before .before .counter-of .ensures) F))))
+    (λ c. let e = c .before .before .put-word .ensures in (ap length e ∙ put-length (c .before .before .before .before .before .before .before .before .before .args .table .now) (c .before .before .before .before .before .before .before .counter-of .result) (c .before .before .before .before .before .word-at .result + 1), λ S es F. subst (Families S es) (sym e) (families-counted S es (c .before .before .before .before .before .before .before .before .before .args .table .now) (c .before .before .before .before .before .before .before .counter-of .result) (c .before .before .before .before .before .word-at .result + 1) (c .before .before .before .before .before .before .before .counter-of .ensures .0) (c .before .before .before .before .before .before .before .counter-of .ensures .1) F))))

@@ -41,16 +41,16 @@ abbrev outlines-held-below : ℕ → In 3 outlines-held-kinds.ps
 outlines-held-below t = and 3 outlines-held-kinds.ps (falls 3 outlines-held-kinds.ps _<_ μ-outlines-held t) outlines-held.Pre
 
 abbrev outlines-held-Inv-loop2 : outlines-held-lts.InvT-loop2
-outlines-held-Inv-loop2 file list sum n shape states most messages d places rep processes variables p v₀ v = EachHeld file list sum n shape (labelled-by shape (leafOf file list shape states rep) messages d places p) (shape .variables) v
+outlines-held-Inv-loop2 file list sum n shape states most messages d places aim processes variables p v₀ v = EachHeld file list sum n shape (labelled-by shape (leafOf file list shape states aim) messages d places p) (shape .variables) v
 
 abbrev outlines-held-μ-loop2 : outlines-held-lts.MeasureT-loop2
-outlines-held-μ-loop2 file list sum n shape states most messages d places rep processes variables p v₀ v = variables - v
+outlines-held-μ-loop2 file list sum n shape states most messages d places aim processes variables p v₀ v = variables - v
 
 abbrev outlines-held-Inv-loop : outlines-held-lts.InvT-loop
-outlines-held-Inv-loop file list sum n shape states most messages d places rep processes variables p₀ p = EachHeld file list sum n shape (written-by shape (leafOf file list shape states rep) messages d places) (shape .processes) p
+outlines-held-Inv-loop file list sum n shape states most messages d places aim processes variables p₀ p = EachHeld file list sum n shape (written-by shape (leafOf file list shape states aim) messages d places) (shape .processes) p
 
 abbrev outlines-held-μ-loop : outlines-held-lts.MeasureT-loop
-outlines-held-μ-loop file list sum n shape states most messages d places rep processes variables p₀ p = processes - p
+outlines-held-μ-loop file list sum n shape states most messages d places aim processes variables p₀ p = processes - p
 
 pub +choices-held+outlines-held-spec : {M : Type 1} → statement M
 +choices-held+outlines-held-spec =
@@ -69,7 +69,7 @@ pub +choices-held+outlines-held-spec : {M : Type 1} → statement M
     -- is-allowed-requires
     (λ c κs. (c .before .before .before .before .pre .1 .message .small .processes, (omega (arith, c .before .before .before .before .pre .1 .message .room, c .before .before .before .before .pre .1 .message .depth), omega (arith, c .before .before .before .before .pre .1 .process, c .before .before .before .before .pre .1 .message .small .processes))))
     -- returns
-    (λ c. refused (c .before .before .before .before .before .before .pre .1) (leafOf (c .before .before .before .before .before .before .args .file .now) (c .before .before .before .before .before .before .args .list .now) (c .before .before .before .before .before .before .args .shape) (c .before .before .before .before .before .before .args .states) (c .before .before .before .before .before .before .args .rep)) (c .before .before .before .before .before .before .args .messages) (c .before .before .before .before .before .before .args .t10) (c .before .before .before .before .before .before .args .new) (c .before .before .if1 .taken) (sym (c .before .is-allowed .ensures) ∙ not-true _ (c .if2 .taken)))
+    (λ c. refused (c .before .before .before .before .before .before .pre .1) (leafOf (c .before .before .before .before .before .before .args .file .now) (c .before .before .before .before .before .before .args .list .now) (c .before .before .before .before .before .before .args .shape) (c .before .before .before .before .before .before .args .states) (c .before .before .before .before .before .before .args .aim)) (c .before .before .before .before .before .before .args .messages) (c .before .before .before .before .before .before .args .t10) (c .before .before .before .before .before .before .args .new) (c .before .before .if1 .taken) (sym (c .before .is-allowed .ensures) ∙ not-true _ (c .if2 .taken)))
     -- cast-any-message
     (λ c. omega (arith, c .before .before .before .before .before .before .pre .1 .process, c .before .before .before .before .before .before .pre .1 .message .small .processes))
     -- cast-any-message-2
@@ -85,17 +85,17 @@ pub +choices-held+outlines-held-spec : {M : Type 1} → statement M
     -- outlines-held-requires
     (λ c κs. (omega (arith, c .before .before .before .before .before .before .before .pre .0, c .before .before .before .before .before .before .before .pre .1 .more), next-message (c .before .before .before .before .before .before .before .pre .1)))
     -- returns-2
-    (λ c. let u : c .before .before .before .before .before .before .before .before .args .d < length (c .before .before .before .before .before .before .before .before .args .messages) = omega (arith, c .before .before .before .before .before .before .before .before .good .1 .1 .1 .1 .1 .1 .1 .0 .1, c .before .before .before .before .before .before .before .before .pre .1 .message .room, c .before .before .before .before .before .before .before .before .pre .1 .more) in allowed-one (c .before .before .before .before .before .before .before .before .pre .1) (leafOf (c .before .before .before .before .before .before .before .before .args .file .now) (c .before .before .before .before .before .before .before .before .args .list .now) (c .before .before .before .before .before .before .before .before .args .shape) (c .before .before .before .before .before .before .before .before .args .states) (c .before .before .before .before .before .before .before .before .args .rep)) (c .before .before .before .before .before .before .before .before .args .messages) (c .before .before .before .before .before .before .before .before .args .t10) (c .before .before .before .before .before .before .before .before .args .new) (c .before .before .before .before .if1 .taken) (sym (c .before .before .before .is-allowed .ensures) ∙ not-false _ (c .before .before .if2 .left)) u (c .before .any-message .ensures) (c .outlines-held .ensures))
+    (λ c. let u : c .before .before .before .before .before .before .before .before .args .d < length (c .before .before .before .before .before .before .before .before .args .messages) = omega (arith, c .before .before .before .before .before .before .before .before .good .1 .1 .1 .1 .1 .1 .1 .0 .1, c .before .before .before .before .before .before .before .before .pre .1 .message .room, c .before .before .before .before .before .before .before .before .pre .1 .more) in allowed-one (c .before .before .before .before .before .before .before .before .pre .1) (leafOf (c .before .before .before .before .before .before .before .before .args .file .now) (c .before .before .before .before .before .before .before .before .args .list .now) (c .before .before .before .before .before .before .before .before .args .shape) (c .before .before .before .before .before .before .before .before .args .states) (c .before .before .before .before .before .before .before .before .args .aim)) (c .before .before .before .before .before .before .before .before .args .messages) (c .before .before .before .before .before .before .before .before .args .t10) (c .before .before .before .before .before .before .before .before .args .new) (c .before .before .before .before .if1 .taken) (sym (c .before .before .before .is-allowed .ensures) ∙ not-false _ (c .before .before .if2 .left)) u (c .before .any-message .ensures) (c .outlines-held .ensures))
     -- add-choices-held
     (λ c. omega (arith, c .before .before .before .before .pre .1 .message .small .processes))
     -- choices-held-requires
     (λ c κs. (omega (arith, c .before .before .before .before .pre .0, c .before .before .before .before .pre .1 .message .small .processes), next-place (c .before .before .before .before .pre .1) (c .if1 .left)))
     -- returns-3
-    (λ c. let z : length (c .before .before .before .before .before .before .args .new) ≡ 4 = omega (arith, c .before .before .before .before .before .before .good .1 .1 .1 .1 .1 .1 .1 .1 .1 .1 .1 .1 .0 .1) in let u : c .before .before .before .before .before .before .args .q < length (c .before .before .before .before .before .before .args .new) = omega (arith, z, c .before .before .if1 .left, c .before .before .before .before .before .before .pre .1 .message .small .processes) in unplaced-not (c .before .before .before .before .before .before .pre .1) (leafOf (c .before .before .before .before .before .before .args .file .now) (c .before .before .before .before .before .before .args .list .now) (c .before .before .before .before .before .before .args .shape) (c .before .before .before .before .before .before .args .states) (c .before .before .before .before .before .before .args .rep)) (c .before .before .before .before .before .before .args .messages) (c .before .before .before .before .before .before .args .t10) (c .before .before .before .before .before .before .args .new) (c .before .before .if1 .left) (c .before .choices-held .ensures) u (not-true _ (c .if3 .taken)))
+    (λ c. let z : length (c .before .before .before .before .before .before .args .new) ≡ 4 = omega (arith, c .before .before .before .before .before .before .good .1 .1 .1 .1 .1 .1 .1 .1 .1 .1 .1 .1 .0 .1) in let u : c .before .before .before .before .before .before .args .q < length (c .before .before .before .before .before .before .args .new) = omega (arith, z, c .before .before .if1 .left, c .before .before .before .before .before .before .pre .1 .message .small .processes) in unplaced-not (c .before .before .before .before .before .before .pre .1) (leafOf (c .before .before .before .before .before .before .args .file .now) (c .before .before .before .before .before .before .args .list .now) (c .before .before .before .before .before .before .args .shape) (c .before .before .before .before .before .before .args .states) (c .before .before .before .before .before .before .args .aim)) (c .before .before .before .before .before .before .args .messages) (c .before .before .before .before .before .before .args .t10) (c .before .before .before .before .before .before .args .new) (c .before .before .if1 .left) (c .before .choices-held .ensures) u (not-true _ (c .if3 .taken)))
     -- array-read-if4
     (λ c. omega (arith, c .before .before .before .before .before .before .pre .1 .message .small .processes))
     -- returns-4
-    (λ c. was-placed (c .before .before .before .before .before .before .before .pre .1) (leafOf (c .before .before .before .before .before .before .before .args .file .now) (c .before .before .before .before .before .before .before .args .list .now) (c .before .before .before .before .before .before .before .args .shape) (c .before .before .before .before .before .before .before .args .states) (c .before .before .before .before .before .before .before .args .rep)) (c .before .before .before .before .before .before .before .args .messages) (c .before .before .before .before .before .before .before .args .t10) (c .before .before .before .before .before .before .before .args .new) (c .before .before .before .if1 .left) (c .before .before .choices-held .ensures) (c .if4 .taken))
+    (λ c. was-placed (c .before .before .before .before .before .before .before .pre .1) (leafOf (c .before .before .before .before .before .before .before .args .file .now) (c .before .before .before .before .before .before .before .args .list .now) (c .before .before .before .before .before .before .before .args .shape) (c .before .before .before .before .before .before .before .args .states) (c .before .before .before .before .before .before .before .args .aim)) (c .before .before .before .before .before .before .before .args .messages) (c .before .before .before .before .before .before .before .args .t10) (c .before .before .before .before .before .before .before .args .new) (c .before .before .before .if1 .left) (c .before .before .choices-held .ensures) (c .if4 .taken))
     -- add-placed
     (λ c. omega (arith, c .before .before .before .before .before .before .before .pre .1 .message .room, c .before .before .before .before .before .before .before .pre .1 .more))
     -- cast-placed
@@ -107,7 +107,7 @@ pub +choices-held+outlines-held-spec : {M : Type 1} → statement M
     -- choices-held-requires-2
     (λ c κs. (omega (arith, c .before .before .before .before .before .before .before .pre .0, c .before .before .before .before .before .before .before .pre .1 .message .small .processes), next-place (c .before .before .before .before .before .before .before .pre .1) (c .before .before .before .if1 .left)))
     -- returns-5
-    (λ c. let z : length (c .before .before .before .before .before .before .before .before .args .new) ≡ 4 = omega (arith, c .before .before .before .before .before .before .before .before .good .1 .1 .1 .1 .1 .1 .1 .1 .1 .1 .1 .1 .0 .1) in let u : c .before .before .before .before .before .before .before .before .args .q < length (c .before .before .before .before .before .before .before .before .args .new) = omega (arith, z, c .before .before .before .before .if1 .left, c .before .before .before .before .before .before .before .before .pre .1 .message .small .processes) in placed-too (c .before .before .before .before .before .before .before .before .pre .1) (leafOf (c .before .before .before .before .before .before .before .before .args .file .now) (c .before .before .before .before .before .before .before .before .args .list .now) (c .before .before .before .before .before .before .before .before .args .shape) (c .before .before .before .before .before .before .before .before .args .states) (c .before .before .before .before .before .before .before .before .args .rep)) (c .before .before .before .before .before .before .before .before .args .messages) (c .before .before .before .before .before .before .before .before .args .t10) (c .before .before .before .before .before .before .before .before .args .new) (c .before .before .before .before .if1 .left) (c .before .before .before .choices-held .ensures) u (c .before .if4 .left) (not-false _ (c .before .before .if3 .left)) (c .choices-held2 .ensures)))
+    (λ c. let z : length (c .before .before .before .before .before .before .before .before .args .new) ≡ 4 = omega (arith, c .before .before .before .before .before .before .before .before .good .1 .1 .1 .1 .1 .1 .1 .1 .1 .1 .1 .1 .0 .1) in let u : c .before .before .before .before .before .before .before .before .args .q < length (c .before .before .before .before .before .before .before .before .args .new) = omega (arith, z, c .before .before .before .before .if1 .left, c .before .before .before .before .before .before .before .before .pre .1 .message .small .processes) in placed-too (c .before .before .before .before .before .before .before .before .pre .1) (leafOf (c .before .before .before .before .before .before .before .before .args .file .now) (c .before .before .before .before .before .before .before .before .args .list .now) (c .before .before .before .before .before .before .before .before .args .shape) (c .before .before .before .before .before .before .before .before .args .states) (c .before .before .before .before .before .before .before .before .args .aim)) (c .before .before .before .before .before .before .before .before .args .messages) (c .before .before .before .before .before .before .before .before .args .t10) (c .before .before .before .before .before .before .before .before .args .new) (c .before .before .before .before .if1 .left) (c .before .before .before .choices-held .ensures) u (c .before .if4 .left) (not-false _ (c .before .before .if3 .left)) (c .choices-held2 .ensures)))
     λ t. outlines-held-lts.spec (
       all-placed-reads.Asked,
       all-placed-reads.Learnt,
@@ -127,17 +127,17 @@ pub +choices-held+outlines-held-spec : {M : Type 1} → statement M
     -- channel-held-requires
     (λ c κs. (c .before .before .before .before .before .pre .1 .small, omega (arith, c .before .before .before .before .before .pre .1 .room, c .before .before .before .before .before .pre .1 .depth)))
     -- returns
-    (λ c. all-there (c .before .before .before .before .before .before .pre .1) (leafOf (c .before .before .before .before .before .before .args .file .now) (c .before .before .before .before .before .before .args .list .now) (c .before .before .before .before .before .before .args .shape) (c .before .before .before .before .before .before .args .states) (c .before .before .before .before .before .before .args .rep)) (c .before .before .before .before .before .before .args .messages) (c .before .before .before .before .before .before .args .places) (sym (c .before .before .all-placed .ensures) ∙ c .before .if1 .taken) (c .channel-held .ensures))
+    (λ c. all-there (c .before .before .before .before .before .before .pre .1) (leafOf (c .before .before .before .before .before .before .args .file .now) (c .before .before .before .before .before .before .args .list .now) (c .before .before .before .before .before .before .args .shape) (c .before .before .before .before .before .before .args .states) (c .before .before .before .before .before .before .args .aim)) (c .before .before .before .before .before .before .args .messages) (c .before .before .before .before .before .before .args .places) (sym (c .before .before .all-placed .ensures) ∙ c .before .if1 .taken) (c .channel-held .ensures))
     -- returns-2
-    (λ c. too-long (c .before .before .before .before .before .before .pre .1) (leafOf (c .before .before .before .before .before .before .args .file .now) (c .before .before .before .before .before .before .args .list .now) (c .before .before .before .before .before .before .args .shape) (c .before .before .before .before .before .before .args .states) (c .before .before .before .before .before .before .args .rep)) (c .before .before .before .before .before .before .args .messages) (c .before .before .before .before .before .before .args .places) (sym (c .before .before .all-placed .ensures) ∙ c .before .if1 .left) (c .if2 .taken))
+    (λ c. too-long (c .before .before .before .before .before .before .pre .1) (leafOf (c .before .before .before .before .before .before .args .file .now) (c .before .before .before .before .before .before .args .list .now) (c .before .before .before .before .before .before .args .shape) (c .before .before .before .before .before .before .args .states) (c .before .before .before .before .before .before .args .aim)) (c .before .before .before .before .before .before .args .messages) (c .before .before .before .before .before .before .args .places) (sym (c .before .before .all-placed .ensures) ∙ c .before .if1 .left) (c .if2 .taken))
     -- loop-holds
-    (λ c. held-begin (written-by (c .before .before .before .before .before .before .args .shape) (leafOf (c .before .before .before .before .before .before .args .file .now) (c .before .before .before .before .before .before .args .list .now) (c .before .before .before .before .before .before .args .shape) (c .before .before .before .before .before .before .args .states) (c .before .before .before .before .before .before .args .rep)) (c .before .before .before .before .before .before .args .messages) (c .before .before .before .before .before .before .args .d) (c .before .before .before .before .before .before .args .places)) (c .before .before .before .before .before .before .args .shape .processes))
+    (λ c. held-begin (written-by (c .before .before .before .before .before .before .args .shape) (leafOf (c .before .before .before .before .before .before .args .file .now) (c .before .before .before .before .before .before .args .list .now) (c .before .before .before .before .before .before .args .shape) (c .before .before .before .before .before .before .args .states) (c .before .before .before .before .before .before .args .aim)) (c .before .before .before .before .before .before .args .messages) (c .before .before .before .before .before .before .args .d) (c .before .before .before .before .before .before .args .places)) (c .before .before .before .before .before .before .args .shape .processes))
     -- loop2-holds
-    (λ c. held-begin (labelled-by (c .before .before .before .before .before .before .before .before .args .shape) (leafOf (c .before .before .before .before .before .before .before .before .args .file .now) (c .before .before .before .before .before .before .before .before .args .list .now) (c .before .before .before .before .before .before .before .before .args .shape) (c .before .before .before .before .before .before .before .before .args .states) (c .before .before .before .before .before .before .before .before .args .rep)) (c .before .before .before .before .before .before .before .before .args .messages) (c .before .before .before .before .before .before .before .before .args .d) (c .before .before .before .before .before .before .before .before .args .places) (c .before .loop .p)) (c .before .before .before .before .before .before .before .before .args .shape .variables))
+    (λ c. held-begin (labelled-by (c .before .before .before .before .before .before .before .before .args .shape) (leafOf (c .before .before .before .before .before .before .before .before .args .file .now) (c .before .before .before .before .before .before .before .before .args .list .now) (c .before .before .before .before .before .before .before .before .args .shape) (c .before .before .before .before .before .before .before .before .args .states) (c .before .before .before .before .before .before .before .before .args .aim)) (c .before .before .before .before .before .before .before .before .args .messages) (c .before .before .before .before .before .before .before .before .args .d) (c .before .before .before .before .before .before .before .before .args .places) (c .before .loop .p)) (c .before .before .before .before .before .before .before .before .args .shape .variables))
     -- choices-held-requires
     (λ c κs. (omega (arith, c .before .before .before .before .before .before .before .before .before .before .pre .0), first-place (c .before .before .before .before .before .before .before .before .before .before .pre .1) (c .before .before .before .loop .p) (c .before .loop2 .v) (c .before .before .before .before .if2 .left) (c .before .before .loop-test .taken) (c .loop2-test .taken)))
     -- returns-3
-    (λ c. label-not (c .before .before .before .before .before .before .before .before .before .before .before .before .pre .1) (leafOf (c .before .before .before .before .before .before .before .before .before .before .before .before .args .file .now) (c .before .before .before .before .before .before .before .before .before .before .before .before .args .list .now) (c .before .before .before .before .before .before .before .before .before .before .before .before .args .shape) (c .before .before .before .before .before .before .before .before .before .before .before .before .args .states) (c .before .before .before .before .before .before .before .before .before .before .before .before .args .rep)) (c .before .before .before .before .before .before .before .before .before .before .before .before .args .messages) (c .before .before .before .before .before .before .before .before .before .before .before .before .args .places) (c .before .before .before .before .before .loop .p) (c .before .before .before .loop2 .v) (sym (c .before .before .before .before .before .before .before .before .all-placed .ensures) ∙ c .before .before .before .before .before .before .before .if1 .left) (c .before .before .before .before .loop-test .taken) (c .before .before .loop2-test .taken) (c .before .choices-held .ensures) (not-true _ (c .if3 .taken)))
+    (λ c. label-not (c .before .before .before .before .before .before .before .before .before .before .before .before .pre .1) (leafOf (c .before .before .before .before .before .before .before .before .before .before .before .before .args .file .now) (c .before .before .before .before .before .before .before .before .before .before .before .before .args .list .now) (c .before .before .before .before .before .before .before .before .before .before .before .before .args .shape) (c .before .before .before .before .before .before .before .before .before .before .before .before .args .states) (c .before .before .before .before .before .before .before .before .before .before .before .before .args .aim)) (c .before .before .before .before .before .before .before .before .before .before .before .before .args .messages) (c .before .before .before .before .before .before .before .before .before .before .before .before .args .places) (c .before .before .before .before .before .loop .p) (c .before .before .before .loop2 .v) (sym (c .before .before .before .before .before .before .before .before .all-placed .ensures) ∙ c .before .before .before .before .before .before .before .if1 .left) (c .before .before .before .before .loop-test .taken) (c .before .before .loop2-test .taken) (c .before .choices-held .ensures) (not-true _ (c .if3 .taken)))
     -- add-v
     (λ c. omega (arith, c .before .before .before .before .before .before .before .before .before .before .before .before .pre .1 .small .variables, c .before .before .loop2-test .taken))
     -- loop2-less
@@ -151,4 +151,4 @@ pub +choices-held+outlines-held-spec : {M : Type 1} → statement M
     -- loop-again
     (λ c. held-next (c .before .before .before .loop .inv) (c .before .before .loop-test .taken) (held-all (c .before .loop2 .inv) (c .loop2-test .left)))
     -- returns-4
-    (λ c. labels-held (c .before .before .before .before .before .before .before .before .pre .1) (leafOf (c .before .before .before .before .before .before .before .before .args .file .now) (c .before .before .before .before .before .before .before .before .args .list .now) (c .before .before .before .before .before .before .before .before .args .shape) (c .before .before .before .before .before .before .before .before .args .states) (c .before .before .before .before .before .before .before .before .args .rep)) (c .before .before .before .before .before .before .before .before .args .messages) (c .before .before .before .before .before .before .before .before .args .places) (sym (c .before .before .before .before .all-placed .ensures) ∙ c .before .before .before .if1 .left) (c .before .loop .inv) (c .loop-test .left))
+    (λ c. labels-held (c .before .before .before .before .before .before .before .before .pre .1) (leafOf (c .before .before .before .before .before .before .before .before .args .file .now) (c .before .before .before .before .before .before .before .before .args .list .now) (c .before .before .before .before .before .before .before .before .args .shape) (c .before .before .before .before .before .before .before .before .args .states) (c .before .before .before .before .before .before .before .before .args .aim)) (c .before .before .before .before .before .before .before .before .args .messages) (c .before .before .before .before .before .before .before .before .args .places) (sym (c .before .before .before .before .all-placed .ensures) ∙ c .before .before .before .if1 .left) (c .before .loop .inv) (c .loop-test .left))

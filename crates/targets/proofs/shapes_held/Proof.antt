@@ -25,4 +25,4 @@ shapes-held-spec = tie.close (tie.spec
       depth = omega arith;
     })
     -- returns-4
-    (λ c. walked (c .before .before .before .before .before .before .before .args .shape) (leafOf (c .before .before .before .before .before .before .before .args .file .now) (c .before .before .before .before .before .before .before .args .list .now) (c .before .before .before .before .before .before .before .args .shape) (c .before .before .before .before .before .before .before .args .states) (c .before .before .before .before .before .before .before .args .rep)) _ (c .outlines-held .ensures)))
+    (λ c. walked (c .before .before .before .before .before .before .before .args .shape) (leafOf (c .before .before .before .before .before .before .before .args .file .now) (c .before .before .before .before .before .before .before .args .list .now) (c .before .before .before .before .before .before .before .args .shape) (c .before .before .before .before .before .before .before .args .states) (c .before .before .before .before .before .before .before .args .aim)) _ (c .outlines-held .ensures)))

@@ -24,7 +24,7 @@ lowest-entered-spec = tie.close (tie.spec
     -- put-targets-requires
     (λ c κs. tt)
     -- loop-holds
-    (λ c. going-begin (c .before .before .before .before .before .before .before .before .args .code .now) (c .before .before .before .before .before .before .before .before .args .file .now) (c .before .before .before .before .before .before .before .before .args .list .now) (c .before .before .before .before .before .before .before .before .args .sum .now) (c .before .before .before .before .before .before .before .before .args .n) (c .before .before .before .before .before .before .before .before .args .program) (c .before .before .before .before .before .before .before .before .pre .0) (c .before .before .before .before .before .before .before .before .pre .1) 4096 _ _ refl (c .before .put-targets .ensures) (search needs) 4096 _ refl (search needs) 8192 _ refl (search needs))
+    (λ c. going-begin (c .before .before .before .before .before .before .before .before .args .code .now) (c .before .before .before .before .before .before .before .before .args .file .now) (c .before .before .before .before .before .before .before .before .args .list .now) (c .before .before .before .before .before .before .before .before .args .sum .now) (c .before .before .before .before .before .before .before .before .args .n) (c .before .before .before .before .before .before .before .before .args .program) (c .before .before .before .before .before .before .before .before .pre .0) (c .before .before .before .before .before .before .before .before .pre .1) 4096 _ _ refl (c .before .put-targets .ensures) (search needs) 4096 _ refl (search needs) 12288 _ refl (search needs))
     -- slice-aggregate-put-others
     (λ c. sym (c .before .before .loop .inv .room))
     -- put-others-requires

@@ -1,37 +1,103 @@
-use mathlib.Core.Path.{refl, _∙_}
-use borrow.Author.Tests.{not-false}
+use mathlib.Core.Path.{_∙_}
+use native.Mathlib.Omega.{arith}
 use borrow.Author.Needs.{needs}
-use Rattle.targets.proofs.TargetLaws.{family-yes}
 use Rattle.targets.proofs.members.put_member.Statement.{statement}
 use Rattle.targets.proofs.members.put_member.Tie as tie
+use Rattle.targets.proofs.members.put_member.Reads as reads
+use Rattle.targets.proofs.members.put_member.Lts as lts
+use Rattle.by_number.proofs.entry_at.Reads as entry-at-reads
+use Rattle.families.proofs.count_member.Reads as count-member-reads
+use Rattle.families.proofs.in_full_family.Reads as in-full-family-reads
+use Rattle.program_part.proofs.bytes.either.Reads as either-reads
+use Rattle.targets.proofs.members.put_newest.Reads as put-newest-reads
+use Rattle.targets.proofs.members.put_sights.Reads as put-sights-reads
+
+-- src/members.rt:146:9
+returns : tie.Need-returns
+returns c = search needs
+
+-- src/members.rt:148:9
+entry-at-requires : tie.Need-entry-at-requires
+entry-at-requires c κs = search needs
+
+-- src/members.rt:149:9
+count-member-requires : tie.Need-count-member-requires
+count-member-requires c κs = search needs
+
+-- src/members.rt:150:9
+either-requires : tie.Need-either-requires
+either-requires c κs = search needs
+
+-- src/members.rt:151:9
+same-length : tie.Need-same-length
+same-length c = search needs
+
+-- src/members.rt:151:9
+returns-2 : tie.Need-returns-2
+returns-2 c = let e = c .before .before .before .before .count-member .ensures in (e .0, λ l h F. e .1 _ _ F)
+
+-- src/members.rt:153:8
+in-full-family-requires : tie.Need-in-full-family-requires
+in-full-family-requires c κs = search needs
+
+-- src/members.rt:154:9
+same-length-2 : tie.Need-same-length-2
+same-length-2 c = search needs
+
+-- src/members.rt:154:9
+returns-3 : tie.Need-returns-3
+returns-3 c = let e = c .before .before .before .before .before .before .before .count-member .ensures in (e .0, λ l h F. e .1 _ _ F)
+
+-- src/members.rt:157:9
+put-newest-requires : tie.Need-put-newest-requires
+put-newest-requires c κs = search needs
+
+-- src/members.rt:158:9
+same-length-3 : tie.Need-same-length-3
+same-length-3 c = search needs
+
+-- src/members.rt:158:9
+returns-4 : tie.Need-returns-4
+returns-4 c = let e = c .before .before .before .before .before .before .before .before .before .before .before .before .count-member .ensures in let d = c .before .before .put-newest .ensures in (d .room ∙ e .0, λ l h F. d .full l h (e .1 _ _ F))
+
+-- src/members.rt:161:9
+put-sights-requires : tie.Need-put-sights-requires
+put-sights-requires c κs = search needs
+
+-- src/members.rt:133:1
+same-length-4 : tie.Need-same-length-4
+same-length-4 c = search needs
+
+-- src/members.rt:133:1
+returns-5 : tie.Need-returns-5
+returns-5 c = let e = c .before .before .before .before .before .before .before .before .before .before .before .before .before .count-member .ensures in let d = c .before .before .put-sights .ensures in (d .room ∙ e .0, λ l h F. d .full l h (e .1 _ _ F))
+
+-- src/members.rt:133:1
+same-length-5 : tie.Need-same-length-5
+same-length-5 c = search needs
+
+-- src/members.rt:133:1
+returns-6 : tie.Need-returns-6
+returns-6 c = let e = c .before .before .before .before .before .before .before .before .before .count-member .ensures in (e .0, λ l h F. e .1 _ _ F)
 
 pub put-member-spec : {M : Type 1} → statement M
-put-member-spec = tie.close (tie.spec
-    -- returns
-    (λ c. (refl, λ l h F. F))
-    -- entry-at-requires
-    (λ c κs. tt)
-    -- count-member-requires
-    (λ c κs. tt)
-    -- same-length
-    (λ c. search needs)
-    -- returns-2
-    (λ c. let e = c .before .before .before .count-member .ensures in (e .0, λ l h F. e .1 _ _ F))
-    -- in-full-family-requires
-    (λ c κs. tt)
-    -- same-length-2
-    (λ c. search needs)
-    -- returns-3
-    (λ c. let e = c .before .before .before .before .before .before .count-member .ensures in (e .0, λ l h F. e .1 _ _ F))
-    -- family-held-requires
-    (λ c κs. c .before .before .before .before .before .before .before .before .before .if1 .left)
-    -- same-length-3
-    (λ c. search needs)
-    -- returns-4
-    (λ c. let e = c .before .before .before .before .before .before .before .before .count-member .ensures in (e .0, λ l h F. e .1 _ _ F))
-    -- put-family-requires
-    (λ c κs. tt)
-    -- same-length-4
-    (λ c. search needs)
-    -- returns-5
-    (λ c. let e = c .before .before .before .before .before .before .before .before .before .before .before .before .count-member .ensures in let d = c .before .before .put-family .ensures in (d .0 ∙ e .0, λ l h F. d .1 _ _ (family-yes (c .before .before .before .before .before .before .before .before .before .before .before .before .before .before .before .before .before .before .before .before .args .shape) (c .before .before .before .before .before .before .before .before .before .before .before .before .before .before .before .before .before .before .before .before .args .k) (c .before .before .before .before .before .before .before .before .before .before .before .before .before .before .before .before .before .before .before .before .args .file .now) (c .before .before .before .before .before .before .before .before .before .before .before .before .before .before .before .before .before .before .before .before .args .list .now) (c .before .before .before .before .before .before .before .before .before .before .before .before .before .before .before .before .before .before .before .before .args .sum .now) (c .before .before .before .before .before .before .before .before .before .before .before .before .before .before .before .before .before .before .before .before .args .n) l h (c .before .before .before .before .before .family-held .ensures l h) (not-false _ (c .before .before .before .before .if4 .left))) (e .1 _ _ F))))
+put-member-spec =
+    tie.close
+    (tie.spec
+    returns
+    entry-at-requires
+    count-member-requires
+    either-requires
+    same-length
+    returns-2
+    in-full-family-requires
+    same-length-2
+    returns-3
+    put-newest-requires
+    same-length-3
+    returns-4
+    put-sights-requires
+    same-length-4
+    returns-5
+    same-length-5
+    returns-6)
