@@ -93,6 +93,43 @@ fn any_entry(r: &mut Random, program: &Program) -> Configuration {
     entry
 }
 
+/// What a backward search finds for an operation, whole, without an entry, with FFs filled in one by one, and that without an entry.
+fn families(
+    r: &mut Random,
+    processes: usize,
+    variables: usize,
+    process: usize,
+    operation: Operation,
+    each: &mut dyn FnMut(&str, &Program, &[Configuration]),
+) {
+    let values = std::array::from_fn(|v| if v < variables { 2 } else { 0 });
+    let mut states = vec![1; processes];
+    states[process] = 3;
+    let mut program = idle(processes, variables, values, &states);
+    program.initial[process] = 2;
+    let mut target = [0; 4];
+    target[process] = 1;
+    program.targets = vec![target];
+    program.transitions.push(Transition { process, from: 0, operation, to: 1 });
+    let entries = closed_list(&program, &[], 10_000).expect("a closed list");
+    each("families", &program, &entries);
+    for _ in 0..20 {
+        let mut fewer = entries.clone();
+        fewer.remove(r.below(fewer.len()));
+        each("families without an entry", &program, &fewer);
+    }
+    let mut split = Vec::new();
+    for entry in &entries {
+        match fillings(&program, entry, 64) {
+            Some(parts) if r.below(3) == 0 => split.extend(parts),
+            _ => split.push(entry.clone()),
+        }
+    }
+    each("families with FFs filled in", &program, &split);
+    split.remove(r.below(split.len()));
+    each("families with FFs filled in, but one", &program, &split);
+}
+
 pub fn lists(r: &mut Random, each: &mut dyn FnMut(&str, &Program, &[Configuration])) {
     // One group: the whole of a target; without one entry; with the target as the initial states.
     for (processes, variables) in [(1, 1), (1, 2), (1, 3), (2, 1)] {
@@ -160,34 +197,14 @@ pub fn lists(r: &mut Random, each: &mut dyn FnMut(&str, &Program, &[Configuratio
         filled.remove(r.below(filled.len()));
         each("every FF filled in, but one", &program, &filled);
     }
-    // Families: values in queues and in messages decide which configurations of some local states are above the list. Whole, without an
-    // entry, with FFs filled in one by one, and that without an entry.
+    // Families: values in queues and in messages decide which configurations of some local states are above the list.
+    // The process and variable that decide are the first, and the last.
     for (processes, variables) in [(1, 1), (1, 2), (1, 3), (2, 1)] {
-        for operation in [Operation::Arw { variable: 0, old: 1, new: 0 }, Operation::Read { variable: 0, value: 1 }] {
-            let values = std::array::from_fn(|v| if v < variables { 2 } else { 0 });
-            let mut states = vec![1; processes];
-            states[0] = 3;
-            let mut program = idle(processes, variables, values, &states);
-            program.initial[0] = 2;
-            program.targets = vec![[1, 0, 0, 0]];
-            program.transitions.push(Transition { process: 0, from: 0, operation, to: 1 });
-            let entries = closed_list(&program, &[], 10_000).expect("a closed list");
-            each("families", &program, &entries);
-            for _ in 0..20 {
-                let mut fewer = entries.clone();
-                fewer.remove(r.below(fewer.len()));
-                each("families without an entry", &program, &fewer);
+        let last = (processes - 1, variables - 1);
+        for (process, variable) in if last == (0, 0) { vec![last] } else { vec![(0, 0), last] } {
+            for operation in [Operation::Arw { variable, old: 1, new: 0 }, Operation::Read { variable, value: 1 }] {
+                families(r, processes, variables, process, operation, each);
             }
-            let mut split = Vec::new();
-            for entry in &entries {
-                match fillings(&program, entry, 64) {
-                    Some(parts) if r.below(3) == 0 => split.extend(parts),
-                    _ => split.push(entry.clone()),
-                }
-            }
-            each("families with FFs filled in", &program, &split);
-            split.remove(r.below(split.len()));
-            each("families with FFs filled in, but one", &program, &split);
         }
     }
     let (program, entries) = thousands_of_groups();
