@@ -3,14 +3,6 @@ use native.Mathlib.Omega.{arith}
 use borrow.Author.Needs.{needs}
 use Rattle.targets.proofs.members.put_member.Statement.{statement}
 use Rattle.targets.proofs.members.put_member.Tie as tie
-use Rattle.targets.proofs.members.put_member.Reads as reads
-use Rattle.targets.proofs.members.put_member.Lts as lts
-use Rattle.by_number.proofs.entry_at.Reads as entry-at-reads
-use Rattle.families.proofs.count_member.Reads as count-member-reads
-use Rattle.families.proofs.in_full_family.Reads as in-full-family-reads
-use Rattle.program_part.proofs.bytes.either.Reads as either-reads
-use Rattle.targets.proofs.members.put_newest.Reads as put-newest-reads
-use Rattle.targets.proofs.members.put_sights.Reads as put-sights-reads
 
 -- src/members.rt:146:9
 returns : tie.Need-returns
@@ -18,15 +10,15 @@ returns c = search needs
 
 -- src/members.rt:148:9
 entry-at-requires : tie.Need-entry-at-requires
-entry-at-requires c κs = search needs
+entry-at-requires c κs = tt
 
 -- src/members.rt:149:9
 count-member-requires : tie.Need-count-member-requires
-count-member-requires c κs = search needs
+count-member-requires c κs = tt
 
 -- src/members.rt:150:9
 either-requires : tie.Need-either-requires
-either-requires c κs = search needs
+either-requires c κs = tt
 
 -- src/members.rt:151:9
 same-length : tie.Need-same-length
@@ -38,7 +30,7 @@ returns-2 c = let e = c .before .before .before .before .count-member .ensures i
 
 -- src/members.rt:153:8
 in-full-family-requires : tie.Need-in-full-family-requires
-in-full-family-requires c κs = search needs
+in-full-family-requires c κs = tt
 
 -- src/members.rt:154:9
 same-length-2 : tie.Need-same-length-2

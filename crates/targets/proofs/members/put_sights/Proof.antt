@@ -5,10 +5,6 @@ use native.Mathlib.Omega.{arith}
 use borrow.Author.Needs.{needs}
 use Rattle.targets.proofs.members.put_sights.Statement.{statement}
 use Rattle.targets.proofs.members.put_sights.Tie as tie
-use Rattle.targets.proofs.members.put_sights.Reads as reads
-use Rattle.targets.proofs.members.put_sights.Lts as lts
-use Rattle.matching.proofs.least.Reads as least-reads
-use Rattle.targets.proofs.members.put_sight.Reads as put-sight-reads
 
 abbrev Inv-loop2 : tie.InvT-loop2
 Inv-loop2 file list sum n shape cube k table₀ processes variables p v₀ table v = Kept file list sum n shape k table₀ table × (k < 524288) × (p < 4) × (variables ≤ 4)
@@ -24,11 +20,11 @@ abbrev μ-loop : tie.MeasureT-loop
 
 -- src/members.rt:122:9
 least-requires : tie.Need-least-requires Inv-loop2 μ-loop2 Inv-loop μ-loop
-least-requires c κs = search needs
+least-requires c κs = tt
 
 -- src/members.rt:123:9
 least-requires-2 : tie.Need-least-requires-2 Inv-loop2 μ-loop2 Inv-loop μ-loop
-least-requires-2 c κs = search needs
+least-requires-2 c κs = tt
 
 -- src/members.rt:124:5
 loop-holds : tie.Need-loop-holds Inv-loop2 μ-loop2 Inv-loop μ-loop
