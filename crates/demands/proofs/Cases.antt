@@ -6,11 +6,11 @@ use native.Mathlib.Omega.{arith}
 use lib.ListN.{length}
 use lib.Dec.{eqb}
 use borrow.Author.Tests.{le-ltb}
-use Rattle.pws.specs.Order.{QueueBelow}
-use Rattle.pws.proofs.Queues.{keep, skip, nothing, queue-of}
-use Rattle.program_part.specs.declared.program.Program.{Program}
-use Rattle.program_part.specs.Bytes.{choose, byte, cut}
-use Rattle.program_part.specs.Records.{
+use Rattle.machine_pws.specs.Order.{QueueBelow}
+use Rattle.machine_pws.proofs.Queues.{keep, skip, nothing, queue-of}
+use Rattle.file_records.specs.declared.program.Program.{Program}
+use Rattle.file_records.specs.Bytes.{choose, byte, cut}
+use Rattle.file_records.specs.Records.{
   firstNumber,
   checked,
   isKind,
@@ -48,8 +48,8 @@ use Rattle.program_part.specs.Records.{
   messageNumber,
   waitingNumber,
 }
-use Rattle.program_part.specs.ProgramPart.{unlessEnd, statesFrom, rowFrom, transitionsFrom, atEnd, targetsFrom, rowsFrom, restFrom, programFrom}
-use Rattle.whole_file.specs.EvidencePart.{
+use Rattle.file_records.specs.ProgramPart.{unlessEnd, statesFrom, rowFrom, transitionsFrom, atEnd, targetsFrom, rowsFrom, restFrom, programFrom}
+use Rattle.file_contents.specs.EvidencePart.{
   stepsFrom,
   stepsOf,
   extended,
@@ -67,9 +67,9 @@ use Rattle.whole_file.specs.EvidencePart.{
   entriesFrom,
   entriesAllowed,
 }
-use Rattle.whole_file.specs.Reading.{Input, combined, pair, evidenceAt, Evidence, entries, claimThen, runEvidence, evidenceFrom, programThen, partsOf, FileRead, partsRead, readFile}
-use Rattle.by_number.specs.Offending.{bodyOf, recordAt, isOfRecord, offendingBy, offending}
-use Rattle.causes.specs.Causes.{firstCause}
+use Rattle.file_contents.specs.Reading.{Input, combined, pair, evidenceAt, Evidence, entries, claimThen, runEvidence, evidenceFrom, programThen, partsOf, FileRead, partsRead, readFile}
+use Rattle.file_again.specs.Offending.{bodyOf, recordAt, isOfRecord, offendingBy, offending}
+use Rattle.run_causes.specs.Causes.{firstCause}
 use Rattle.verdict.specs.Judge.{Verdict, ofFile, judged}
 use Rattle.demands.specs.Cases.{Row, file, files, hands, below, notBelow, Holds, caseA, Each, no-row, row, cases}
 

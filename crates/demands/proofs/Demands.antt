@@ -8,28 +8,28 @@ use native.Mathlib.Omega.{arith}
 use native.Mathlib.Decide.{decLt, ℕ-discrete}
 use lib.ListN.{getD}
 use lib.Dec.{eqb}
-use Rattle.pws.specs.declared.Step.{Step}
-use Rattle.pws.specs.Program.{Program, ProgramInRange}
-use Rattle.pws.specs.Configurations.{StartingMemory}
-use Rattle.pws.specs.Ranges.{CountsOf, KeepsRanges}
-use Rattle.pws.proofs.Simulation.{simulation}
-use Rattle.pws.proofs.Ranges.{keeps-ranges}
-use Rattle.lists.specs.Verdict as lists
-use Rattle.lists.specs.Decision as decision
-use Rattle.lists.proofs.Verdict.{verdict-unique, safe-visited}
-use Rattle.whole_file.specs.declared.evidence.Part.{Part}
-use Rattle.whole_file.specs.Reading as reading
-use Rattle.by_number.proofs.Contents.{run-read, pso-run-read}
-use Rattle.by_number.proofs.Counts.{HasCounts, file-counts}
-use Rattle.causes.specs.declared.Cause.{Cause}
-use Rattle.causes.specs.declared.Cause.the-variants.{State, Queue, Pointer, Value, Nothing}
-use Rattle.last_test.specs.declared.RunAnswer.{RunAnswer}
-use Rattle.last_test.specs.declared.RunAnswer.the-variants.{Reachable, Stopped, Missed}
-use Rattle.causes.specs.Causes.{causeNumber}
-use Rattle.replay.specs.Answers.{runAnswer}
-use Rattle.pso.specs.declared.PsoStep.the-variants.{RemoveMark}
-use Rattle.psoreplay.specs.Answers.{psoSteps, PsoAnswered, psoRunAnswer}
-use Rattle.psoreplay.proofs.Accepted.{pso-answered, pso-only}
+use Rattle.machine_pws.specs.declared.Step.{Step}
+use Rattle.machine_pws.specs.Program.{Program, ProgramInRange}
+use Rattle.machine_pws.specs.Configurations.{StartingMemory}
+use Rattle.machine_pws.specs.Ranges.{CountsOf, KeepsRanges}
+use Rattle.machine_pws.proofs.Simulation.{simulation}
+use Rattle.machine_pws.proofs.Ranges.{keeps-ranges}
+use Rattle.list_theory.specs.Verdict as lists
+use Rattle.list_theory.specs.Decision as decision
+use Rattle.list_theory.proofs.Verdict.{verdict-unique, safe-visited}
+use Rattle.file_contents.specs.declared.evidence.Part.{Part}
+use Rattle.file_contents.specs.Reading as reading
+use Rattle.file_again.proofs.Contents.{run-read, pso-run-read}
+use Rattle.file_again.proofs.Counts.{HasCounts, file-counts}
+use Rattle.run_causes.specs.declared.Cause.{Cause}
+use Rattle.run_causes.specs.declared.Cause.the-variants.{State, Queue, Pointer, Value, Nothing}
+use Rattle.run_last_test.specs.declared.RunAnswer.{RunAnswer}
+use Rattle.run_last_test.specs.declared.RunAnswer.the-variants.{Reachable, Stopped, Missed}
+use Rattle.run_causes.specs.Causes.{causeNumber}
+use Rattle.run_replay.specs.Answers.{runAnswer}
+use Rattle.machine_pso.specs.declared.PsoStep.the-variants.{RemoveMark}
+use Rattle.pso_replay.specs.Answers.{psoSteps, PsoAnswered, psoRunAnswer}
+use Rattle.pso_replay.proofs.Accepted.{pso-answered, pso-only}
 use Rattle.verdict.specs.Judge.{Verdict, safe, reachable, pso, refused, entered, ofList, ofRun, ofPsoRun, judged}
 use Rattle.demands.specs.PsoRuns.{OfPsoRun, PsoHalts}
 use Rattle.demands.specs.Demands.{

@@ -7,17 +7,17 @@ use native.Mathlib.Omega.{arith}
 use lib.ListN.{length, getD}
 use lib.Dec.{T, eqb, ltb}
 use borrow.Author.Tests.{eq-eqb, lt-ltb}
-use Rattle.pws.specs.Program.{Shape}
-use Rattle.pws.specs.Machine.{Configuration, allBelow}
-use Rattle.pws.specs.Entries.{Above, AboveList, entry}
-use Rattle.program_part.specs.declared.program.Program.{Program}
-use Rattle.program_part.specs.Bytes.{choose}
-use Rattle.program_part.specs.ProgramPart.{tableFrom, programOf}
-use Rattle.whole_file.specs.Cube.{configurationOf}
-use Rattle.by_number.specs.Again.{cubeAt, entriesOf}
-use Rattle.matching.proofs.Below.{all-true}
-use Rattle.summary.specs.Slots.{countAt}
-use Rattle.summary.specs.Groups.{sameStates, statesAt, leads, inGroup}
+use Rattle.machine_pws.specs.Program.{Shape}
+use Rattle.machine_pws.specs.Machine.{Configuration, allBelow}
+use Rattle.machine_pws.specs.Entries.{Above, AboveList, entry}
+use Rattle.file_records.specs.declared.program.Program.{Program}
+use Rattle.file_records.specs.Bytes.{choose}
+use Rattle.file_records.specs.ProgramPart.{tableFrom, programOf}
+use Rattle.file_contents.specs.Cube.{configurationOf}
+use Rattle.file_again.specs.Again.{cubeAt, entriesOf}
+use Rattle.list_key.proofs.Below.{all-true}
+use Rattle.list_summary.specs.Slots.{countAt}
+use Rattle.list_summary.specs.Groups.{sameStates, statesAt, leads, inGroup}
 use Rattle.judge.specs.Ready.{Ready}
 use Rattle.demands.specs.Groups.{equalStates, group, GroupAgrees, GroupNumbered}
 

@@ -8,17 +8,17 @@ use native.Mathlib.Decide.{decLt, ℕ-discrete}
 use lib.ListN.{length}
 use lib.Dec.{eqb, leb}
 use borrow.Author.Tests.{eq-eqb, ne-eqb}
-use Rattle.pws.specs.Machine.{Configuration}
-use Rattle.program_part.specs.declared.program.Shape.{Shape}
-use Rattle.program_part.specs.declared.program.Refusal.{Refusal}
-use Rattle.program_part.specs.declared.program.Checked.{Checked}
-use Rattle.program_part.specs.declared.program.Checked.the-variants.{Fine, Refused}
-use Rattle.program_part.specs.declared.program.Counted.{Counted}
-use Rattle.program_part.specs.declared.program.Counted.the-variants.{Records, Stopped}
-use Rattle.program_part.specs.declared.program.Program.{Program}
-use Rattle.program_part.specs.declared.program.ProgramRead.{ProgramRead}
-use Rattle.program_part.specs.Bytes.{byte}
-use Rattle.program_part.specs.Records.{
+use Rattle.machine_pws.specs.Machine.{Configuration}
+use Rattle.file_records.specs.declared.program.Shape.{Shape}
+use Rattle.file_records.specs.declared.program.Refusal.{Refusal}
+use Rattle.file_records.specs.declared.program.Checked.{Checked}
+use Rattle.file_records.specs.declared.program.Checked.the-variants.{Fine, Refused}
+use Rattle.file_records.specs.declared.program.Counted.{Counted}
+use Rattle.file_records.specs.declared.program.Counted.the-variants.{Records, Stopped}
+use Rattle.file_records.specs.declared.program.Program.{Program}
+use Rattle.file_records.specs.declared.program.ProgramRead.{ProgramRead}
+use Rattle.file_records.specs.Bytes.{byte}
+use Rattle.file_records.specs.Records.{
   firstNumber,
   checked,
   isKind,
@@ -33,7 +33,7 @@ use Rattle.program_part.specs.Records.{
   messageNumber,
   waitingNumber,
 }
-use Rattle.program_part.specs.ProgramPart.{
+use Rattle.file_records.specs.ProgramPart.{
   unlessEnd,
   andThen,
   countThen,
@@ -47,7 +47,7 @@ use Rattle.program_part.specs.ProgramPart.{
   restFrom,
   programFrom,
 }
-use Rattle.whole_file.specs.EvidencePart.{
+use Rattle.file_contents.specs.EvidencePart.{
   stepsFrom,
   bodyNumber,
   EntryRead,
@@ -64,9 +64,9 @@ use Rattle.whole_file.specs.EvidencePart.{
   entryThen,
   entriesFrom,
 }
-use Rattle.whole_file.specs.declared.evidence.Part.{Part}
-use Rattle.whole_file.specs.Reading.{Input, evidenceAt, Evidence, refusal, entries, steps, claimThen, evidenceFrom, runEvidence, twoParts, partsOf, FileRead, refused, list, run, psoRun, listRead, partsRead, readFile}
-use Rattle.whole_file.proofs.ReadingLaws.{parts-refused, parts-both}
+use Rattle.file_contents.specs.declared.evidence.Part.{Part}
+use Rattle.file_contents.specs.Reading.{Input, evidenceAt, Evidence, refusal, entries, steps, claimThen, evidenceFrom, runEvidence, twoParts, partsOf, FileRead, refused, list, run, psoRun, listRead, partsRead, readFile}
+use Rattle.file_contents.proofs.ReadingLaws.{parts-refused, parts-both}
 use Rattle.verdict.proofs.Verdicts.{short-file}
 use Rattle.verdict.proofs.AreaLaws.{each-choice}
 

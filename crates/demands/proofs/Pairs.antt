@@ -5,12 +5,12 @@ use mathlib.Core.Bool.{Bool, true, false}
 use mathlib.Core.List.{List, _++_}
 use lib.ListN.{length, take, drop, replicate}
 use lib.Dec.{ltb}
-use Rattle.program_part.specs.Bytes.{choose}
-use Rattle.whole_file.specs.declared.evidence.Part.the-variants.{InProgram, InEvidence}
-use Rattle.whole_file.specs.Reading as reading
-use Rattle.whole_file.specs.Reading.{combined, pair, readFile}
-use Rattle.by_number.specs.Cutting.{movedRead}
-use Rattle.by_number.proofs.Cutting.{cut-at-claim}
+use Rattle.file_records.specs.Bytes.{choose}
+use Rattle.file_contents.specs.declared.evidence.Part.the-variants.{InProgram, InEvidence}
+use Rattle.file_contents.specs.Reading as reading
+use Rattle.file_contents.specs.Reading.{combined, pair, readFile}
+use Rattle.file_again.specs.Cutting.{movedRead}
+use Rattle.file_again.proofs.Cutting.{cut-at-claim}
 use Rattle.verdict.specs.Judge.{ofFile, judged, usedOf, areaAfter}
 use Rattle.verdict.specs.Answers.{saidInC}
 use Rattle.demands.specs.Pairs.{Called, DependsOnly, movedBy, CutSame}

@@ -1,8 +1,8 @@
 -- The theorems of specs/PsoDemands: by the demands, which speak of the PWS machine, and the equivalence of the two machines.
-use Rattle.lists.specs.Verdict.{target}
-use Rattle.lists.proofs.Verdict.{safe-visited}
-use Rattle.equivalence.proofs.Reachability.{permitted-start, start-of, visited-takes, takes-visited, same-reachability}
-use Rattle.psoreplay.specs.Answers.{psoSteps}
+use Rattle.list_theory.specs.Verdict.{target}
+use Rattle.list_theory.proofs.Verdict.{safe-visited}
+use Rattle.machine_equal.proofs.Reachability.{permitted-start, start-of, visited-takes, takes-visited, same-reachability}
+use Rattle.pso_replay.specs.Answers.{psoSteps}
 use Rattle.demands.specs.PsoDemands.{PsoSafety, PsoReachability, PwsReachability}
 use Rattle.verdict.proofs.Verdicts.{list-range}
 use Rattle.demands.proofs.Demands.{run-range, pso-run-range, accepted-list, accepted-run, accepted-pso-run}

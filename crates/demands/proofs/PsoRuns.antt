@@ -5,18 +5,18 @@ use mathlib.Core.Bool.{Bool, true, false}
 use mathlib.Core.List.{List}
 use lib.ListN.{getD}
 use lib.Dec.{T}
-use Rattle.pws.specs.Program.{Program}
-use Rattle.pso.specs.declared.PsoStep.{PsoStep}
-use Rattle.pso.specs.declared.PsoStep.the-variants.{Operate, UpdateVariable, RemoveMark}
-use Rattle.pso.specs.Machine.{PsoConfiguration, psoMay}
-use Rattle.causes.specs.declared.Answer.{Answer}
-use Rattle.causes.specs.declared.Answer.the-variants.{Permitted, Refused}
-use Rattle.causes.specs.declared.Cause.{Cause}
-use Rattle.causes.specs.declared.Cause.the-variants.{Pointer}
-use Rattle.causes.specs.Causes.{isPermitted}
-use Rattle.psoanswering.specs.Causes.{Because, psoStepAnswer}
-use Rattle.psoreplay.specs.Answers.{PsoStopped}
-use Rattle.psoanswering.proofs.CauseLaws.{Answers, answers, because-only}
+use Rattle.machine_pws.specs.Program.{Program}
+use Rattle.machine_pso.specs.declared.PsoStep.{PsoStep}
+use Rattle.machine_pso.specs.declared.PsoStep.the-variants.{Operate, UpdateVariable, RemoveMark}
+use Rattle.machine_pso.specs.Machine.{PsoConfiguration, psoMay}
+use Rattle.run_causes.specs.declared.Answer.{Answer}
+use Rattle.run_causes.specs.declared.Answer.the-variants.{Permitted, Refused}
+use Rattle.run_causes.specs.declared.Cause.{Cause}
+use Rattle.run_causes.specs.declared.Cause.the-variants.{Pointer}
+use Rattle.run_causes.specs.Causes.{isPermitted}
+use Rattle.pso_answering.specs.Causes.{Because, psoStepAnswer}
+use Rattle.pso_replay.specs.Answers.{PsoStopped}
+use Rattle.pso_answering.proofs.CauseLaws.{Answers, answers, because-only}
 use Rattle.demands.specs.PsoRuns.{PsoHalts}
 
 -- ---- one step

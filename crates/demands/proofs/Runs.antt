@@ -8,25 +8,25 @@ use native.Mathlib.Omega.{arith}
 use native.Mathlib.Decide.{decLt}
 use lib.ListN.{length, getD, take}
 use lib.Dec.{T}
-use Rattle.pws.specs.declared.Step.{Step}
-use Rattle.pws.specs.declared.Step.the-variants.{Update}
-use Rattle.pws.specs.Program.{Shape, Program, ProgramInRange}
-use Rattle.pws.specs.Machine.{Configuration, may, after}
-use Rattle.pws.specs.Configurations.{StartingMemory, startingMemory, Start, startWith, InTarget, inTarget}
-use Rattle.pws.specs.Sequences.{Takes, done, step}
-use Rattle.pws.proofs.Starts.{start-exists}
-use Rattle.lists.specs.Verdict.{target}
-use Rattle.causes.specs.declared.Answer.{Answer}
-use Rattle.causes.specs.declared.Answer.the-variants.{Permitted, Refused}
-use Rattle.causes.specs.declared.Cause.{Cause}
-use Rattle.causes.specs.declared.Cause.the-variants.{State}
-use Rattle.last_test.specs.declared.RunAnswer.{RunAnswer}
-use Rattle.last_test.specs.declared.RunAnswer.the-variants.{Reachable, Stopped, Missed}
-use Rattle.replay.specs.Replay.{lowestMet}
-use Rattle.causes.specs.Causes.{stepAnswer, isPermitted}
-use Rattle.replay.specs.Answers.{lastAnswer, answerThen, answerFrom, runAnswer}
-use Rattle.causes.proofs.CauseLaws.{answer-may}
-use Rattle.replay.proofs.Accepted.{answer-free, target-yes, target-is}
+use Rattle.machine_pws.specs.declared.Step.{Step}
+use Rattle.machine_pws.specs.declared.Step.the-variants.{Update}
+use Rattle.machine_pws.specs.Program.{Shape, Program, ProgramInRange}
+use Rattle.machine_pws.specs.Machine.{Configuration, may, after}
+use Rattle.machine_pws.specs.Configurations.{StartingMemory, startingMemory, Start, startWith, InTarget, inTarget}
+use Rattle.machine_pws.specs.Sequences.{Takes, done, step}
+use Rattle.machine_pws.proofs.Starts.{start-exists}
+use Rattle.list_theory.specs.Verdict.{target}
+use Rattle.run_causes.specs.declared.Answer.{Answer}
+use Rattle.run_causes.specs.declared.Answer.the-variants.{Permitted, Refused}
+use Rattle.run_causes.specs.declared.Cause.{Cause}
+use Rattle.run_causes.specs.declared.Cause.the-variants.{State}
+use Rattle.run_last_test.specs.declared.RunAnswer.{RunAnswer}
+use Rattle.run_last_test.specs.declared.RunAnswer.the-variants.{Reachable, Stopped, Missed}
+use Rattle.run_replay.specs.Replay.{lowestMet}
+use Rattle.run_causes.specs.Causes.{stepAnswer, isPermitted}
+use Rattle.run_replay.specs.Answers.{lastAnswer, answerThen, answerFrom, runAnswer}
+use Rattle.run_causes.proofs.CauseLaws.{answer-may}
+use Rattle.run_replay.proofs.Accepted.{answer-free, target-yes, target-is}
 use Rattle.demands.specs.Demands.{Reaches, Stops, Misses, Cannot}
 use Rattle.demands.proofs.StepCauses.{ReasonOf, cause-reason, reason-cause}
 

@@ -8,17 +8,17 @@ use native.Mathlib.Decide.{ℕ-discrete}
 use lib.ListN.{length, getD}
 use lib.Dec.{T, eqb, ltb, eqb→eq}
 use borrow.Author.Tests.{lt-ltb, ltb-true, eq-eqb}
-use Rattle.pws.specs.declared.Operation.{Operation}
-use Rattle.pws.specs.declared.Operation.the-variants.{Nop, Read, Write, Mfence, Sfence, Arw}
-use Rattle.pws.specs.declared.Step.{Step}
-use Rattle.pws.specs.declared.Step.the-variants.{Take, Serialise, Update}
-use Rattle.pws.specs.Program.{Shape, Program, transition}
-use Rattle.pws.specs.Machine.{Configuration, isEmpty, allBelow, newest, sees}
-use Rattle.causes.specs.declared.Answer.{Answer}
-use Rattle.causes.specs.declared.Answer.the-variants.{Permitted, Refused}
-use Rattle.causes.specs.declared.Cause.{Cause}
-use Rattle.causes.specs.declared.Cause.the-variants.{State, Queue, Pointer, Value, Nothing}
-use Rattle.causes.specs.Causes.{firstCause, queueFits, pointerFits, valueFits, takeAnswer, stepAnswer}
+use Rattle.machine_pws.specs.declared.Operation.{Operation}
+use Rattle.machine_pws.specs.declared.Operation.the-variants.{Nop, Read, Write, Mfence, Sfence, Arw}
+use Rattle.machine_pws.specs.declared.Step.{Step}
+use Rattle.machine_pws.specs.declared.Step.the-variants.{Take, Serialise, Update}
+use Rattle.machine_pws.specs.Program.{Shape, Program, transition}
+use Rattle.machine_pws.specs.Machine.{Configuration, isEmpty, allBelow, newest, sees}
+use Rattle.run_causes.specs.declared.Answer.{Answer}
+use Rattle.run_causes.specs.declared.Answer.the-variants.{Permitted, Refused}
+use Rattle.run_causes.specs.declared.Cause.{Cause}
+use Rattle.run_causes.specs.declared.Cause.the-variants.{State, Queue, Pointer, Value, Nothing}
+use Rattle.run_causes.specs.Causes.{firstCause, queueFits, pointerFits, valueFits, takeAnswer, stepAnswer}
 use Rattle.demands.specs.Demands.{InState, QueuesEmpty, AtNewest, ValueThere, OtherState, QueueWaits, PointerBehind, OtherValue, NothingThere}
 
 -- the reason that each cause stands for

@@ -4,12 +4,12 @@
 use Prim.Native.Nat.{ℕ, zero, suc, _≤_}
 use mathlib.Core.Path.{_≡_}
 use mathlib.Core.List.{List, [], _∷_, _++_}
-use Rattle.pws.specs.Order.{QueueBelow}
-use Rattle.pws.specs.declared.Step.the-variants.{Take, Serialise, Update}
-use Rattle.whole_file.specs.declared.evidence.Part.{Part}
-use Rattle.whole_file.specs.declared.evidence.Part.the-variants.{InProgram, InEvidence}
-use Rattle.whole_file.specs.Reading.{Input, combined, pair, readFile}
-use Rattle.by_number.specs.Offending.{offending}
+use Rattle.machine_pws.specs.Order.{QueueBelow}
+use Rattle.machine_pws.specs.declared.Step.the-variants.{Take, Serialise, Update}
+use Rattle.file_contents.specs.declared.evidence.Part.{Part}
+use Rattle.file_contents.specs.declared.evidence.Part.the-variants.{InProgram, InEvidence}
+use Rattle.file_contents.specs.Reading.{Input, combined, pair, readFile}
+use Rattle.file_again.specs.Offending.{offending}
 use Rattle.verdict.specs.Judge.{Verdict, safe, reachable, pso, refused, entered, judged}
 
 -- ---- rows and what they say

@@ -8,23 +8,23 @@ use mathlib.Core.Logic.{_↔_, _⊎_}
 use mathlib.Core.Bool.{false}
 use mathlib.Core.List.{List, [], _∷_}
 use lib.ListN.{length, getD, take}
-use Rattle.pws.specs.declared.Step.{Step}
-use Rattle.pws.specs.declared.Step.the-variants.{Take, Serialise, Update}
-use Rattle.pws.specs.declared.Operation.{Operation}
-use Rattle.pws.specs.declared.Operation.the-variants.{Nop, Read, Write, Mfence, Sfence, Arw}
-use Rattle.pws.specs.Program.{Shape, Program, transition}
-use Rattle.pws.specs.Machine.{Configuration, newest, sees, may}
-use Rattle.pws.specs.Configurations.{ConfigurationOf, startingMemory, Start, InTarget}
-use Rattle.pws.specs.Order.{Below}
-use Rattle.pws.specs.Entries.{AboveList}
-use Rattle.pws.specs.Sequences.{Takes, Visited, Answers}
-use Rattle.pws.specs.Ranges.{CountsOf, KeepsRanges}
-use Rattle.lists.specs.Verdict.{target, SafeList, Unheld, Started, Entered}
-use Rattle.program_part.specs.Bytes.{byte}
-use Rattle.whole_file.specs.declared.evidence.Part.{Part}
-use Rattle.whole_file.specs.Reading as reading
-use Rattle.causes.specs.declared.Cause.the-variants.{State, Queue, Value, Nothing}
-use Rattle.psoreplay.specs.Answers.{PsoReached, PsoStopped, PsoMissed}
+use Rattle.machine_pws.specs.declared.Step.{Step}
+use Rattle.machine_pws.specs.declared.Step.the-variants.{Take, Serialise, Update}
+use Rattle.machine_pws.specs.declared.Operation.{Operation}
+use Rattle.machine_pws.specs.declared.Operation.the-variants.{Nop, Read, Write, Mfence, Sfence, Arw}
+use Rattle.machine_pws.specs.Program.{Shape, Program, transition}
+use Rattle.machine_pws.specs.Machine.{Configuration, newest, sees, may}
+use Rattle.machine_pws.specs.Configurations.{ConfigurationOf, startingMemory, Start, InTarget}
+use Rattle.machine_pws.specs.Order.{Below}
+use Rattle.machine_pws.specs.Entries.{AboveList}
+use Rattle.machine_pws.specs.Sequences.{Takes, Visited, Answers}
+use Rattle.machine_pws.specs.Ranges.{CountsOf, KeepsRanges}
+use Rattle.list_theory.specs.Verdict.{target, SafeList, Unheld, Started, Entered}
+use Rattle.file_records.specs.Bytes.{byte}
+use Rattle.file_contents.specs.declared.evidence.Part.{Part}
+use Rattle.file_contents.specs.Reading as reading
+use Rattle.run_causes.specs.declared.Cause.the-variants.{State, Queue, Value, Nothing}
+use Rattle.pso_replay.specs.Answers.{PsoReached, PsoStopped, PsoMissed}
 use Rattle.verdict.specs.Judge.{Verdict, safe, reachable, pso, refused, entered, Judged, judged}
 use Rattle.demands.specs.PsoRuns.{OfPsoRun, PsoHalts}
 

@@ -6,15 +6,15 @@ use mathlib.Core.Bool.{Bool, true}
 use mathlib.Core.List.{List, [], _∷_}
 use lib.ListN.{length}
 use lib.Dec.{eqb}
-use Rattle.pws.specs.Program.{Shape}
-use Rattle.pws.specs.Machine.{Configuration, allBelow}
-use Rattle.pws.specs.Entries.{AboveList, entry}
-use Rattle.program_part.specs.declared.program.Program.{Program}
-use Rattle.program_part.specs.Bytes.{choose}
-use Rattle.program_part.specs.ProgramPart.{programOf}
-use Rattle.by_number.specs.Again.{entriesOf}
-use Rattle.summary.specs.Slots.{countAt}
-use Rattle.summary.specs.Groups.{leads}
+use Rattle.machine_pws.specs.Program.{Shape}
+use Rattle.machine_pws.specs.Machine.{Configuration, allBelow}
+use Rattle.machine_pws.specs.Entries.{AboveList, entry}
+use Rattle.file_records.specs.declared.program.Program.{Program}
+use Rattle.file_records.specs.Bytes.{choose}
+use Rattle.file_records.specs.ProgramPart.{programOf}
+use Rattle.file_again.specs.Again.{entriesOf}
+use Rattle.list_summary.specs.Slots.{countAt}
+use Rattle.list_summary.specs.Groups.{leads}
 use Rattle.judge.specs.Ready.{Ready}
 
 -- every process has the same local state in both

@@ -4,11 +4,11 @@ use Prim.Native.Nat.{ℕ, _+_}
 use mathlib.Core.Path.{_≡_}
 use mathlib.Core.List.{List, _++_}
 use lib.ListN.{length, take, drop, replicate}
-use Rattle.whole_file.specs.declared.evidence.Part.the-variants.{InProgram, InEvidence}
-use Rattle.whole_file.specs.Reading as reading
-use Rattle.whole_file.specs.Reading.{Input, combined, pair, readFile}
-use Rattle.by_number.specs.Offending.{offending}
-use Rattle.by_number.specs.Cutting.{ClaimAt}
+use Rattle.file_contents.specs.declared.evidence.Part.the-variants.{InProgram, InEvidence}
+use Rattle.file_contents.specs.Reading as reading
+use Rattle.file_contents.specs.Reading.{Input, combined, pair, readFile}
+use Rattle.file_again.specs.Offending.{offending}
+use Rattle.file_again.specs.Cutting.{ClaimAt}
 use Rattle.verdict.specs.declared.answer.Verdict as declared
 use Rattle.verdict.specs.Judge.{Verdict, refused, judged, areaAfter}
 use Rattle.verdict.specs.Answers.{saidInC}

@@ -4,12 +4,12 @@ use Prim.Native.Nat.{ℕ, _<_}
 use mathlib.Core.Path.{_≡_}
 use mathlib.Core.List.{List}
 use lib.ListN.{length}
-use Rattle.lists.specs.Verdict.{target}
-use Rattle.pso.specs.declared.PsoStep.{PsoStep}
-use Rattle.pso.specs.Machine.{PsoConfiguration}
-use Rattle.pso.specs.Runs.{PsoStart, PsoVisited, PsoInTarget, PsoReachable}
-use Rattle.equivalence.specs.Equivalence.{PwsReachable}
-use Rattle.whole_file.specs.Reading.{Input}
+use Rattle.list_theory.specs.Verdict.{target}
+use Rattle.machine_pso.specs.declared.PsoStep.{PsoStep}
+use Rattle.machine_pso.specs.Machine.{PsoConfiguration}
+use Rattle.machine_pso.specs.Runs.{PsoStart, PsoVisited, PsoInTarget, PsoReachable}
+use Rattle.machine_equal.specs.Equivalence.{PwsReachable}
+use Rattle.file_contents.specs.Reading.{Input}
 use Rattle.verdict.specs.Judge.{safe, reachable, pso, judged}
 use Rattle.demands.specs.PsoRuns.{OfPsoRun}
 use Rattle.demands.specs.Demands.{OfList, OfRun}

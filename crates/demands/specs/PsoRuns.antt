@@ -5,14 +5,14 @@ use mathlib.Core.Path.{_≡_}
 use mathlib.Core.Bool.{false}
 use mathlib.Core.List.{List}
 use lib.ListN.{length, getD, take}
-use Rattle.pws.specs.declared.Step.{Step}
-use Rattle.pws.specs.Program.{Program}
-use Rattle.pso.specs.declared.PsoStep.{PsoStep}
-use Rattle.pso.specs.declared.PsoStep.the-variants.{RemoveMark}
-use Rattle.pso.specs.Machine.{PsoConfiguration, psoMay}
-use Rattle.pso.specs.Runs.{PsoStart, PsoTakes}
-use Rattle.whole_file.specs.Reading as reading
-use Rattle.psoreplay.specs.Answers.{psoSteps}
+use Rattle.machine_pws.specs.declared.Step.{Step}
+use Rattle.machine_pws.specs.Program.{Program}
+use Rattle.machine_pso.specs.declared.PsoStep.{PsoStep}
+use Rattle.machine_pso.specs.declared.PsoStep.the-variants.{RemoveMark}
+use Rattle.machine_pso.specs.Machine.{PsoConfiguration, psoMay}
+use Rattle.machine_pso.specs.Runs.{PsoStart, PsoTakes}
+use Rattle.file_contents.specs.Reading as reading
+use Rattle.pso_replay.specs.Answers.{psoSteps}
 
 -- they give a program, targets, a starting memory and steps of the PSO machine, of which F holds
 pub record OfPsoRun (x : reading.Input) (area : ℕ) (F : Program → List (ℕ → ℕ) → List ℕ → List PsoStep → Type 0) : Type 0 where

@@ -2,7 +2,7 @@
 use Prim.Native.Nat.{ℕ}
 use mathlib.Core.Path.{_≡_, refl}
 use mathlib.Core.List.{List, [], _∷_, _++_}
-use Rattle.pws.specs.declared.Step.the-variants.{Take, Serialise, Update}
+use Rattle.machine_pws.specs.declared.Step.the-variants.{Take, Serialise, Update}
 use Rattle.drawing.specs.Text.{decimalIn, decimal, letters, nodeLine, edgeLine, nodeLines, edgeLines, text}
 use Rattle.drawing.specs.Parts.{edgeHead}
 use Rattle.drawing.specs.Accepted.{Reading, place}

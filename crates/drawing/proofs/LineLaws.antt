@@ -4,10 +4,10 @@ use mathlib.Core.Path.{_≡_, refl, sym, ap, subst, _∙_}
 use mathlib.Core.List.{List, [], _∷_, _++_, append-assoc}
 use native.Mathlib.Omega.{arith}
 use lib.ListN.{length, length-append}
-use Rattle.pws.specs.declared.Step.{Step}
-use Rattle.pws.specs.declared.Step.the-variants.{Take, Serialise, Update}
-use Rattle.program_part.specs.Records.{stepBody, stepAt}
-use Rattle.whole_file.specs.EvidencePart.{stepsOf}
+use Rattle.machine_pws.specs.declared.Step.{Step}
+use Rattle.machine_pws.specs.declared.Step.the-variants.{Take, Serialise, Update}
+use Rattle.file_records.specs.Records.{stepBody, stepAt}
+use Rattle.file_contents.specs.EvidencePart.{stepsOf}
 use Rattle.drawing.specs.Text.{decimalIn, decimal, letters, name, line, opening, arrow, labelOpening, nodeLine, edgeLine, nodeLines, edgeLines, text}
 use Rattle.drawing.specs.Runs.{StepInRange}
 use Rattle.drawing.specs.Parts.{edgeHead, edgeTail, FineFrom, AllFine}

@@ -8,8 +8,8 @@ use native.Mathlib.Decide.{decLt}
 use lib.ListN.{length, take, drop, length-append, take-append-drop, List·getD-append}
 use lib.Seq.{take-at, take-take, getD-take, length-take-le}
 use borrow.Author.Tests.{lt-ltb}
-use Rattle.pws.specs.declared.Step.{Step}
-use Rattle.program_part.specs.Bytes.{choose, byte}
+use Rattle.machine_pws.specs.declared.Step.{Step}
+use Rattle.file_records.specs.Bytes.{choose, byte}
 use Rattle.drawing.specs.declared.word.Way.{Way}
 use Rattle.drawing.specs.declared.word.Way.the-variants.{On, Stuck}
 use Rattle.drawing.specs.declared.read.NodesRead.{NodesRead}

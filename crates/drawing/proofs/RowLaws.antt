@@ -4,9 +4,9 @@ use mathlib.Core.Path.{_≡_, refl, sym, ap, subst, _∙_}
 use mathlib.Core.List.{List, [], _∷_, _++_, append-assoc}
 use native.Mathlib.Omega.{arith}
 use lib.ListN.{length, length-append}
-use Rattle.pws.specs.declared.Step.{Step}
-use Rattle.program_part.specs.Records.{stepBody, stepAt}
-use Rattle.whole_file.specs.EvidencePart.{stepsOf}
+use Rattle.machine_pws.specs.declared.Step.{Step}
+use Rattle.file_records.specs.Records.{stepBody, stepAt}
+use Rattle.file_contents.specs.EvidencePart.{stepsOf}
 use Rattle.drawing.specs.Text.{nodeLine, edgeLine, nodeLines, edgeLines}
 use Rattle.drawing.specs.Runs.{StepInRange}
 use Rattle.drawing.specs.Parts.{Put, FineFrom, AllFine}

@@ -5,8 +5,8 @@ use mathlib.Core.Bool.{true, false}
 use mathlib.Core.List.{List, [], _∷_, _++_}
 use native.Mathlib.Omega.{arith}
 use lib.ListN.{length, length-append}
-use Rattle.pws.specs.declared.Step.{Step}
-use Rattle.pws.specs.declared.Step.the-variants.{Take, Serialise, Update}
+use Rattle.machine_pws.specs.declared.Step.{Step}
+use Rattle.machine_pws.specs.declared.Step.the-variants.{Take, Serialise, Update}
 use Rattle.drawing.specs.declared.word.Way.the-variants.{On, Stuck}
 use Rattle.drawing.specs.declared.label.EdgeRead.the-variants.{Edge, NoEdge}
 use Rattle.drawing.specs.declared.read.NodesRead.the-variants.{Nodes, NoNodes}

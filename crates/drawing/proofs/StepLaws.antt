@@ -8,17 +8,17 @@ use lib.ListN.{length, drop, drop-of-length-le}
 use lib.Seq.{drop-cons}
 use lib.Dec.{leb, ltb}
 use borrow.Author.Tests.{eqb-true, ltb-true, leb-true, leb-false, not-false}
-use Rattle.pws.specs.declared.Step.the-variants.{Take, Serialise, Update}
-use Rattle.program_part.specs.Bytes.{choose, byte}
-use Rattle.program_part.specs.declared.program.Refusal.{Refusal}
-use Rattle.program_part.specs.declared.program.Checked.{Checked}
-use Rattle.program_part.specs.declared.program.Checked.the-variants.{Fine, Refused}
-use Rattle.program_part.specs.declared.program.Counted.{Counted}
-use Rattle.program_part.specs.declared.program.Counted.the-variants.{Records, Stopped}
-use Rattle.program_part.specs.Records.{checked, isKind, isStep, stepBody, stepNames, stepNumber, stepAt}
-use Rattle.program_part.specs.ProgramPart.{countThen, rowFrom}
-use Rattle.program_part.proofs.RecordLaws.{step-fine, cut-fits}
-use Rattle.whole_file.specs.EvidencePart.{stepsFrom, stepsOf}
+use Rattle.machine_pws.specs.declared.Step.the-variants.{Take, Serialise, Update}
+use Rattle.file_records.specs.Bytes.{choose, byte}
+use Rattle.file_records.specs.declared.program.Refusal.{Refusal}
+use Rattle.file_records.specs.declared.program.Checked.{Checked}
+use Rattle.file_records.specs.declared.program.Checked.the-variants.{Fine, Refused}
+use Rattle.file_records.specs.declared.program.Counted.{Counted}
+use Rattle.file_records.specs.declared.program.Counted.the-variants.{Records, Stopped}
+use Rattle.file_records.specs.Records.{checked, isKind, isStep, stepBody, stepNames, stepNumber, stepAt}
+use Rattle.file_records.specs.ProgramPart.{countThen, rowFrom}
+use Rattle.file_records.proofs.RecordLaws.{step-fine, cut-fits}
+use Rattle.file_contents.specs.EvidencePart.{stepsFrom, stepsOf}
 use Rattle.drawing.specs.Runs.{fullShape, StepInRange, recordOf, recordsOf}
 use Rattle.drawing.specs.Parts as parts
 use Rattle.drawing.specs.Parts.{FineFrom}

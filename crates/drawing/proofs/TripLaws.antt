@@ -7,16 +7,16 @@ use mathlib.Core.List.{List, [], _∷_, _++_}
 use native.Mathlib.Omega.{arith}
 use lib.ListN.{length, drop, length-drop, length-append}
 use borrow.Author.Tests.{eq-eqb, ne-eqb, lt-ltb, le-leb, lt-leb}
-use Rattle.pws.specs.declared.Step.{Step}
-use Rattle.pws.specs.declared.Step.the-variants.{Take, Serialise, Update}
-use Rattle.program_part.specs.Bytes.{byte, cut}
-use Rattle.program_part.specs.declared.program.Checked.the-variants.{Fine}
-use Rattle.program_part.specs.declared.program.Counted.{Counted}
-use Rattle.program_part.specs.declared.program.Counted.the-variants.{Records, Stopped}
-use Rattle.program_part.specs.Records.{firstNumber, checked, isKind, stepBody, stepNames, stepNumber, stepAt}
-use Rattle.program_part.specs.ProgramPart.{rowFrom}
-use Rattle.program_part.proofs.RecordLaws.{row-ends, row-step}
-use Rattle.whole_file.specs.EvidencePart.{stepsFrom, stepsOf}
+use Rattle.machine_pws.specs.declared.Step.{Step}
+use Rattle.machine_pws.specs.declared.Step.the-variants.{Take, Serialise, Update}
+use Rattle.file_records.specs.Bytes.{byte, cut}
+use Rattle.file_records.specs.declared.program.Checked.the-variants.{Fine}
+use Rattle.file_records.specs.declared.program.Counted.{Counted}
+use Rattle.file_records.specs.declared.program.Counted.the-variants.{Records, Stopped}
+use Rattle.file_records.specs.Records.{firstNumber, checked, isKind, stepBody, stepNames, stepNumber, stepAt}
+use Rattle.file_records.specs.ProgramPart.{rowFrom}
+use Rattle.file_records.proofs.RecordLaws.{row-ends, row-step}
+use Rattle.file_contents.specs.EvidencePart.{stepsFrom, stepsOf}
 use Rattle.drawing.specs.Text.{text}
 use Rattle.drawing.specs.Runs.{fullShape, StepInRange, AllInRange, Run, recordOf, recordsOf}
 use Rattle.drawing.specs.Writing.{Made, made, refused, ofCount, drawingOf}

@@ -7,9 +7,9 @@ use native.Mathlib.Omega.{arith}
 use lib.ListN.{length, drop}
 use lib.Dec.{ltb}
 use borrow.Author.Tests.{lt-ltb, le-ltb}
-use Rattle.program_part.specs.declared.program.Refusal.{Refusal}
-use Rattle.program_part.specs.declared.program.Counted.the-variants.{Records, Stopped}
-use Rattle.whole_file.specs.EvidencePart.{stepsFrom, stepsOf}
+use Rattle.file_records.specs.declared.program.Refusal.{Refusal}
+use Rattle.file_records.specs.declared.program.Counted.the-variants.{Records, Stopped}
+use Rattle.file_contents.specs.EvidencePart.{stepsFrom, stepsOf}
 use Rattle.drawing.specs.declared.Written.{Written}
 use Rattle.drawing.specs.Text.{text}
 use Rattle.drawing.specs.Runs.{fullShape}

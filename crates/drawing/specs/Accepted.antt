@@ -4,7 +4,7 @@ use Prim.Native.Nat.{ℕ, suc, _<_, _≤_}
 use mathlib.Core.Path.{_≡_}
 use mathlib.Core.List.{List, _++_}
 use lib.ListN.{length, take}
-use Rattle.pws.specs.declared.Step.{Step}
+use Rattle.machine_pws.specs.declared.Step.{Step}
 use Rattle.drawing.specs.Text.{text}
 use Rattle.drawing.specs.Runs.{Run}
 

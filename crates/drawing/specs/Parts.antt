@@ -3,7 +3,7 @@ use Prim.Native.Nat.{ℕ, zero, suc, _+_, _<_, _≤_}
 use mathlib.Core.Path.{_≡_}
 use mathlib.Core.List.{List, [], _∷_, _++_}
 use lib.ListN.{length, take, drop}
-use Rattle.program_part.specs.Records.{stepBody, stepAt}
+use Rattle.file_records.specs.Records.{stepBody, stepAt}
 use Rattle.drawing.specs.Text.{name, arrow, labelOpening}
 use Rattle.drawing.specs.Runs.{StepInRange}
 

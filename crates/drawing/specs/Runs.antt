@@ -5,9 +5,9 @@ use mathlib.Core.Bool.{Bool, _&&_}
 use mathlib.Core.List.{List, [], _∷_, _++_}
 use lib.ListN.{length}
 use lib.Dec.{ltb}
-use Rattle.pws.specs.declared.Step.{Step}
-use Rattle.pws.specs.declared.Step.the-variants.{Take, Serialise, Update}
-use Rattle.program_part.specs.declared.program.Shape.{Shape}
+use Rattle.machine_pws.specs.declared.Step.{Step}
+use Rattle.machine_pws.specs.declared.Step.the-variants.{Take, Serialise, Update}
+use Rattle.file_records.specs.declared.program.Shape.{Shape}
 
 abbrev pub fullShape : Shape
 fullShape = record { processes = 4; variables = 4; values = 4 ∷ 4 ∷ 4 ∷ 4 ∷ [] }

@@ -6,11 +6,11 @@ use mathlib.Core.Bool.{cond, _&&_}
 use mathlib.Core.List.{List, [], _++_}
 use lib.ListN.{length, drop}
 use lib.Dec.{leb, ltb}
-use Rattle.pws.specs.declared.Step.{Step}
-use Rattle.program_part.specs.Bytes.{choose}
-use Rattle.program_part.specs.declared.program.Counted.{Counted}
-use Rattle.program_part.specs.declared.program.Counted.the-variants.{Records, Stopped}
-use Rattle.whole_file.specs.EvidencePart.{stepsFrom, stepsOf}
+use Rattle.machine_pws.specs.declared.Step.{Step}
+use Rattle.file_records.specs.Bytes.{choose}
+use Rattle.file_records.specs.declared.program.Counted.{Counted}
+use Rattle.file_records.specs.declared.program.Counted.the-variants.{Records, Stopped}
+use Rattle.file_contents.specs.EvidencePart.{stepsFrom, stepsOf}
 use Rattle.drawing.specs.declared.Written.{Written}
 use Rattle.drawing.specs.Text.{letters, text}
 use Rattle.drawing.specs.Runs.{fullShape, stepInRange}

@@ -4,10 +4,10 @@ ghost use Prim.Native.Nat.{_+_, _≤_, _<_};
 ghost use lib.ListN.{length};
 ghost use Rattle.drawing.specs.Reading.{isDigit, isSmall, valueAt, thirdDigit, secondDigit, numberAt, variableAt, pairAt, processAt, labelAt};
 use crate::word::has;
-use program_part::bytes::both;
-use program_part::bytes::byte_at;
-use program_part::bytes::wide;
-use pws::Step;
+use file_records::bytes::both;
+use file_records::bytes::byte_at;
+use file_records::bytes::wide;
+use machine_pws::Step;
 
 // An edge's step and the place after it, or where something else stands.
 pub enum EdgeRead {

@@ -7,8 +7,8 @@ ghost use Rattle.drawing.specs.Text.{decimal, letters, nodeLine};
 ghost use Rattle.drawing.specs.Runs.{StepInRange, stepInRange};
 ghost use Rattle.drawing.specs.Writing.{shown};
 ghost use Rattle.drawing.specs.Parts.{Put, edgeHead};
-use program_part::bytes::both;
-use pws::Step;
+use file_records::bytes::both;
+use machine_pws::Step;
 
 // The word goes to a place in the slice, and the place after it is handed back.
 pub(crate) fn put(out: &mut [u8], at: usize, word: &[u8]) -> usize

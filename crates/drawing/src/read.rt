@@ -18,7 +18,7 @@ use crate::word::Way;
 use crate::word::expect;
 use crate::word::has;
 use crate::word::way_place;
-use pws::Step;
+use machine_pws::Step;
 
 // How many edges there are to be and where they begin, or where no node's line goes on.
 pub enum NodesRead {

@@ -3,7 +3,7 @@ ghost use mathlib.Core.Path.{_≡_};
 ghost use mathlib.Core.List.{_++_};
 ghost use Prim.Native.Nat.{ℕ, suc, _+_, _≤_, _<_};
 ghost use lib.ListN.{length};
-ghost use Rattle.whole_file.specs.EvidencePart.{stepsOf};
+ghost use Rattle.file_contents.specs.EvidencePart.{stepsOf};
 ghost use Rattle.drawing.specs.Text.{line, opening, nodeLines, edgeLine, edgeLines, text};
 ghost use Rattle.drawing.specs.Runs.{fullShape, StepInRange};
 ghost use Rattle.drawing.specs.Writing.{drawingOf, answered, leftIn};
@@ -15,13 +15,13 @@ use crate::put::put;
 use crate::put::put_head;
 use crate::put::put_letters;
 use crate::put::put_node;
-use program_part::program::Counted;
-use program_part::program::Shape;
-use program_part::program::stop_of;
-use pws::Step;
-use whole_file::steps::step_at;
-use whole_file::steps::step_body;
-use whole_file::steps::steps_from;
+use file_contents::steps::step_at;
+use file_contents::steps::step_body;
+use file_contents::steps::steps_from;
+use file_records::program::Counted;
+use file_records::program::Shape;
+use file_records::program::stop_of;
+use machine_pws::Step;
 
 // Four processes, four variables; with 256 transitions every step that a record can name is one of such a program's.
 fn full_shape() -> Shape

@@ -1,7 +1,7 @@
 // The judge. The slices that are read may overlap each other, and none of them the work area.
 ghost use mathlib.Core.Path.{_≡_};
 ghost use lib.ListN.{length};
-ghost use Rattle.whole_file.specs.Reading.{combined, pair};
+ghost use Rattle.file_contents.specs.Reading.{combined, pair};
 ghost use Rattle.verdict.specs.Judge.{areaAfter};
 ghost use Rattle.verdict.specs.Answers.{saidInC, Answered};
 use judge::judge;

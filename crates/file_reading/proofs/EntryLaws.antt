@@ -10,20 +10,20 @@ use lib.ListN.{length, getD, set, replicate, length-append, length-set, length-r
 use lib.Seq.{getD-set-same, getD-set-other}
 use lib.Dec.{eqb, leb, ltb}
 use borrow.Author.Tests.{lt-ltb, leb-true, leb-false, ltb-true, le-leb, not-false}
-use Rattle.pws.specs.Machine.{Configuration, putQueue}
-use Rattle.pws.proofs.Facts.{putQueue-same, putQueue-other}
-use Rattle.program_part.specs.declared.program.Shape.{Shape}
-use Rattle.program_part.specs.declared.program.Refusal.{Refusal}
-use Rattle.program_part.specs.declared.program.Checked.{Checked}
-use Rattle.program_part.specs.declared.program.Checked.the-variants.{Fine, Refused}
+use Rattle.machine_pws.specs.Machine.{Configuration, putQueue}
+use Rattle.machine_pws.proofs.Facts.{putQueue-same, putQueue-other}
+use Rattle.file_records.specs.declared.program.Shape.{Shape}
+use Rattle.file_records.specs.declared.program.Refusal.{Refusal}
+use Rattle.file_records.specs.declared.program.Checked.{Checked}
+use Rattle.file_records.specs.declared.program.Checked.the-variants.{Fine, Refused}
 use Rattle.file_reading.specs.declared.list.Tally.{Tally}
-use Rattle.program_part.specs.Bytes.{choose, byte, cut}
-use Rattle.program_part.specs.Records.{firstNumber, checked, isKind, exists, pointerAt, messageAt, messageNumber, messageNames, waitingNumber, waitingNames}
-use Rattle.whole_file.specs.EvidencePart.{EntryRead, whole, bad, beginning, withMessage, withWaiting, extended, bodySize, bodyNumber, complete, atBoundary, finished, entryFrom, entryRead}
-use Rattle.whole_file.specs.Tally.{queueAt}
+use Rattle.file_records.specs.Bytes.{choose, byte, cut}
+use Rattle.file_records.specs.Records.{firstNumber, checked, isKind, exists, pointerAt, messageAt, messageNumber, messageNames, waitingNumber, waitingNames}
+use Rattle.file_contents.specs.EvidencePart.{EntryRead, whole, bad, beginning, withMessage, withWaiting, extended, bodySize, bodyNumber, complete, atBoundary, finished, entryFrom, entryRead}
+use Rattle.file_contents.specs.Tally.{queueAt}
 use Rattle.file_reading.specs.Tally.{numberBy, TallyRoom, tallied, Tallies}
-use Rattle.program_part.proofs.RecordLaws.{Good, good, cut-fits}
-use Rattle.program_part.proofs.ProgramLaws.{and-true}
+use Rattle.file_records.proofs.RecordLaws.{Good, good, cut-fits}
+use Rattle.file_records.proofs.ProgramLaws.{and-true}
 
 -- ---- the loop
 

@@ -5,20 +5,20 @@ use mathlib.Core.List.{List, []}
 use native.Mathlib.Omega.{arith}
 use lib.ListN.{length, take, drop}
 use borrow.Rule.Slice.PartMut.{putMid}
-use Rattle.program_part.specs.declared.program.Refusal.{Refusal}
-use Rattle.program_part.specs.declared.program.Checked.{Checked}
-use Rattle.program_part.specs.declared.program.Checked.the-variants.{Fine, Refused}
-use Rattle.program_part.specs.declared.program.Counted.{Counted}
-use Rattle.program_part.specs.declared.program.Program.{Program}
-use Rattle.program_part.specs.Bytes.{byte}
-use Rattle.program_part.specs.Records.{checked, claimNumber}
-use Rattle.program_part.specs.ProgramPart.{refusalOf, unlessEnd}
-use Rattle.whole_file.specs.declared.evidence.Part.the-variants.{InEvidence}
-use Rattle.whole_file.specs.declared.evidence.Reading.{Reading}
-use Rattle.whole_file.specs.EvidencePart.{EntriesRead, entriesFrom, entriesAllowed, wroteFrom}
-use Rattle.whole_file.specs.Tally.{countOf}
-use Rattle.whole_file.specs.Reading.{Evidence, runEvidence, evidenceFrom, noMemory, readingRefused, countReading, evidenceReading, evidenceArea}
-use Rattle.whole_file.proofs.ReadingLaws.{run-area, upper, evidence-refused, evidence-entries, evidence-run, claim-fits}
+use Rattle.file_records.specs.declared.program.Refusal.{Refusal}
+use Rattle.file_records.specs.declared.program.Checked.{Checked}
+use Rattle.file_records.specs.declared.program.Checked.the-variants.{Fine, Refused}
+use Rattle.file_records.specs.declared.program.Counted.{Counted}
+use Rattle.file_records.specs.declared.program.Program.{Program}
+use Rattle.file_records.specs.Bytes.{byte}
+use Rattle.file_records.specs.Records.{checked, claimNumber}
+use Rattle.file_records.specs.ProgramPart.{refusalOf, unlessEnd}
+use Rattle.file_contents.specs.declared.evidence.Part.the-variants.{InEvidence}
+use Rattle.file_contents.specs.declared.evidence.Reading.{Reading}
+use Rattle.file_contents.specs.EvidencePart.{EntriesRead, entriesFrom, entriesAllowed, wroteFrom}
+use Rattle.file_contents.specs.Tally.{countOf}
+use Rattle.file_contents.specs.Reading.{Evidence, runEvidence, evidenceFrom, noMemory, readingRefused, countReading, evidenceReading, evidenceArea}
+use Rattle.file_contents.proofs.ReadingLaws.{run-area, upper, evidence-refused, evidence-entries, evidence-run, claim-fits}
 
 module _ (f : List ℕ) (at : ℕ) (p : Program) (w : List ℕ) (x y : Checked) (a : x ≡ checked (claimNumber f at) at) (b : y ≡ unlessEnd f at x) where
   abbrev Returned : Reading → List ℕ → Type 0

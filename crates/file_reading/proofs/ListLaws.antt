@@ -8,15 +8,15 @@ use native.Mathlib.Decide.{decLt}
 use lib.ListN.{length, length-append}
 use lib.Dec.{leb}
 use borrow.Author.Tests.{leb-false, le-leb, lt-leb}
-use Rattle.pws.specs.Machine.{Configuration}
-use Rattle.program_part.specs.declared.program.Shape.{Shape}
-use Rattle.program_part.specs.declared.program.Refusal.{Refusal}
-use Rattle.program_part.specs.declared.program.Checked.{Checked}
-use Rattle.program_part.specs.declared.program.Checked.the-variants.{Fine, Refused}
+use Rattle.machine_pws.specs.Machine.{Configuration}
+use Rattle.file_records.specs.declared.program.Shape.{Shape}
+use Rattle.file_records.specs.declared.program.Refusal.{Refusal}
+use Rattle.file_records.specs.declared.program.Checked.{Checked}
+use Rattle.file_records.specs.declared.program.Checked.the-variants.{Fine, Refused}
 use Rattle.file_reading.specs.declared.list.EntryEnd.the-variants.{Next, Bad}
-use Rattle.program_part.specs.Bytes.{choose, put32}
-use Rattle.program_part.specs.Records.{checked, entryNumber}
-use Rattle.whole_file.specs.EvidencePart.{
+use Rattle.file_records.specs.Bytes.{choose, put32}
+use Rattle.file_records.specs.Records.{checked, entryNumber}
+use Rattle.file_contents.specs.EvidencePart.{
   EntryRead,
   whole,
   bad,
@@ -35,8 +35,8 @@ use Rattle.whole_file.specs.EvidencePart.{
   wroteFrom,
 }
 use Rattle.file_reading.specs.Tally.{endOf}
-use Rattle.program_part.proofs.ByteLaws.{put32-length}
-use Rattle.program_part.proofs.RecordLaws.{entry-fine}
+use Rattle.file_records.proofs.ByteLaws.{put32-length}
+use Rattle.file_records.proofs.RecordLaws.{entry-fine}
 
 -- ---- an entry ends past its 10
 

@@ -4,15 +4,15 @@ use mathlib.Core.Path.{_≡_}
 use mathlib.Core.Bool.{true, false, cond}
 use mathlib.Core.List.{List}
 use lib.ListN.{length, getD, set}
-use Rattle.pws.specs.Machine.{Configuration}
-use Rattle.program_part.specs.declared.program.Shape.{Shape}
-use Rattle.program_part.specs.declared.program.Refusal.{Refusal}
+use Rattle.machine_pws.specs.Machine.{Configuration}
+use Rattle.file_records.specs.declared.program.Shape.{Shape}
+use Rattle.file_records.specs.declared.program.Refusal.{Refusal}
 use Rattle.file_reading.specs.declared.list.EntryEnd.{EntryEnd}
 use Rattle.file_reading.specs.declared.list.EntryEnd.the-variants.{Next, Bad}
 use Rattle.file_reading.specs.declared.list.Tally.{Tally}
-use Rattle.program_part.specs.Records.{isKind, messageNumber, waitingNumber}
-use Rattle.whole_file.specs.EvidencePart.{EntryRead, whole, bad}
-use Rattle.whole_file.specs.Tally.{queueAt}
+use Rattle.file_records.specs.Records.{isKind, messageNumber, waitingNumber}
+use Rattle.file_contents.specs.EvidencePart.{EntryRead, whole, bad}
+use Rattle.file_contents.specs.Tally.{queueAt}
 
 -- bodyNumber by the counts
 unfoldable pub numberBy : Shape → List ℕ → ℕ → Tally → ℕ

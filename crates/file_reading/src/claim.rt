@@ -1,12 +1,12 @@
 // The claim (document 01, "Records").
 ghost use mathlib.Core.Path.{_≡_};
-ghost use Rattle.program_part.specs.Records.{checked, claimNumber};
-use program_part::bytes::cut;
-use program_part::bytes::field;
-use program_part::program::Checked;
-use program_part::record::answer;
-use program_part::record::first_number;
-use program_part::record::is_kind;
+ghost use Rattle.file_records.specs.Records.{checked, claimNumber};
+use file_records::bytes::cut;
+use file_records::bytes::field;
+use file_records::program::Checked;
+use file_records::record::answer;
+use file_records::record::first_number;
+use file_records::record::is_kind;
 
 pub(crate) fn check_claim(file: &[u8], at: usize) -> Checked
     ensures { λ r. ⌜ r ≡ checked (claimNumber (now (file .entry)) at) at ⌝ }

@@ -1,15 +1,15 @@
 // The memory that a run starts from (document 02, N3).
 ghost use mathlib.Core.Path.{_≡_};
-ghost use Rattle.program_part.specs.Records.{checked, startName, startNames, startNumber, memoryAt};
-use program_part::bytes::both;
-use program_part::bytes::cut;
-use program_part::bytes::field;
-use program_part::program::Checked;
-use program_part::program::Shape;
-use program_part::program::value_count;
-use program_part::record::answer;
-use program_part::record::first_number;
-use program_part::record::is_kind;
+ghost use Rattle.file_records.specs.Records.{checked, startName, startNames, startNumber, memoryAt};
+use file_records::bytes::both;
+use file_records::bytes::cut;
+use file_records::bytes::field;
+use file_records::program::Checked;
+use file_records::program::Shape;
+use file_records::program::value_count;
+use file_records::record::answer;
+use file_records::record::first_number;
+use file_records::record::is_kind;
 
 fn start_name(shape: Shape, variable: usize, value: u8) -> bool
     ensures { λ r. ⌜ r ≡ startName shape variable value ⌝ }

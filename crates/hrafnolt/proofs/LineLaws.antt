@@ -12,15 +12,15 @@ use lib.Seq.{paste, paste-zero, paste-suc, take-paste, take-at, take-all, length
 use borrow.Author.Tests.{eq-eqb, ne-eqb, lt-ltb, le-ltb, le-leb, leb-true}
 use Rattle.io.specs.Counts.{Counts}
 use Rattle.io.specs.Digits.{digits, Fewest}
-use Rattle.pws.specs.declared.Step.{Step}
-use Rattle.pws.specs.declared.Step.the-variants.{Take, Serialise, Update}
-use Rattle.pws.specs.Program.{Program, ProgramInRange}
-use Rattle.by_number.specs.Contents.{StepOf}
+use Rattle.machine_pws.specs.declared.Step.{Step}
+use Rattle.machine_pws.specs.declared.Step.the-variants.{Take, Serialise, Update}
+use Rattle.machine_pws.specs.Program.{Program, ProgramInRange}
+use Rattle.file_again.specs.Contents.{StepOf}
 use Rattle.drawing.specs.Text.{letters}
 use Rattle.drawing.specs.Runs.{StepInRange, stepInRange}
 use Rattle.drawing.specs.Writing.{shown}
 use Rattle.drawing.proofs.LineLaws.{letters-short}
-use Rattle.whole_file.specs.Reading.{Input, combined}
+use Rattle.file_contents.specs.Reading.{Input, combined}
 use Rattle.verdict.specs.declared.answer.Verdict as declared
 use Rattle.verdict.specs.Judge.{Verdict, safe, reachable, pso, refused, entered, judged}
 use Rattle.verdict.specs.Answers.{inC, withRecord, saidInC}

@@ -6,12 +6,12 @@ use mathlib.Core.List.{List, [], _∷_, _++_}
 use lib.ListN.{length}
 use lib.Dec.{eqb, ltb}
 use Rattle.io.specs.Digits.{digits, Fewest}
-use Rattle.pws.specs.declared.Step.{Step}
-use Rattle.pws.specs.declared.Step.the-variants.{Take, Serialise, Update}
-use Rattle.program_part.specs.Bytes.{choose}
+use Rattle.machine_pws.specs.declared.Step.{Step}
+use Rattle.machine_pws.specs.declared.Step.the-variants.{Take, Serialise, Update}
+use Rattle.file_records.specs.Bytes.{choose}
 use Rattle.drawing.specs.Text.{letters}
 use Rattle.drawing.specs.Runs.{StepInRange}
-use Rattle.whole_file.specs.Reading.{combined}
+use Rattle.file_contents.specs.Reading.{combined}
 use Rattle.verdict.specs.declared.answer.Verdict as declared
 use Rattle.verdict.specs.Judge.{Verdict, safe, reachable, pso, refused, entered, judged}
 

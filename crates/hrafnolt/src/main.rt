@@ -14,7 +14,7 @@ use drawing::step_letters;
 use judge::judge;
 use libc::STDIN_FILENO;
 use libc::STDOUT_FILENO;
-use pws::Step;
+use machine_pws::Step;
 use verdict::answer::Verdict;
 
 // Room for the longest input that is judged, and one byte more.

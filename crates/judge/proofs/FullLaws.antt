@@ -7,24 +7,24 @@ use native.Mathlib.Omega.{arith}
 use native.Mathlib.Numerals.{add-one}
 use lib.ListN.{length, getD, replicate, length-replicate, getD-replicate}
 use lib.Dec.{T}
-use Rattle.pws.specs.Program as pws
-use Rattle.pws.specs.Machine.{Configuration}
-use Rattle.pws.specs.Configurations.{StatesOf}
-use Rattle.pws.specs.Entries.{EntryOf, entry}
-use Rattle.lists.specs.Verdict.{TargetHeld, target}
-use Rattle.lists.specs.Decision.{targetHeld}
-use Rattle.lists.proofs.Verdict.{target-yes}
-use Rattle.program_part.specs.declared.program.Program.{Program}
-use Rattle.program_part.specs.Records.{stateAt}
-use Rattle.program_part.specs.ProgramPart.{shapeOf, programOf, targetsOf}
-use Rattle.whole_file.specs.Cube.{configurationOf}
-use Rattle.by_number.specs.Again.{cubeAt, entriesOf, targetOf}
-use Rattle.by_number.proofs.Tables.{table-length}
-use Rattle.by_number.proofs.Again.{target-again}
-use Rattle.full_states.specs.Table.{fourAt, Full, withStates}
-use Rattle.full_states.proofs.TableLaws.{four-is, full-put}
-use Rattle.families.specs.Family.{Families}
-use Rattle.families.proofs.TableLaws.{families-none}
+use Rattle.machine_pws.specs.Program as pws
+use Rattle.machine_pws.specs.Machine.{Configuration}
+use Rattle.machine_pws.specs.Configurations.{StatesOf}
+use Rattle.machine_pws.specs.Entries.{EntryOf, entry}
+use Rattle.list_theory.specs.Verdict.{TargetHeld, target}
+use Rattle.list_theory.specs.Decision.{targetHeld}
+use Rattle.list_theory.proofs.Verdict.{target-yes}
+use Rattle.file_records.specs.declared.program.Program.{Program}
+use Rattle.file_records.specs.Records.{stateAt}
+use Rattle.file_records.specs.ProgramPart.{shapeOf, programOf, targetsOf}
+use Rattle.file_contents.specs.Cube.{configurationOf}
+use Rattle.file_again.specs.Again.{cubeAt, entriesOf, targetOf}
+use Rattle.file_again.proofs.Tables.{table-length}
+use Rattle.file_again.proofs.Again.{target-again}
+use Rattle.list_full.specs.Table.{fourAt, Full, withStates}
+use Rattle.list_full.proofs.TableLaws.{four-is, full-put}
+use Rattle.list_families.specs.Family.{Families}
+use Rattle.list_families.proofs.TableLaws.{families-none}
 use Rattle.judge.specs.Ready.{Ready, TargetsHeld, Shuts, heldTest, closedTest, withTargets}
 use Rattle.judge.proofs.LowestLaws.{SoFar, so-far-begin}
 use Rattle.judge.proofs.ShutLaws.{shuts-none}

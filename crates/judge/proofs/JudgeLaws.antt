@@ -8,30 +8,30 @@ use lib.ListN.{length, take, drop, replicate, length-drop, drop-of-length-le}
 use lib.Seq.{length-take-le}
 use lib.Dec.{eqb, leb}
 use borrow.Author.Tests.{eq-eqb, ne-eqb, lt-leb}
-use Rattle.pws.specs.declared.Step.{Step}
-use Rattle.pws.specs.Program as pws
-use Rattle.program_part.specs.declared.program.Refusal.{Refusal}
-use Rattle.program_part.specs.declared.program.Checked.the-variants.{Fine, Refused}
-use Rattle.program_part.specs.declared.program.Program.{Program}
-use Rattle.whole_file.specs.declared.evidence.Part.the-variants.{InProgram, InEvidence}
-use Rattle.whole_file.specs.declared.evidence.Reading.{Reading}
-use Rattle.pws.specs.Machine.{Configuration}
-use Rattle.lists.specs.Decision as decision
-use Rattle.program_part.specs.ProgramPart.{refusalOf, programOf, targetsOf}
-use Rattle.whole_file.specs.EvidencePart.{stepsOf, entriesAllowed}
-use Rattle.whole_file.specs.Cube.{configurationOf}
-use Rattle.whole_file.specs.Reading as reading
-use Rattle.whole_file.specs.Reading.{Input}
-use Rattle.by_number.specs.Again.{cubeAt, entriesOf}
-use Rattle.by_number.specs.Contents.{RunRead}
-use Rattle.by_number.specs.Offending.{endOfFile, isOfRecord, offendingBy, offending}
-use Rattle.by_number.proofs.OffendingLaws.{of-other}
-use Rattle.by_number.proofs.Tables.{table-length}
-use Rattle.by_number.proofs.Rows.{steps-length}
-use Rattle.by_number.proofs.Contents.{list-read, run-read, pso-run-read}
-use Rattle.by_number.proofs.Again.{reading-refused, reading-sizes, reading-run, reading-list, reading-count, reading-cube}
-use Rattle.replay.specs.Answers.{runAnswer}
-use Rattle.psoreplay.specs.Answers.{psoSteps, psoRunAnswer}
+use Rattle.machine_pws.specs.declared.Step.{Step}
+use Rattle.machine_pws.specs.Program as pws
+use Rattle.file_records.specs.declared.program.Refusal.{Refusal}
+use Rattle.file_records.specs.declared.program.Checked.the-variants.{Fine, Refused}
+use Rattle.file_records.specs.declared.program.Program.{Program}
+use Rattle.file_contents.specs.declared.evidence.Part.the-variants.{InProgram, InEvidence}
+use Rattle.file_contents.specs.declared.evidence.Reading.{Reading}
+use Rattle.machine_pws.specs.Machine.{Configuration}
+use Rattle.list_theory.specs.Decision as decision
+use Rattle.file_records.specs.ProgramPart.{refusalOf, programOf, targetsOf}
+use Rattle.file_contents.specs.EvidencePart.{stepsOf, entriesAllowed}
+use Rattle.file_contents.specs.Cube.{configurationOf}
+use Rattle.file_contents.specs.Reading as reading
+use Rattle.file_contents.specs.Reading.{Input}
+use Rattle.file_again.specs.Again.{cubeAt, entriesOf}
+use Rattle.file_again.specs.Contents.{RunRead}
+use Rattle.file_again.specs.Offending.{endOfFile, isOfRecord, offendingBy, offending}
+use Rattle.file_again.proofs.OffendingLaws.{of-other}
+use Rattle.file_again.proofs.Tables.{table-length}
+use Rattle.file_again.proofs.Rows.{steps-length}
+use Rattle.file_again.proofs.Contents.{list-read, run-read, pso-run-read}
+use Rattle.file_again.proofs.Again.{reading-refused, reading-sizes, reading-run, reading-list, reading-count, reading-cube}
+use Rattle.run_replay.specs.Answers.{runAnswer}
+use Rattle.pso_replay.specs.Answers.{psoSteps, psoRunAnswer}
 use Rattle.verdict.specs.declared.answer.Answer.{Answer}
 use Rattle.verdict.specs.declared.answer.Answer.the-variants.{Safe, Reachable, Pso, Unread, Unheld, Started, Entered, Stopped, Missed}
 use Rattle.verdict.specs.declared.answer.Verdict as declared
@@ -40,7 +40,7 @@ use Rattle.verdict.specs.Answers.{verdictIn, offendingIn, answerInC, saidInC, A
 use Rattle.judge.specs.Ready.{Listed, ListReady, slotsCleared, listSaid}
 use Rattle.verdict.proofs.AreaLaws.{few, upper-part, reading-kept, replay-kept, list-kept}
 use Rattle.judge.proofs.SummaryLaws.{listed-taken, said-taken, done-kept}
-use Rattle.summary.specs.Groups.{summarised}
+use Rattle.list_summary.specs.Groups.{summarised}
 use Rattle.verdict.proofs.Verdicts.{code, run-is, pso-is, run-high, list-code, short-file, judged-one}
 
 pub short-said : (x : Input) (area : ℕ) → area < 65536 → refused 8 0 ≡ judged x area

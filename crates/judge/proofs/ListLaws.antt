@@ -6,30 +6,30 @@ use mathlib.Core.Option.{Option, none, some}
 use mathlib.Core.List.{List}
 use native.Mathlib.Omega.{arith}
 use lib.ListN.{length, getD}
-use Rattle.pws.specs.declared.Step.{Step}
-use Rattle.pws.specs.Program as pws
-use Rattle.pws.specs.Machine.{Configuration}
-use Rattle.pws.specs.Configurations.{Fits}
-use Rattle.pws.specs.Entries.{ValueOrFF, EntryOf, noEntry, entry}
-use Rattle.lists.specs.Lists.{lowest}
-use Rattle.lists.specs.Verdict as lists
-use Rattle.lists.specs.Verdict.{noTarget}
-use Rattle.lists.specs.Decision.{targetHeld, looksStarted, closed, openStep}
-use Rattle.program_part.specs.declared.program.Program.{Program}
-use Rattle.whole_file.specs.declared.entry.Cube.{Cube}
-use Rattle.program_part.specs.Records.{stateAt}
-use Rattle.program_part.specs.ProgramPart.{shapeOf, programOf, targetsOf}
-use Rattle.whole_file.specs.Cube.{configurationOf}
-use Rattle.by_number.specs.Again.{cubeAt, entriesOf, targetOf}
-use Rattle.by_number.proofs.Tables.{table-length, table-number}
-use Rattle.by_number.proofs.Again.{target-again}
-use Rattle.targets.specs.Sizes.{Small, startsOf}
-use Rattle.targets.specs.Walk.{Searches}
-use Rattle.closing.specs.declared.Opening.{Opening}
-use Rattle.closing.specs.declared.Opening.the-variants.{Shut, Through}
-use Rattle.closing.specs.Walk.{LowestFailing, Walkable, openingOf}
-use Rattle.closing.proofs.StepLaws.{walkable}
-use Rattle.closing.proofs.WalkLaws.{opening-through, opening-shut}
+use Rattle.machine_pws.specs.declared.Step.{Step}
+use Rattle.machine_pws.specs.Program as pws
+use Rattle.machine_pws.specs.Machine.{Configuration}
+use Rattle.machine_pws.specs.Configurations.{Fits}
+use Rattle.machine_pws.specs.Entries.{ValueOrFF, EntryOf, noEntry, entry}
+use Rattle.list_theory.specs.Lists.{lowest}
+use Rattle.list_theory.specs.Verdict as lists
+use Rattle.list_theory.specs.Verdict.{noTarget}
+use Rattle.list_theory.specs.Decision.{targetHeld, looksStarted, closed, openStep}
+use Rattle.file_records.specs.declared.program.Program.{Program}
+use Rattle.file_contents.specs.declared.entry.Cube.{Cube}
+use Rattle.file_records.specs.Records.{stateAt}
+use Rattle.file_records.specs.ProgramPart.{shapeOf, programOf, targetsOf}
+use Rattle.file_contents.specs.Cube.{configurationOf}
+use Rattle.file_again.specs.Again.{cubeAt, entriesOf, targetOf}
+use Rattle.file_again.proofs.Tables.{table-length, table-number}
+use Rattle.file_again.proofs.Again.{target-again}
+use Rattle.list_targets.specs.Sizes.{Small, startsOf}
+use Rattle.list_targets.specs.Walk.{Searches}
+use Rattle.list_closing.specs.declared.Opening.{Opening}
+use Rattle.list_closing.specs.declared.Opening.the-variants.{Shut, Through}
+use Rattle.list_closing.specs.Walk.{LowestFailing, Walkable, openingOf}
+use Rattle.list_closing.proofs.StepLaws.{walkable}
+use Rattle.list_closing.proofs.WalkLaws.{opening-through, opening-shut}
 use Rattle.verdict.specs.Judge.{Verdict, refused, safe, entered, ofList}
 use Rattle.judge.specs.Ready.{Ready, heldTest, startTest, closedTest, enteredSaid, listSaid}
 use Rattle.judge.proofs.LowestLaws.{SoFar, so-far-fails, so-far-all, lowest-some, lowest-none}

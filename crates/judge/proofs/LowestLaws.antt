@@ -8,9 +8,9 @@ use native.Mathlib.Omega.{arith}
 use native.Mathlib.Decide.{decLt, ℕ-discrete}
 use lib.ListN.{length, getD}
 use lib.Dec.{T}
-use Rattle.lists.specs.Lists.{lowest}
-use Rattle.lists.proofs.Lists.{Lowest, fails, passes, lowest-is}
-use Rattle.closing.specs.Walk.{LowestFailing}
+use Rattle.list_theory.specs.Lists.{lowest}
+use Rattle.list_theory.proofs.Lists.{Lowest, fails, passes, lowest-is}
+use Rattle.list_closing.specs.Walk.{LowestFailing}
 
 -- ---- the loop
 

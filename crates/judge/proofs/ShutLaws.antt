@@ -6,17 +6,17 @@ use mathlib.Core.Logic.{⊎-elim}
 use mathlib.Core.List.{List}
 use native.Mathlib.Omega.{arith}
 use lib.ListN.{length, getD, replicate, length-replicate, getD-replicate}
-use Rattle.pws.specs.Machine.{Configuration}
-use Rattle.pws.specs.Entries.{EntryOf}
-use Rattle.program_part.specs.declared.program.Program.{Program}
-use Rattle.program_part.specs.ProgramPart.{programOf}
-use Rattle.whole_file.specs.Cube.{configurationOf}
-use Rattle.by_number.specs.Again.{cubeAt, entriesOf}
-use Rattle.full_states.specs.Table.{fourAt, Full, Among, withStates}
-use Rattle.full_states.proofs.TableLaws.{four-is, among-put}
-use Rattle.closing.specs.declared.Opening.the-variants.{Shut}
-use Rattle.closing.specs.Walk.{Surrounded}
-use Rattle.closing.proofs.FullLaws.{surrounded-shut}
+use Rattle.machine_pws.specs.Machine.{Configuration}
+use Rattle.machine_pws.specs.Entries.{EntryOf}
+use Rattle.file_records.specs.declared.program.Program.{Program}
+use Rattle.file_records.specs.ProgramPart.{programOf}
+use Rattle.file_contents.specs.Cube.{configurationOf}
+use Rattle.file_again.specs.Again.{cubeAt, entriesOf}
+use Rattle.list_full.specs.Table.{fourAt, Full, Among, withStates}
+use Rattle.list_full.proofs.TableLaws.{four-is, among-put}
+use Rattle.list_closing.specs.declared.Opening.the-variants.{Shut}
+use Rattle.list_closing.specs.Walk.{Surrounded}
+use Rattle.list_closing.proofs.FullLaws.{surrounded-shut}
 use Rattle.judge.specs.Ready.{Ready, Shuts, closedTest}
 use Rattle.judge.proofs.ListLaws.{entry-is, closed-here}
 

@@ -8,23 +8,23 @@ use lib.ListN.{length, getD, set, take, drop, replicate, length-append, length-d
 use lib.Seq.{length-take-le, take-at, drop-at, drop-drop, getD-take, take-all}
 use lib.Dec.{eqb, leb, ltb}
 use borrow.Author.Tests.{le-leb, ltb-false, eqb-false}
-use Rattle.pws.specs.Machine.{Configuration}
-use Rattle.pws.specs.Entries.{entry}
-use Rattle.program_part.specs.declared.program.Program.{Program}
-use Rattle.program_part.specs.declared.program.Shape.{Shape}
-use Rattle.whole_file.specs.declared.entry.Cube.{Cube}
-use Rattle.program_part.specs.Bytes.{choose, byte, le32, put32}
-use Rattle.program_part.specs.ProgramPart.{tableFrom, programOf, targetsOf}
-use Rattle.lists.specs.Decision.{verdictOf}
-use Rattle.whole_file.specs.Cube.{configurationOf, loadEntry}
-use Rattle.by_number.specs.Again.{offsetAt, cubeAt, entriesOf}
-use Rattle.by_number.specs.Contents.{EntryRange, CubeRange}
-use Rattle.matching.specs.Number.{numberOf, statesMixed}
-use Rattle.summary.specs.Slots.{word, putWord, linked, headLink, nextLink, countAt, hung, putField, homeOf, markIn}
-use Rattle.summary.specs.Groups.{statesAt, sameStates, leaderFrom, leaderOf, joinedAt, added, addedFrom, summarised}
-use Rattle.summary.specs.Summary.{Summed}
-use Rattle.summary.proofs.ChainLaws.{home-below}
-use Rattle.summary.proofs.AddedLaws.{all-added}
+use Rattle.machine_pws.specs.Machine.{Configuration}
+use Rattle.machine_pws.specs.Entries.{entry}
+use Rattle.file_records.specs.declared.program.Program.{Program}
+use Rattle.file_records.specs.declared.program.Shape.{Shape}
+use Rattle.file_contents.specs.declared.entry.Cube.{Cube}
+use Rattle.file_records.specs.Bytes.{choose, byte, le32, put32}
+use Rattle.file_records.specs.ProgramPart.{tableFrom, programOf, targetsOf}
+use Rattle.list_theory.specs.Decision.{verdictOf}
+use Rattle.file_contents.specs.Cube.{configurationOf, loadEntry}
+use Rattle.file_again.specs.Again.{offsetAt, cubeAt, entriesOf}
+use Rattle.file_again.specs.Contents.{EntryRange, CubeRange}
+use Rattle.list_key.specs.Number.{numberOf, statesMixed}
+use Rattle.list_summary.specs.Slots.{word, putWord, linked, headLink, nextLink, countAt, hung, putField, homeOf, markIn}
+use Rattle.list_summary.specs.Groups.{statesAt, sameStates, leaderFrom, leaderOf, joinedAt, added, addedFrom, summarised}
+use Rattle.list_summary.specs.Summary.{Summed}
+use Rattle.list_summary.proofs.ChainLaws.{home-below}
+use Rattle.list_summary.proofs.AddedLaws.{all-added}
 use Rattle.verdict.specs.Judge.{ofList}
 use Rattle.judge.specs.Ready.{Listed, ListReady, Ready, slotsCleared, listSaid}
 

@@ -5,16 +5,16 @@ use mathlib.Core.Bool.{Bool, true, not}
 use mathlib.Core.Option.{none, some}
 use mathlib.Core.List.{List, _++_}
 use lib.ListN.{length, take, drop, replicate}
-use Rattle.pws.specs.Entries.{entry}
-use Rattle.lists.specs.Lists.{lowest}
-use Rattle.lists.specs.Verdict.{target}
-use Rattle.lists.specs.Decision.{targetHeld, looksStarted, closed, openStep, verdictOf}
-use Rattle.program_part.specs.declared.program.Program.{Program}
-use Rattle.program_part.specs.ProgramPart.{programOf, targetsOf}
-use Rattle.by_number.specs.Again.{cubeAt, entriesOf, targetOf}
-use Rattle.full_states.specs.Table.{fourAt, withStates}
-use Rattle.by_number.specs.Contents.{ProgramPartRead, EntryRange, ProgramSizes, CubeRange}
-use Rattle.summary.specs.Summary.{Summed}
+use Rattle.machine_pws.specs.Entries.{entry}
+use Rattle.list_theory.specs.Lists.{lowest}
+use Rattle.list_theory.specs.Verdict.{target}
+use Rattle.list_theory.specs.Decision.{targetHeld, looksStarted, closed, openStep, verdictOf}
+use Rattle.file_records.specs.declared.program.Program.{Program}
+use Rattle.file_records.specs.ProgramPart.{programOf, targetsOf}
+use Rattle.file_again.specs.Again.{cubeAt, entriesOf, targetOf}
+use Rattle.list_full.specs.Table.{fourAt, withStates}
+use Rattle.file_again.specs.Contents.{ProgramPartRead, EntryRange, ProgramSizes, CubeRange}
+use Rattle.list_summary.specs.Summary.{Summed}
 use Rattle.verdict.specs.Judge.{Verdict, safe, entered, ofList}
 
 -- a list of n entries, as it was read

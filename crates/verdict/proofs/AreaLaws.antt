@@ -8,18 +8,18 @@ use lib.ListN.{length, set, take, drop, replicate, length-replicate, length-drop
 use lib.Seq.{length-take-le, take-all, drop-at, drop-drop}
 use lib.Dec.{eqb, leb}
 use borrow.Author.Tests.{lt-ltb, le-ltb}
-use Rattle.pws.specs.Machine.{Configuration}
-use Rattle.program_part.specs.declared.program.Shape.{Shape}
-use Rattle.program_part.specs.declared.program.Checked.{Checked}
-use Rattle.program_part.specs.declared.program.Checked.the-variants.{Fine, Refused}
-use Rattle.program_part.specs.declared.program.Program.{Program}
-use Rattle.program_part.specs.Bytes.{choose, byte, put32}
-use Rattle.program_part.specs.Records.{checked, claimNumber, startNumber, entryNumber}
-use Rattle.program_part.specs.ProgramPart.{unlessEnd, programFrom}
-use Rattle.whole_file.specs.EvidencePart.{EntryRead, whole, bad, entryRead, EntriesRead, headThen, entryThen, entriesFrom, entriesAllowed, wroteFrom}
-use Rattle.whole_file.specs.Reading as reading
-use Rattle.whole_file.specs.Reading.{Input, evidenceAt, Evidence, refusal, entries, steps, claimThen, runEvidence, evidenceFrom, Parts, partsOf, evidenceArea}
-use Rattle.whole_file.proofs.ReadingLaws.{parts-refused, parts-both}
+use Rattle.machine_pws.specs.Machine.{Configuration}
+use Rattle.file_records.specs.declared.program.Shape.{Shape}
+use Rattle.file_records.specs.declared.program.Checked.{Checked}
+use Rattle.file_records.specs.declared.program.Checked.the-variants.{Fine, Refused}
+use Rattle.file_records.specs.declared.program.Program.{Program}
+use Rattle.file_records.specs.Bytes.{choose, byte, put32}
+use Rattle.file_records.specs.Records.{checked, claimNumber, startNumber, entryNumber}
+use Rattle.file_records.specs.ProgramPart.{unlessEnd, programFrom}
+use Rattle.file_contents.specs.EvidencePart.{EntryRead, whole, bad, entryRead, EntriesRead, headThen, entryThen, entriesFrom, entriesAllowed, wroteFrom}
+use Rattle.file_contents.specs.Reading as reading
+use Rattle.file_contents.specs.Reading.{Input, evidenceAt, Evidence, refusal, entries, steps, claimThen, runEvidence, evidenceFrom, Parts, partsOf, evidenceArea}
+use Rattle.file_contents.proofs.ReadingLaws.{parts-refused, parts-both}
 use Rattle.verdict.specs.Judge.{usedOf, areaAfter}
 
 pub each-choice : {A : Type 0} (F : A → Type 0) (b : Bool) (x y : Unit {0} → A) → F (x tt) → F (y tt) → F (choose b x y)

@@ -8,27 +8,27 @@ use lib.ListN.{length}
 use lib.Dec.{T, eqb, leb, ltb, ltb→lt}
 use borrow.Author.Tests.{leb-true}
 use mir.Facts.{and-yes}
-use Rattle.pws.specs.declared.Step.{Step}
-use Rattle.pws.specs.declared.Step.the-variants.{Take, Serialise, Update}
-use Rattle.pws.specs.Program.{Program, ProgramInRange, transition}
-use Rattle.pws.specs.Machine.{Configuration, may, mayTake, isEmpty}
-use Rattle.lists.specs.Verdict as lists
-use Rattle.lists.specs.Decision as decision
-use Rattle.lists.proofs.Verdict.{verdict-unique, verdict-judged}
-use Rattle.whole_file.specs.declared.evidence.Part.{Part}
-use Rattle.whole_file.specs.declared.evidence.Part.the-variants.{InProgram}
-use Rattle.whole_file.specs.Reading as reading
-use Rattle.whole_file.specs.Reading.{Input}
-use Rattle.whole_file.proofs.ReadingLaws.{parts-short}
-use Rattle.by_number.specs.Contents.{ListRead, StepOf}
-use Rattle.by_number.specs.Offending.{offendingBy, partBy}
-use Rattle.by_number.proofs.OffendingLaws.{part-by}
-use Rattle.by_number.proofs.Contents.{list-read}
-use Rattle.causes.specs.declared.Cause.the-variants.{State, Queue, Pointer, Value, Nothing}
-use Rattle.last_test.specs.declared.RunAnswer.{RunAnswer}
-use Rattle.last_test.specs.declared.RunAnswer.the-variants.{Reachable, Stopped, Missed}
-use Rattle.replay.specs.Answers.{runAnswer}
-use Rattle.psoreplay.specs.Answers.{psoSteps, psoRunAnswer}
+use Rattle.machine_pws.specs.declared.Step.{Step}
+use Rattle.machine_pws.specs.declared.Step.the-variants.{Take, Serialise, Update}
+use Rattle.machine_pws.specs.Program.{Program, ProgramInRange, transition}
+use Rattle.machine_pws.specs.Machine.{Configuration, may, mayTake, isEmpty}
+use Rattle.list_theory.specs.Verdict as lists
+use Rattle.list_theory.specs.Decision as decision
+use Rattle.list_theory.proofs.Verdict.{verdict-unique, verdict-judged}
+use Rattle.file_contents.specs.declared.evidence.Part.{Part}
+use Rattle.file_contents.specs.declared.evidence.Part.the-variants.{InProgram}
+use Rattle.file_contents.specs.Reading as reading
+use Rattle.file_contents.specs.Reading.{Input}
+use Rattle.file_contents.proofs.ReadingLaws.{parts-short}
+use Rattle.file_again.specs.Contents.{ListRead, StepOf}
+use Rattle.file_again.specs.Offending.{offendingBy, partBy}
+use Rattle.file_again.proofs.OffendingLaws.{part-by}
+use Rattle.file_again.proofs.Contents.{list-read}
+use Rattle.run_causes.specs.declared.Cause.the-variants.{State, Queue, Pointer, Value, Nothing}
+use Rattle.run_last_test.specs.declared.RunAnswer.{RunAnswer}
+use Rattle.run_last_test.specs.declared.RunAnswer.the-variants.{Reachable, Stopped, Missed}
+use Rattle.run_replay.specs.Answers.{runAnswer}
+use Rattle.pso_replay.specs.Answers.{psoSteps, psoRunAnswer}
 use Rattle.verdict.specs.declared.answer.Answer.{Answer}
 use Rattle.verdict.specs.declared.answer.Found.{Found}
 use Rattle.verdict.specs.declared.answer.Verdict as declared

@@ -4,17 +4,17 @@ use mathlib.Core.Path.{_≡_}
 use mathlib.Core.Bool.{Bool, cond}
 use mathlib.Core.List.{List}
 use lib.ListN.{length}
-use Rattle.pws.specs.declared.Step.{Step}
-use Rattle.pws.specs.declared.Step.the-variants.{Take, Serialise, Update}
+use Rattle.machine_pws.specs.declared.Step.{Step}
+use Rattle.machine_pws.specs.declared.Step.the-variants.{Take, Serialise, Update}
 use Rattle.verdict.specs.declared.answer.Answer.{Answer}
 use Rattle.verdict.specs.declared.answer.Answer.the-variants.{Safe, Reachable, Pso, Unread, Unheld, Started, Entered, Stopped, Missed}
 use Rattle.verdict.specs.declared.answer.Found.{Found}
 use Rattle.verdict.specs.declared.answer.Verdict as declared
-use Rattle.whole_file.specs.declared.evidence.Part.{Part}
-use Rattle.whole_file.specs.declared.evidence.Part.the-variants.{InProgram, InEvidence}
-use Rattle.whole_file.specs.Reading.{Input, readFile}
-use Rattle.by_number.specs.Offending.{Offending, offendingBy, offending}
-use Rattle.causes.specs.Causes.{causeNumber}
+use Rattle.file_contents.specs.declared.evidence.Part.{Part}
+use Rattle.file_contents.specs.declared.evidence.Part.the-variants.{InProgram, InEvidence}
+use Rattle.file_contents.specs.Reading.{Input, readFile}
+use Rattle.file_again.specs.Offending.{Offending, offendingBy, offending}
+use Rattle.run_causes.specs.Causes.{causeNumber}
 use Rattle.verdict.specs.Judge.{Verdict, safe, reachable, pso, refused, entered, Judged, judged}
 
 abbrev pub verdictIn : Answer → Verdict

@@ -5,17 +5,17 @@ use mathlib.Core.Path.{_≡_}
 use mathlib.Core.List.{List, _++_}
 use lib.ListN.{length, drop, replicate}
 use lib.Dec.{ltb}
-use Rattle.pws.specs.declared.Step.{Step}
-use Rattle.lists.specs.Verdict as lists
-use Rattle.lists.specs.Decision as decision
-use Rattle.program_part.specs.Bytes.{choose}
-use Rattle.whole_file.specs.EvidencePart.{entriesAllowed}
-use Rattle.whole_file.specs.Reading as reading
-use Rattle.last_test.specs.declared.RunAnswer.{RunAnswer}
-use Rattle.last_test.specs.declared.RunAnswer.the-variants.{Reachable, Stopped, Missed}
-use Rattle.causes.specs.Causes.{causeNumber}
-use Rattle.replay.specs.Answers.{runAnswer}
-use Rattle.psoreplay.specs.Answers.{psoSteps, psoRunAnswer}
+use Rattle.machine_pws.specs.declared.Step.{Step}
+use Rattle.list_theory.specs.Verdict as lists
+use Rattle.list_theory.specs.Decision as decision
+use Rattle.file_records.specs.Bytes.{choose}
+use Rattle.file_contents.specs.EvidencePart.{entriesAllowed}
+use Rattle.file_contents.specs.Reading as reading
+use Rattle.run_last_test.specs.declared.RunAnswer.{RunAnswer}
+use Rattle.run_last_test.specs.declared.RunAnswer.the-variants.{Reachable, Stopped, Missed}
+use Rattle.run_causes.specs.Causes.{causeNumber}
+use Rattle.run_replay.specs.Answers.{runAnswer}
+use Rattle.pso_replay.specs.Answers.{psoSteps, psoRunAnswer}
 
 pub data Verdict : Type 0 where
   -- the number of entries

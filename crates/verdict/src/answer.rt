@@ -1,18 +1,18 @@
 // The answers of the judge, and the verdict as C has it.
 ghost use mathlib.Core.Path.{_≡_};
 ghost use Rattle.verdict.specs.Judge.{entered};
-ghost use Rattle.whole_file.specs.declared.evidence.Part.the-variants.{InEvidence};
-ghost use Rattle.whole_file.specs.Reading.{input};
+ghost use Rattle.file_contents.specs.declared.evidence.Part.the-variants.{InEvidence};
+ghost use Rattle.file_contents.specs.Reading.{input};
 ghost use Rattle.verdict.specs.Answers.{verdictIn, stepless, enteredBy, inC, foundIn, offendingIn, fileNumber, withRecord, answerInC};
-use by_number::offending::offending;
-use by_number::offending::offending_part;
-use by_number::offending::offending_place;
-use causes::Cause;
-use causes::cause_number;
-use last_test::RunAnswer;
-use program_part::program::Refusal;
-use pws::Step;
-use whole_file::evidence::Part;
+use file_again::offending::offending;
+use file_again::offending::offending_part;
+use file_again::offending::offending_place;
+use file_contents::evidence::Part;
+use file_records::program::Refusal;
+use machine_pws::Step;
+use run_causes::Cause;
+use run_causes::cause_number;
+use run_last_test::RunAnswer;
 
 // The number and the values of each are given by `verdictIn`.
 pub enum Answer {

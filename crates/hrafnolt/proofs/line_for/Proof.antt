@@ -1,7 +1,7 @@
 use mathlib.Core.Path.{refl, sym}
 use lib.ListN.{length}
 use borrow.Author.Needs.{needs}
-use Rattle.whole_file.specs.Reading.{combined}
+use Rattle.file_contents.specs.Reading.{combined}
 use Rattle.verdict.specs.Judge.{refused, judged}
 use Rattle.hrafnolt.proofs.LineLaws.{judged-known, over-said, judged-said, bare}
 use Rattle.hrafnolt.proofs.line_for.Statement.{statement}

@@ -8,7 +8,7 @@ use Rattle.judge.proofs.clear_slots.Statement.{statement}
 use Rattle.judge.proofs.clear_slots.Tie as tie
 use Rattle.judge.proofs.clear_slots.Reads as reads
 use Rattle.judge.proofs.clear_slots.Lts as lts
-use Rattle.layout.proofs.area.clear.Reads as clear-reads
+use Rattle.run_layout.proofs.area.clear.Reads as clear-reads
 
 -- from `at` to the end of n slots
 span : (at n r : ℕ) → n ≤ 524288 → r ≡ (8 * n) % 18446744073709551616 → at + r - at ≡ 8 * n

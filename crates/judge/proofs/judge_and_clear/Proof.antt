@@ -4,7 +4,7 @@ use mathlib.Core.List.{_++_}
 use native.Mathlib.Omega.{arith}
 use lib.ListN.{length, drop, replicate}
 use borrow.Author.Needs.{needs}
-use Rattle.whole_file.specs.Reading.{input}
+use Rattle.file_contents.specs.Reading.{input}
 use Rattle.verdict.proofs.AreaLaws.{used-fits, cleared-all, untouched}
 use Rattle.judge.proofs.JudgeLaws.{short-said, short-offending}
 use Rattle.judge.proofs.judge_and_clear.Statement.{statement}

@@ -2,7 +2,7 @@ use mathlib.Core.Path.{sym}
 use native.Mathlib.Omega.{arith}
 use lib.Seq.{length-take-le}
 use Rattle.verdict.proofs.AreaLaws.{upper-same}
-use Rattle.whole_file.specs.Reading.{input}
+use Rattle.file_contents.specs.Reading.{input}
 use Rattle.judge.proofs.JudgeLaws.{unread-returned, upper-ready, list-returned, run-returned}
 use native.Mathlib.Omega.{arith}
 use borrow.Author.Needs.{needs}
@@ -14,7 +14,7 @@ use Rattle.judge.proofs.replay_answer.Reads as replay-answer-reads
 use Rattle.judge.proofs.list_judged.Reads as list-judged-reads
 use Rattle.judge.proofs.summary_place.Reads as summary-place-reads
 use Rattle.file_reading.proofs.evidence.read.Reads as read-reads
-use Rattle.program_part.proofs.program.refusal_of.Reads as refusal-of-reads
+use Rattle.file_records.proofs.program.refusal_of.Reads as refusal-of-reads
 
 -- src/lib.rt:78:9
 read-requires : tie.Need-read-requires

@@ -1,6 +1,6 @@
 use lib.ListN.{length}
 use borrow.Author.Needs.{needs}
-use Rattle.whole_file.specs.Reading.{input}
+use Rattle.file_contents.specs.Reading.{input}
 use Rattle.judge.proofs.JudgeLaws.{shown-said}
 use Rattle.judge.proofs.judge_input.Statement.{statement}
 use Rattle.judge.proofs.judge_input.Tie as tie

@@ -1,6 +1,6 @@
 use lib.ListN.{length}
 use borrow.Author.Needs.{needs}
-use Rattle.whole_file.specs.Reading.{combined, pair}
+use Rattle.file_contents.specs.Reading.{combined, pair}
 use Rattle.judge.proofs.JudgeLaws.{answered}
 use Rattle.judge.proofs.judge_pair.Statement.{statement}
 use Rattle.judge.proofs.judge_pair.Tie as tie

@@ -8,7 +8,7 @@ use Rattle.judge.proofs.list_judged.Reads as reads
 use Rattle.judge.proofs.list_judged.Lts as lts
 use Rattle.judge.proofs.clear_slots.Reads as clear-slots-reads
 use Rattle.judge.proofs.summed_answer.Reads as summed-answer-reads
-use Rattle.summary.proofs.summarise.Reads as summarise-reads
+use Rattle.list_summary.proofs.summarise.Reads as summarise-reads
 
 -- src/lib.rt:66:5
 clear-slots-requires : tie.Need-clear-slots-requires

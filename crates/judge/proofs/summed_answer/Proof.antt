@@ -1,6 +1,6 @@
 use mathlib.Core.Path.{sym}
 use lib.Seq.{length-take-le}
-use Rattle.summary.proofs.WalkLaws.{rest-part}
+use Rattle.list_summary.proofs.WalkLaws.{rest-part}
 use native.Mathlib.Omega.{arith}
 use borrow.Author.Needs.{needs}
 use Rattle.judge.proofs.summed_answer.Statement.{statement}

@@ -1,4 +1,4 @@
-use Rattle.pws.specs.declared.Step.the-variants.{Serialise}
+use Rattle.machine_pws.specs.declared.Step.the-variants.{Serialise}
 use Rattle.drawing.specs.declared.label.EdgeRead.the-variants.{Edge}
 use Rattle.drawing.specs.Reading.{variableAt}
 use mathlib.Core.Path.{sym, ap, _∙_}

@@ -1,8 +1,8 @@
-use Rattle.program_part.specs.declared.program.Counted.the-variants.{Records, Stopped}
-use Rattle.program_part.specs.declared.program.Refusal.{Refusal}
-use Rattle.program_part.specs.declared.program.Shape.{Shape}
-use Rattle.program_part.specs.ProgramPart.{stopOf}
-use Rattle.whole_file.specs.EvidencePart.{stepsFrom, stepsOf}
+use Rattle.file_records.specs.declared.program.Counted.the-variants.{Records, Stopped}
+use Rattle.file_records.specs.declared.program.Refusal.{Refusal}
+use Rattle.file_records.specs.declared.program.Shape.{Shape}
+use Rattle.file_records.specs.ProgramPart.{stopOf}
+use Rattle.file_contents.specs.EvidencePart.{stepsFrom, stepsOf}
 use Rattle.drawing.specs.Text.{text}
 use Rattle.drawing.specs.Runs.{fullShape}
 use Rattle.drawing.specs.Writing.{refused, drawingOf}

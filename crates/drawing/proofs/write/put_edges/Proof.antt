@@ -1,5 +1,5 @@
 use Rattle.drawing.specs.Text.{edgeLine}
-use Rattle.pws.specs.declared.Step.{Step}
+use Rattle.machine_pws.specs.declared.Step.{Step}
 use Rattle.drawing.specs.Runs.{StepInRange}
 use Rattle.drawing.proofs.RowLaws.{EdgesPut, edges-begin, edges-fine, edges-room, edges-put, edges-end, partly-same}
 use lib.ListN.{length}

@@ -1,7 +1,7 @@
 use Rattle.drawing.proofs.NumberLaws.{decimal-short}
 use Rattle.drawing.specs.Text.{edgeLine}
-use Rattle.pws.specs.declared.Step.{Step}
-use Rattle.program_part.specs.Records.{stepBody}
+use Rattle.machine_pws.specs.declared.Step.{Step}
+use Rattle.file_records.specs.Records.{stepBody}
 use Rattle.drawing.specs.Runs.{StepInRange}
 use Rattle.drawing.proofs.LineLaws.{Counting, count-begin, count-next, count-end, fine-next, edge-length}
 use lib.ListN.{length}

@@ -1,4 +1,4 @@
-use Rattle.program_part.specs.Records.{claimNumber}
+use Rattle.file_records.specs.Records.{claimNumber}
 use borrow.Author.Needs.{needs}
 use Rattle.file_reading.proofs.claim.check_claim.Statement.{statement}
 use Rattle.file_reading.proofs.claim.check_claim.Tie as tie

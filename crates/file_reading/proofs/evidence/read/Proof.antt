@@ -1,10 +1,10 @@
-use Rattle.whole_file.proofs.ReadingLaws.{shape-range, parts-short, parts-refused, parts-both}
-use Rattle.whole_file.specs.Reading.{input, evidenceAt, Parts, twoParts, evidenceFrom, evidenceReading, evidenceArea, readingRefused, readingOf, areaRead}
-use Rattle.program_part.specs.ProgramPart.{refusalOf, programFrom}
-use Rattle.program_part.specs.declared.program.ProgramRead.{ProgramRead}
-use Rattle.program_part.specs.declared.program.Checked.the-variants.{Fine, Refused}
-use Rattle.program_part.specs.declared.program.Checked.{Checked}
-use Rattle.whole_file.specs.declared.evidence.Part.the-variants.{InProgram}
+use Rattle.file_contents.proofs.ReadingLaws.{shape-range, parts-short, parts-refused, parts-both}
+use Rattle.file_contents.specs.Reading.{input, evidenceAt, Parts, twoParts, evidenceFrom, evidenceReading, evidenceArea, readingRefused, readingOf, areaRead}
+use Rattle.file_records.specs.ProgramPart.{refusalOf, programFrom}
+use Rattle.file_records.specs.declared.program.ProgramRead.{ProgramRead}
+use Rattle.file_records.specs.declared.program.Checked.the-variants.{Fine, Refused}
+use Rattle.file_records.specs.declared.program.Checked.{Checked}
+use Rattle.file_contents.specs.declared.evidence.Part.the-variants.{InProgram}
 use lib.ListN.{length}
 use Prim.Native.Nat.{ℕ}
 use native.Mathlib.Omega.{arith}

@@ -1,6 +1,6 @@
 use Prim.Native.Nat.{_-_}
 use Rattle.file_reading.proofs.EvidenceLaws.{claim-room, refused-returned, entries-returned, run-returned}
-use Rattle.whole_file.specs.EvidencePart.{entriesAllowed}
+use Rattle.file_contents.specs.EvidencePart.{entriesAllowed}
 use Prim.Native.Nat.{_≤_}
 use native.Mathlib.Omega.{arith}
 use borrow.Author.Needs.{needs}

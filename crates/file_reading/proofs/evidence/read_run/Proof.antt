@@ -1,11 +1,11 @@
-use Rattle.whole_file.proofs.ReadingLaws.{start-refused, run-steps, start-fits}
-use Rattle.whole_file.specs.Reading.{readingRefused, countReading, evidenceReading}
-use Rattle.program_part.specs.ProgramPart.{refusalOf, unlessEnd}
-use Rattle.program_part.specs.Records.{checked, startNumber, memoryAt}
-use Rattle.whole_file.specs.declared.evidence.Part.the-variants.{InEvidence}
-use Rattle.whole_file.specs.EvidencePart.{stepsFrom}
-use Rattle.program_part.specs.declared.program.Checked.the-variants.{Fine, Refused}
-use Rattle.program_part.specs.declared.program.Counted.{Counted}
+use Rattle.file_contents.proofs.ReadingLaws.{start-refused, run-steps, start-fits}
+use Rattle.file_contents.specs.Reading.{readingRefused, countReading, evidenceReading}
+use Rattle.file_records.specs.ProgramPart.{refusalOf, unlessEnd}
+use Rattle.file_records.specs.Records.{checked, startNumber, memoryAt}
+use Rattle.file_contents.specs.declared.evidence.Part.the-variants.{InEvidence}
+use Rattle.file_contents.specs.EvidencePart.{stepsFrom}
+use Rattle.file_records.specs.declared.program.Checked.the-variants.{Fine, Refused}
+use Rattle.file_records.specs.declared.program.Counted.{Counted}
 use mathlib.Core.List.{List}
 use Prim.Native.Nat.{ℕ, _+_}
 use native.Mathlib.Omega.{arith}

@@ -1,6 +1,6 @@
-use Rattle.whole_file.specs.Reading.{readingRefused, countReading}
-use Rattle.whole_file.specs.declared.evidence.Part.the-variants.{InEvidence}
-use Rattle.program_part.specs.ProgramPart.{stopOf}
+use Rattle.file_contents.specs.Reading.{readingRefused, countReading}
+use Rattle.file_contents.specs.declared.evidence.Part.the-variants.{InEvidence}
+use Rattle.file_records.specs.ProgramPart.{stopOf}
 use mathlib.Core.Path.{_≡_, sym, ap, _∙_, refl}
 use borrow.Author.Needs.{needs}
 use Rattle.file_reading.proofs.evidence.reading_with.Statement.{statement}

@@ -1,4 +1,4 @@
-use Rattle.whole_file.specs.EvidencePart.{atBoundary}
+use Rattle.file_contents.specs.EvidencePart.{atBoundary}
 use borrow.Author.Needs.{needs}
 use Rattle.file_reading.proofs.list.at_boundary.Statement.{statement}
 use Rattle.file_reading.proofs.list.at_boundary.Tie as tie

@@ -1,5 +1,5 @@
 use mathlib.Core.Path.{sym, _∙_}
-use Rattle.whole_file.specs.EvidencePart.{bodySize}
+use Rattle.file_contents.specs.EvidencePart.{bodySize}
 use borrow.Author.Needs.{needs}
 use Rattle.file_reading.proofs.list.body_size.Statement.{statement}
 use Rattle.file_reading.proofs.list.body_size.Tie as tie

@@ -5,9 +5,9 @@ use mathlib.Core.Path.{_≡_, refl, sym, ap, _∙_}
 use mathlib.Core.Bool.{Bool, true, false}
 use native.Mathlib.Omega.{arith}
 use borrow.Author.Needs.{needs}
-use Rattle.program_part.specs.Bytes.{cut}
-use Rattle.program_part.specs.Records.{firstNumber, checked, entryNumber}
-use Rattle.program_part.proofs.RecordLaws.{cut-fits}
+use Rattle.file_records.specs.Bytes.{cut}
+use Rattle.file_records.specs.Records.{firstNumber, checked, entryNumber}
+use Rattle.file_records.proofs.RecordLaws.{cut-fits}
 use Rattle.file_reading.proofs.list.check_entry.Statement.{statement}
 use Rattle.file_reading.proofs.list.check_entry.Tie as tie
 

@@ -5,15 +5,15 @@ use native.Mathlib.Omega.{arith}
 use lib.ListN.{length}
 use lib.Dec.{leb}
 use borrow.Author.Needs.{needs}
-use Rattle.pws.specs.Machine.{Configuration}
-use Rattle.program_part.specs.declared.program.Checked.the-variants.{Fine, Refused}
-use Rattle.program_part.specs.declared.program.Counted.the-variants.{Records, Stopped}
-use Rattle.program_part.specs.Records.{checked, entryNumber}
-use Rattle.program_part.specs.ProgramPart.{refusalOf}
-use Rattle.whole_file.specs.EvidencePart.{whole, entryRead, EntriesRead, stopAt, entriesFrom, wroteFrom}
-use Rattle.whole_file.specs.Tally.{countOf}
+use Rattle.machine_pws.specs.Machine.{Configuration}
+use Rattle.file_records.specs.declared.program.Checked.the-variants.{Fine, Refused}
+use Rattle.file_records.specs.declared.program.Counted.the-variants.{Records, Stopped}
+use Rattle.file_records.specs.Records.{checked, entryNumber}
+use Rattle.file_records.specs.ProgramPart.{refusalOf}
+use Rattle.file_contents.specs.EvidencePart.{whole, entryRead, EntriesRead, stopAt, entriesFrom, wroteFrom}
+use Rattle.file_contents.specs.Tally.{countOf}
 use Rattle.file_reading.specs.Tally.{endRefusal}
-use Rattle.program_part.proofs.RecordLaws.{cut-fits, entry-fine}
+use Rattle.file_records.proofs.RecordLaws.{cut-fits, entry-fine}
 use Rattle.file_reading.proofs.ListLaws.{entry-past, end-whole, end-bad, list-ends, head-stops, head-room, entry-refused, wrote-length, Listed, listed-begin, listed-next}
 use Rattle.file_reading.proofs.list.entries_from.Statement.{statement}
 use Rattle.file_reading.proofs.list.entries_from.Tie as tie

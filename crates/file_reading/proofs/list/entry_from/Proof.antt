@@ -5,11 +5,11 @@ use native.Mathlib.Omega.{arith}
 use lib.ListN.{length}
 use borrow.Author.Needs.{needs}
 use borrow.Author.Tests.{not-true, not-false}
-use Rattle.program_part.specs.declared.program.Checked.the-variants.{Fine, Refused}
+use Rattle.file_records.specs.declared.program.Checked.the-variants.{Fine, Refused}
 use Rattle.file_reading.specs.declared.list.EntryEnd.the-variants.{Bad}
-use Rattle.program_part.specs.Records.{checked, pointerAt}
-use Rattle.program_part.specs.ProgramPart.{refusalOf}
-use Rattle.whole_file.specs.EvidencePart.{atBoundary, complete, entryRead}
+use Rattle.file_records.specs.Records.{checked, pointerAt}
+use Rattle.file_records.specs.ProgramPart.{refusalOf}
+use Rattle.file_contents.specs.EvidencePart.{atBoundary, complete, entryRead}
 use Rattle.file_reading.specs.Tally.{numberBy, endOf}
 use Rattle.file_reading.proofs.EntryLaws.{Sofar, sofar-begin, sofar-room, sofar-fits, sofar-next, sofar-stops, sofar-ends}
 use Rattle.file_reading.proofs.list.entry_from.Statement.{statement}

@@ -1,4 +1,4 @@
-use Rattle.whole_file.specs.EvidencePart.{complete}
+use Rattle.file_contents.specs.EvidencePart.{complete}
 use borrow.Author.Needs.{needs}
 use Rattle.file_reading.proofs.list.is_complete.Statement.{statement}
 use Rattle.file_reading.proofs.list.is_complete.Tie as tie

@@ -3,20 +3,20 @@ use mathlib.Core.Path.{_≡_, ap, ap₂, _∙_}
 use mathlib.Core.Bool.{Bool, _&&_}
 use mathlib.Core.List.{List}
 use lib.ListN.{getD}
-use Rattle.pws.specs.declared.Message.{Message}
-use Rattle.program_part.specs.declared.program.Shape.{Shape}
-use Rattle.program_part.specs.Records.{exists, messageAt, valueName}
-use Rattle.program_part.specs.Records.{valueNames, messageNames}
+use Rattle.machine_pws.specs.declared.Message.{Message}
+use Rattle.file_records.specs.declared.program.Shape.{Shape}
+use Rattle.file_records.specs.Records.{exists, messageAt, valueName}
+use Rattle.file_records.specs.Records.{valueNames, messageNames}
 use native.Mathlib.Omega.{arith}
 use borrow.Author.Needs.{needs}
 use Rattle.file_reading.proofs.list.message_names.Statement.{statement}
 use Rattle.file_reading.proofs.list.message_names.Tie as tie
 use Rattle.file_reading.proofs.list.message_names.Reads as reads
 use Rattle.file_reading.proofs.list.message_names.Lts as lts
-use Rattle.program_part.proofs.bytes.both.Reads as both-reads
-use Rattle.whole_file.proofs.entry.message_at.Reads as message-at-reads
+use Rattle.file_records.proofs.bytes.both.Reads as both-reads
+use Rattle.file_contents.proofs.entry.message_at.Reads as message-at-reads
 use Rattle.file_reading.proofs.list.value_names.Reads as value-names-reads
-use Rattle.whole_file.proofs.steps.pair_exists.Reads as pair-exists-reads
+use Rattle.file_contents.proofs.steps.pair_exists.Reads as pair-exists-reads
 
 -- the names in a message are those in its record
 names-of : (s : Shape) (f : List ℕ) (at : ℕ) {m : Message} {x y z : Bool} → m ≡ messageAt f at → x ≡ exists s (m .process) (m .variable)

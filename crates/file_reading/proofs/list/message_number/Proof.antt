@@ -1,4 +1,4 @@
-use Rattle.program_part.specs.Records.{messageNumber}
+use Rattle.file_records.specs.Records.{messageNumber}
 use borrow.Author.Needs.{needs}
 use Rattle.file_reading.proofs.list.message_number.Statement.{statement}
 use Rattle.file_reading.proofs.list.message_number.Tie as tie

@@ -1,5 +1,5 @@
 use borrow.Author.Tests.{lt-ltb, le-ltb}
-use Rattle.whole_file.specs.EvidencePart.{pointerInside}
+use Rattle.file_contents.specs.EvidencePart.{pointerInside}
 use borrow.Author.Needs.{needs}
 use Rattle.file_reading.proofs.list.pointer_fits.Statement.{statement}
 use Rattle.file_reading.proofs.list.pointer_fits.Tie as tie

@@ -1,4 +1,4 @@
-use Rattle.program_part.specs.Records.{pointerName}
+use Rattle.file_records.specs.Records.{pointerName}
 use borrow.Author.Needs.{needs}
 use Rattle.file_reading.proofs.list.pointer_name.Statement.{statement}
 use Rattle.file_reading.proofs.list.pointer_name.Tie as tie

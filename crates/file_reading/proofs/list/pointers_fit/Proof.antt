@@ -1,4 +1,4 @@
-use Rattle.whole_file.specs.EvidencePart.{pointersFit}
+use Rattle.file_contents.specs.EvidencePart.{pointersFit}
 use borrow.Author.Needs.{needs}
 use Rattle.file_reading.proofs.list.pointers_fit.Statement.{statement}
 use Rattle.file_reading.proofs.list.pointers_fit.Tie as tie

@@ -1,4 +1,4 @@
-use Rattle.program_part.specs.Records.{pointerNames}
+use Rattle.file_records.specs.Records.{pointerNames}
 use borrow.Author.Needs.{needs}
 use Rattle.file_reading.proofs.list.pointers_inside.Statement.{statement}
 use Rattle.file_reading.proofs.list.pointers_inside.Tie as tie

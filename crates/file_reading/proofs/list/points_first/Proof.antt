@@ -1,4 +1,4 @@
-use Rattle.whole_file.specs.EvidencePart.{pointsFirst}
+use Rattle.file_contents.specs.EvidencePart.{pointsFirst}
 use borrow.Author.Needs.{needs}
 use Rattle.file_reading.proofs.list.points_first.Statement.{statement}
 use Rattle.file_reading.proofs.list.points_first.Tie as tie

@@ -1,4 +1,4 @@
-use Rattle.whole_file.specs.EvidencePart.{someFirst}
+use Rattle.file_contents.specs.EvidencePart.{someFirst}
 use borrow.Author.Needs.{needs}
 use Rattle.file_reading.proofs.list.some_first.Statement.{statement}
 use Rattle.file_reading.proofs.list.some_first.Tie as tie

@@ -1,4 +1,4 @@
-use Rattle.program_part.specs.Records.{stateNames}
+use Rattle.file_records.specs.Records.{stateNames}
 use borrow.Author.Needs.{needs}
 use Rattle.file_reading.proofs.list.states_inside.Statement.{statement}
 use Rattle.file_reading.proofs.list.states_inside.Tie as tie

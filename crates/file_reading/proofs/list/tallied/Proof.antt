@@ -1,11 +1,11 @@
 use mathlib.Core.Bool.{true, false}
 use lib.ListN.{getD}
 use Prim.Native.Nat.{_<_, _≤_}
-use Rattle.program_part.specs.Records.{isKind}
+use Rattle.file_records.specs.Records.{isKind}
 use mathlib.Core.Bool.{false}
 use native.Mathlib.Omega.{arith}
 use mathlib.Core.Path.{_≡_, sym, _∙_}
-use Rattle.whole_file.specs.Tally.{queueAt}
+use Rattle.file_contents.specs.Tally.{queueAt}
 use Rattle.file_reading.specs.Tally.{tallied}
 use borrow.Author.Needs.{needs}
 use Rattle.file_reading.proofs.list.tallied.Statement.{statement}

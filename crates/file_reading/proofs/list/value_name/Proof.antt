@@ -1,5 +1,5 @@
 use borrow.Author.Tests.{lt-ltb, le-ltb, eq-eqb, ne-eqb}
-use Rattle.program_part.specs.Records.{valueName}
+use Rattle.file_records.specs.Records.{valueName}
 use borrow.Author.Needs.{needs}
 use Rattle.file_reading.proofs.list.value_name.Statement.{statement}
 use Rattle.file_reading.proofs.list.value_name.Tie as tie

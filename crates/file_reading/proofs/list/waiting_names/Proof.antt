@@ -1,4 +1,4 @@
-use Rattle.program_part.specs.Records.{waitingNames}
+use Rattle.file_records.specs.Records.{waitingNames}
 use borrow.Author.Needs.{needs}
 use Rattle.file_reading.proofs.list.waiting_names.Statement.{statement}
 use Rattle.file_reading.proofs.list.waiting_names.Tie as tie

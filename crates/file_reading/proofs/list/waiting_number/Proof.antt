@@ -1,4 +1,4 @@
-use Rattle.program_part.specs.Records.{waitingNumber}
+use Rattle.file_records.specs.Records.{waitingNumber}
 use borrow.Author.Needs.{needs}
 use Rattle.file_reading.proofs.list.waiting_number.Statement.{statement}
 use Rattle.file_reading.proofs.list.waiting_number.Tie as tie

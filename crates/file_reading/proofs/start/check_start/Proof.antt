@@ -1,4 +1,4 @@
-use Rattle.program_part.specs.Records.{startNumber}
+use Rattle.file_records.specs.Records.{startNumber}
 use borrow.Author.Needs.{needs}
 use Rattle.file_reading.proofs.start.check_start.Statement.{statement}
 use Rattle.file_reading.proofs.start.check_start.Tie as tie

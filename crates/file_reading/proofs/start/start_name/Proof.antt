@@ -1,5 +1,5 @@
 use borrow.Author.Tests.{lt-ltb, le-ltb}
-use Rattle.program_part.specs.Records.{startName}
+use Rattle.file_records.specs.Records.{startName}
 use borrow.Author.Needs.{needs}
 use Rattle.file_reading.proofs.start.start_name.Statement.{statement}
 use Rattle.file_reading.proofs.start.start_name.Tie as tie

@@ -1,4 +1,4 @@
-use Rattle.program_part.specs.Records.{startNames}
+use Rattle.file_records.specs.Records.{startNames}
 use borrow.Author.Needs.{needs}
 use Rattle.file_reading.proofs.start.start_names.Statement.{statement}
 use Rattle.file_reading.proofs.start.start_names.Tie as tie

@@ -1,7 +1,7 @@
 use Prim.Native.Nat.{_-_}
 use mathlib.Core.Path.{_≡_, refl, sym, _∙_}
 use native.Mathlib.Omega.{arith}
-use Rattle.program_part.specs.ProgramPart.{programOf}
+use Rattle.file_records.specs.ProgramPart.{programOf}
 use Rattle.judge.proofs.LowestLaws.{so-far-next}
 use Rattle.judge.proofs.ListLaws.{searches, closed-here, entered-here, safe-here}
 use Rattle.judge.proofs.FullLaws.{Going, going-begin}

@@ -4,10 +4,10 @@ use native.Mathlib.Omega.{arith}
 use borrow.Author.Needs.{needs}
 use Rattle.judge.proofs.LowestLaws.{SoFar, so-far-begin, so-far-next, so-far-fails, so-far-all}
 use mathlib.Core.Bool.{not}
-use Rattle.pws.specs.Entries.{entry}
-use Rattle.lists.specs.Decision.{looksStarted}
-use Rattle.by_number.specs.Again.{entriesOf}
-use Rattle.targets.specs.Sizes.{startsOf}
+use Rattle.machine_pws.specs.Entries.{entry}
+use Rattle.list_theory.specs.Decision.{looksStarted}
+use Rattle.file_again.specs.Again.{entriesOf}
+use Rattle.list_targets.specs.Sizes.{startsOf}
 use Rattle.judge.proofs.ListLaws.{start-by}
 use Rattle.judge.proofs.list.lowest_started.Statement.{statement}
 use Rattle.judge.proofs.list.lowest_started.Tie as tie

@@ -1,9 +1,9 @@
 use Prim.Native.Nat.{_≤_}
 use mathlib.Core.Path.{_≡_, refl, sym, subst, _∙_}
 use native.Mathlib.Omega.{arith}
-use Rattle.by_number.specs.Again.{entriesOf}
-use Rattle.full_states.specs.Table.{Full}
-use Rattle.targets.proofs.GroupLaws.{full-groups}
+use Rattle.file_again.specs.Again.{entriesOf}
+use Rattle.list_full.specs.Table.{Full}
+use Rattle.list_targets.proofs.GroupLaws.{full-groups}
 use borrow.Author.Needs.{needs}
 use Rattle.judge.proofs.list.put_others.Statement.{statement}
 use Rattle.judge.proofs.list.put_others.Tie as tie

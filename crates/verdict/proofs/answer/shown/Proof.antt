@@ -1,6 +1,6 @@
 use mathlib.Core.Path.{_∙_}
 use borrow.Author.Needs.{needs}
-use Rattle.whole_file.specs.Reading.{input}
+use Rattle.file_contents.specs.Reading.{input}
 use Rattle.verdict.proofs.Verdicts.{shown-is}
 use Rattle.verdict.proofs.answer.shown.Statement.{statement}
 use Rattle.verdict.proofs.answer.shown.Tie as tie

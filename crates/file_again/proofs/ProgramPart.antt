@@ -1,0 +1,235 @@
+-- The program and the targets of a file that was read.
+use Prim.Native.Nat.{ℕ, _+_, _*_, _<_, _≤_}
+use mathlib.Core.Path.{_≡_, refl, sym, ap, subst, _∙_}
+use mathlib.Core.Logic.{⊎-elim}
+use mathlib.Core.Bool.{Bool, true, cond, _&&_, not}
+use mathlib.Core.List.{List}
+use native.Mathlib.Omega.{arith}
+use native.Mathlib.Decide.{decLt}
+use lib.ListN.{length, getD, List·getD-eq-default}
+use lib.Dec.{leb}
+use borrow.Author.Tests.{eqb-true, leb-true, ltb-true, lt-ltb, le-ltb, not-false}
+use Rattle.machine_pws.specs.Program as pws
+use Rattle.machine_pws.specs.Configurations.{StatesOf}
+use Rattle.machine_pws.specs.Ranges.{CountsOf}
+use Rattle.file_records.specs.declared.program.Shape.{Shape}
+use Rattle.file_records.specs.declared.program.Program.{Program}
+use Rattle.file_records.specs.declared.program.Checked.the-variants.{Fine}
+use Rattle.file_records.specs.declared.program.Counted.the-variants.{Records}
+use Rattle.file_records.specs.Bytes.{byte}
+use Rattle.file_records.specs.Records.{checked, inRange, isKind, shapeAt, valueCount, countInRange, countsInRange, countIfAbsent, countsIfAbsent, shapeNumber, transitionAt, transitionNumber, transitionNames, targetNumber, stateNames, stateAt}
+use Rattle.file_records.specs.ProgramPart.{unlessEnd, statesFrom, ofProcess, ofProcesses, atEnd, transitionsFrom, targetsFrom, programFrom, shapeOf, programOf, targetsOf}
+use Rattle.file_records.proofs.RecordLaws.{good, unless-fine, states-fine, transition-fine, target-fine}
+use Rattle.file_records.proofs.ProgramLaws.{and-true, transitions-most, targets-most}
+use Rattle.file_contents.proofs.ReadingLaws.{ProgramFine, program-fine}
+use Rattle.file_again.specs.Contents.{ProgramPartRead, ProgramSizes}
+use Rattle.file_again.proofs.Tables.{table-length, table-number, of-four}
+use Rattle.file_again.proofs.Names.{range-true, transition-of, states-of}
+use Rattle.file_again.proofs.Rows.{row-each, row-stop, place-eight, place-five, states-each}
+
+-- ---- the shape
+
+pub record ShapeRange (s : Shape) : Type 0 where
+  pub processes : (1 ≤ s .processes) × (s .processes ≤ 4)
+  pub variables : (1 ≤ s .variables) × (s .variables ≤ 4)
+  pub values : (v : ℕ) → v < s .variables → (1 ≤ valueCount s v) × (valueCount s v ≤ 4)
+  pub absent : (v : ℕ) → v < 4 → s .variables ≤ v → valueCount s v ≡ 0
+
+module _ (s : Shape) where
+  count-range : (v : ℕ) → v < s .variables → countInRange s v ≡ true → (1 ≤ valueCount s v) × (valueCount s v ≤ 4)
+  unfolding countInRange
+  count-range v l e = range-true (valueCount s v) 4 (rw (lt-ltb v (s .variables) l) at e)
+
+  count-each : countsInRange s ≡ true → (v : ℕ) → v < 4 → countInRange s v ≡ true
+  unfolding countsInRange
+  count-each e =
+      let a = and-true (countInRange s 0) (countInRange s 1 && (countInRange s 2 && countInRange s 3)) e in
+      let b = and-true (countInRange s 1) (countInRange s 2 && countInRange s 3) (a .1) in
+      let c = and-true (countInRange s 2) (countInRange s 3) (b .1) in
+      of-four (λ (v : ℕ). countInRange s v ≡ true) (a .0) (b .0) (c .0) (c .1)
+
+  count-none : (v : ℕ) → s .variables ≤ v → countIfAbsent s v ≡ true → valueCount s v ≡ 0
+  unfolding countIfAbsent
+  count-none v l e = eqb-true (valueCount s v) 0 (rw (le-ltb v (s .variables) l) at e)
+
+  absent-each : countsIfAbsent s ≡ true → (v : ℕ) → v < 4 → countIfAbsent s v ≡ true
+  unfolding countsIfAbsent
+  absent-each e =
+      let a = and-true (countIfAbsent s 0) (countIfAbsent s 1 && (countIfAbsent s 2 && countIfAbsent s 3)) e in
+      let b = and-true (countIfAbsent s 1) (countIfAbsent s 2 && countIfAbsent s 3) (a .1) in
+      let c = and-true (countIfAbsent s 2) (countIfAbsent s 3) (b .1) in
+      of-four (λ (v : ℕ). countIfAbsent s v ≡ true) (a .0) (b .0) (c .0) (c .1)
+
+pub shape-in : (f : List ℕ) (at : ℕ) → unlessEnd f at (checked (shapeNumber f at) at) ≡ Fine → ShapeRange (shapeAt f at)
+unfolding shapeNumber
+shape-in f at e =
+    let g = good at (unless-fine f at _ e .1) in
+    let a = and-true (inRange (byte f (at + 1)) 4) (inRange (byte f (at + 2)) 4 && countsInRange (shapeAt f at)) (not-false _ (g .range)) in
+    let b = and-true (inRange (byte f (at + 2)) 4) (countsInRange (shapeAt f at)) (a .1) in
+    let few = range-true (byte f (at + 2)) 4 (b .0) in
+    record {
+      processes = range-true (byte f (at + 1)) 4 (a .0);
+      variables = few;
+      values = λ v l. count-range (shapeAt f at) v l (count-each (shapeAt f at) (b .1) v (omega arith));
+      absent = λ v l m. count-none (shapeAt f at) v m (absent-each (shapeAt f at) (not-false _ (g .names)) v l);
+    }
+
+shape-counts : (f : List ℕ) (at : ℕ) → ShapeRange (shapeAt f at) → CountsOf (shapeOf (shapeAt f at)) (shapeAt f at .values)
+shape-counts f at r =
+    record {
+      four = refl;
+      present = λ v l. refl;
+      absent = λ v l. elim (decLt v 4) [
+        | yes i ↦ r .absent v i l
+        | no i ↦ let past : length (shapeAt f at .values) ≤ v = omega arith in List·getD-eq-default (shapeAt f at .values) 0 past
+      ];
+    }
+
+-- ---- states
+
+of-process : (f : List ℕ) (at k n p : ℕ) → p < n → n ≤ 4 → getD (ofProcesses f at k n) p 0 ≡ byte f (at + (k + 3 * p))
+of-process f at k n p l few =
+    of-four (λ (p : ℕ). getD (ofProcesses f at k n) p 0 ≡ ofProcess f at k n p) refl refl refl refl p (omega arith) ∙ rw (lt-ltb p n l)
+
+module _ (f : List ℕ) (at n : ℕ) (few : n ≤ 4) (q : statesFrom f at n ≡ Fine) (p : ℕ) (l : p < n) where
+  numbers : (inRange (byte f (at + 3 * p + 1)) 32 ≡ true) × (byte f (at + 3 * p + 2) < byte f (at + 3 * p + 1))
+  numbers =
+      let g = states-fine f (at + 3 * p) (states-each f at n q p l) in
+      (not-false _ (g .range), ltb-true (byte f (at + 3 * p + 2)) (byte f (at + 3 * p + 1)) (not-false _ (g .names)))
+
+  said : (k : ℕ) → getD (ofProcesses f at k n) p 0 ≡ byte f (at + 3 * p + k)
+  said k = let a : at + (k + 3 * p) ≡ at + 3 * p + k = omega arith in of-process f at k n p l few ∙ ap (byte f) a
+
+  pub states-most : getD (ofProcesses f at 1 n) p 0 ≤ 32
+  states-most = rw (said 1) (range-true (byte f (at + 3 * p + 1)) 32 (numbers .0) .1)
+
+  pub initial-below : getD (ofProcesses f at 2 n) p 0 < getD (ofProcesses f at 1 n) p 0
+  initial-below = rw (said 1, said 2) (numbers .1)
+
+-- ---- transitions and targets
+
+module _ (s : Shape) (states : List ℕ) (f : List ℕ) (at : ℕ) where
+  pub transition-named : (n i : ℕ) → transitionsFrom s states f at ≡ Records n → i < n → transitionNames s states f (at + 8 * i) ≡ true
+  unfolding transitionsFrom
+  transition-named n i q l =
+      let e = row-each (λ k n. not (isKind f k 3)) (λ k n. checked (transitionNumber s states f k n) k) (λ k. 8) 256 at 0 n q i (omega arith) in
+      let a = transition-fine f (at + 8 * i) s states (0 + i) (rw (place-eight at i) at e) in
+      not-false _ (a .names)
+
+  pub target-named : (alone : Bool) (n i : ℕ) → targetsFrom alone s states f at ≡ Records n → i < n → stateNames s states f (at + 5 * i) ≡ true
+  unfolding targetsFrom
+  target-named alone n i q l =
+      let e = row-each (atEnd alone f) (λ k n. unlessEnd f k (checked (targetNumber s states f k n) k)) (λ k. 5) 16 at 0 n q i (omega arith) in
+      let d = unless-fine f (at + 5 * i) _ (rw (place-five at i) at e) .1 in
+      not-false _ (target-fine f (at + 5 * i) s states (0 + i) d .names)
+
+  pub targets-least : (alone : Bool) (n : ℕ) → targetsFrom alone s states f at ≡ Records n → 1 ≤ n
+  unfolding targetsFrom atEnd
+  targets-least alone n q =
+      ⊎-elim (λ e. leb-true 1 n (and-true (cond alone (leb (length f) (e .0)) (isKind f (e .0) 15)) (leb 1 n) (e .1) .1)) (λ e. omega arith)
+      (row-stop (atEnd alone f) (λ k n. unlessEnd f k (checked (targetNumber s states f k n) k)) (λ k. 5) 16 at 0 n q)
+
+-- ---- the whole part
+
+module _ (alone : Bool) (f : List ℕ) (at : ℕ) (F : ProgramFine alone f at) where
+  abbrev s : Shape
+  s = shapeAt f at
+
+  abbrev states : List ℕ
+  states = ofProcesses f (at + 7) 1 (s .processes)
+
+  abbrev first : ℕ
+  first = at + 7 + 3 * s .processes
+
+  abbrev p : Program
+  p =
+      record {
+        shape = s;
+        states = states;
+        initial = ofProcesses f (at + 7) 2 (s .processes);
+        transitions = record { at = first; count = F .transitions };
+        targets = record { at = first + 8 * F .transitions; count = F .targets };
+        claim = first + 8 * F .transitions + 5 * F .targets;
+      }
+
+  range : ShapeRange s
+  range = shape-in f at (F .shape)
+
+  taken : (i : ℕ) → i < F .transitions → pws.TransitionOf (programOf f p) (pws.transition (programOf f p) i)
+  taken i l =
+      subst (pws.TransitionOf (programOf f p)) (sym (table-number (λ i. transitionAt f (first + 8 * i)) (F .transitions) i pws.noTransition l))
+      (transition-of s states (programOf f p .initial) (programOf f p .transitions) f (first + 8 * i) (transition-named s states f first (F .transitions) i (F .rows) l))
+
+  aimed : (k : ℕ) → k < F .targets → StatesOf (programOf f p) (getD (targetsOf f p) k (λ p. 0))
+  aimed k l =
+      subst (StatesOf (programOf f p)) (sym (table-number (λ i. stateAt f (first + 8 * F .transitions + 5 * i)) (F .targets) k (λ p. 0) l))
+      (states-of s states (programOf f p .initial) (programOf f p .transitions) f (first + 8 * F .transitions + 5 * k) (range .processes .1)
+      (target-named s states f (first + 8 * F .transitions) alone (F .targets) k (F .aims) l))
+
+  count₁ : length (programOf f p .transitions) ≡ F .transitions
+  count₁ = table-length (λ i. transitionAt f (first + 8 * i)) 0 (F .transitions)
+
+  count₂ : length (targetsOf f p) ≡ F .targets
+  count₂ = table-length (λ i. stateAt f (first + 8 * F .transitions + 5 * i)) 0 (F .targets)
+
+  few-rows : (F .transitions ≤ 256) × (F .targets ≤ 16)
+  few-rows = (transitions-most s states f first (F .transitions) (F .rows), targets-most s states f (first + 8 * F .transitions) alone (F .targets) (F .aims))
+
+  whole-part : ProgramPartRead (programOf f p) (targetsOf f p)
+  whole-part =
+      record {
+        program =
+            record {
+              shape =
+                  record {
+                    someProcess = range .processes .0;
+                    processes = range .processes .1;
+                    someVariable = range .variables .0;
+                    variables = range .variables .1;
+                    someValue = λ v l. range .values v l .0;
+                    values = λ v l. range .values v l .1;
+                  };
+              initial = λ q l. initial-below f (at + 7) (s .processes) (range .processes .1) (F .states) q l;
+              transitions = λ i l. taken i (omega (arith, count₁));
+            };
+        states = λ q l. states-most f (at + 7) (s .processes) (range .processes .1) (F .states) q l;
+        transitions = omega (arith, count₁, few-rows .0);
+        targets = λ k l. aimed k (omega (arith, count₂));
+        someTarget = omega (arith, count₂, targets-least s states f (first + 8 * F .transitions) alone (F .targets) (F .aims));
+        fewTargets = omega (arith, count₂, few-rows .1);
+      }
+
+  near : p .claim ≤ at + 2147
+  near = omega (arith, few-rows .0, few-rows .1, range .processes .1)
+
+  whole-sizes : _≡_ {A = ℕ} at 0 → ProgramSizes p
+  whole-sizes z =
+      record {
+        processes = range .processes;
+        variables = range .variables;
+        values = range .values;
+        transitions = few-rows .0;
+        targets = (targets-least s states f (first + 8 * F .transitions) alone (F .targets) (F .aims), few-rows .1);
+        claim = omega (arith, near);
+      }
+
+module _ (alone : Bool) (f : List ℕ) (at : ℕ) (q : programFrom alone f at .answer ≡ Fine) where
+  F : ProgramFine alone f at
+  F = program-fine alone f at q
+
+  pub part-read : ProgramPartRead (programOf f (programFrom alone f at .program)) (targetsOf f (programFrom alone f at .program))
+  part-read = subst (λ (p : Program). ProgramPartRead (programOf f p) (targetsOf f p)) (sym (F .same)) (whole-part alone f at F)
+
+  pub part-shape : ShapeRange (programFrom alone f at .program .shape)
+  part-shape = subst (λ (p : Program). ShapeRange (p .shape)) (sym (F .same)) (shape-in f at (F .shape))
+
+  -- the four counts of the 01 are those of the program
+  pub part-counts : CountsOf (programOf f (programFrom alone f at .program) .shape) (shapeAt f at .values)
+  part-counts = subst (λ (p : Program). CountsOf (programOf f p .shape) (shapeAt f at .values)) (sym (F .same)) (shape-counts f at (shape-in f at (F .shape)))
+
+  pub part-sizes : _≡_ {A = ℕ} at 0 → ProgramSizes (programFrom alone f at .program)
+  part-sizes z = subst ProgramSizes (sym (F .same)) (whole-sizes alone f at F z)
+
+  -- the claim stands near the beginning
+  pub claim-near : programFrom alone f at .program .claim ≤ at + 2147
+  claim-near = subst (λ (p : Program). p .claim ≤ at + 2147) (sym (F .same)) (near alone f at F)
