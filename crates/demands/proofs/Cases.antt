@@ -9,7 +9,7 @@ use borrow.Author.Tests.{le-ltb}
 use Rattle.machine_pws.specs.Order.{QueueBelow}
 use Rattle.machine_pws.proofs.Queues.{keep, skip, nothing, queue-of}
 use Rattle.file_records.specs.declared.program.Program.{Program}
-use Rattle.file_records.specs.Bytes.{choose, byte, cut}
+use Rattle.base.specs.Bytes.{choose, byte, cut}
 use Rattle.file_records.specs.Records.{
   firstNumber,
   checked,

@@ -23,8 +23,8 @@ use Rattle.file_again.proofs.Contents.{run-read, pso-run-read}
 use Rattle.file_again.proofs.Counts.{HasCounts, file-counts}
 use Rattle.run_causes.specs.declared.Cause.{Cause}
 use Rattle.run_causes.specs.declared.Cause.the-variants.{State, Queue, Pointer, Value, Nothing}
-use Rattle.run_last_test.specs.declared.RunAnswer.{RunAnswer}
-use Rattle.run_last_test.specs.declared.RunAnswer.the-variants.{Reachable, Stopped, Missed}
+use Rattle.run_step.specs.declared.last_test.RunAnswer.{RunAnswer}
+use Rattle.run_step.specs.declared.last_test.RunAnswer.the-variants.{Reachable, Stopped, Missed}
 use Rattle.run_causes.specs.Causes.{causeNumber}
 use Rattle.run_replay.specs.Answers.{runAnswer}
 use Rattle.machine_pso.specs.declared.PsoStep.the-variants.{RemoveMark}

@@ -11,7 +11,7 @@ use Rattle.machine_pws.specs.Program.{Shape}
 use Rattle.machine_pws.specs.Machine.{Configuration, allBelow}
 use Rattle.machine_pws.specs.Entries.{Above, AboveList, entry}
 use Rattle.file_records.specs.declared.program.Program.{Program}
-use Rattle.file_records.specs.Bytes.{choose}
+use Rattle.base.specs.Bytes.{choose}
 use Rattle.file_records.specs.ProgramPart.{tableFrom, programOf}
 use Rattle.file_contents.specs.Cube.{configurationOf}
 use Rattle.file_again.specs.Again.{cubeAt, entriesOf}

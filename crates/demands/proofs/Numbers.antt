@@ -17,7 +17,7 @@ use Rattle.file_records.specs.declared.program.Counted.{Counted}
 use Rattle.file_records.specs.declared.program.Counted.the-variants.{Records, Stopped}
 use Rattle.file_records.specs.declared.program.Program.{Program}
 use Rattle.file_records.specs.declared.program.ProgramRead.{ProgramRead}
-use Rattle.file_records.specs.Bytes.{byte}
+use Rattle.base.specs.Bytes.{byte}
 use Rattle.file_records.specs.Records.{
   firstNumber,
   checked,

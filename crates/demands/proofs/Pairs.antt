@@ -5,7 +5,7 @@ use mathlib.Core.Bool.{Bool, true, false}
 use mathlib.Core.List.{List, _++_}
 use lib.ListN.{length, take, drop, replicate}
 use lib.Dec.{ltb}
-use Rattle.file_records.specs.Bytes.{choose}
+use Rattle.base.specs.Bytes.{choose}
 use Rattle.file_contents.specs.declared.evidence.Part.the-variants.{InProgram, InEvidence}
 use Rattle.file_contents.specs.Reading as reading
 use Rattle.file_contents.specs.Reading.{combined, pair, readFile}

@@ -14,9 +14,9 @@ use Rattle.run_causes.specs.declared.Answer.the-variants.{Permitted, Refused}
 use Rattle.run_causes.specs.declared.Cause.{Cause}
 use Rattle.run_causes.specs.declared.Cause.the-variants.{Pointer}
 use Rattle.run_causes.specs.Causes.{isPermitted}
-use Rattle.pso_answering.specs.Causes.{Because, psoStepAnswer}
+use Rattle.pso_step.specs.Causes.{Because, psoStepAnswer}
 use Rattle.pso_replay.specs.Answers.{PsoStopped}
-use Rattle.pso_answering.proofs.CauseLaws.{Answers, answers, because-only}
+use Rattle.pso_step.proofs.CauseLaws.{Answers, answers, because-only}
 use Rattle.demands.specs.PsoRuns.{PsoHalts}
 
 -- ---- one step

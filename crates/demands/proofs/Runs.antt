@@ -20,8 +20,8 @@ use Rattle.run_causes.specs.declared.Answer.{Answer}
 use Rattle.run_causes.specs.declared.Answer.the-variants.{Permitted, Refused}
 use Rattle.run_causes.specs.declared.Cause.{Cause}
 use Rattle.run_causes.specs.declared.Cause.the-variants.{State}
-use Rattle.run_last_test.specs.declared.RunAnswer.{RunAnswer}
-use Rattle.run_last_test.specs.declared.RunAnswer.the-variants.{Reachable, Stopped, Missed}
+use Rattle.run_step.specs.declared.last_test.RunAnswer.{RunAnswer}
+use Rattle.run_step.specs.declared.last_test.RunAnswer.the-variants.{Reachable, Stopped, Missed}
 use Rattle.run_replay.specs.Replay.{lowestMet}
 use Rattle.run_causes.specs.Causes.{stepAnswer, isPermitted}
 use Rattle.run_replay.specs.Answers.{lastAnswer, answerThen, answerFrom, runAnswer}

@@ -20,7 +20,7 @@ use Rattle.machine_pws.specs.Entries.{AboveList}
 use Rattle.machine_pws.specs.Sequences.{Takes, Visited, Answers}
 use Rattle.machine_pws.specs.Ranges.{CountsOf, KeepsRanges}
 use Rattle.list_theory.specs.Verdict.{target, SafeList, Unheld, Started, Entered}
-use Rattle.file_records.specs.Bytes.{byte}
+use Rattle.base.specs.Bytes.{byte}
 use Rattle.file_contents.specs.declared.evidence.Part.{Part}
 use Rattle.file_contents.specs.Reading as reading
 use Rattle.run_causes.specs.declared.Cause.the-variants.{State, Queue, Value, Nothing}

@@ -10,7 +10,7 @@ use Rattle.machine_pws.specs.Program.{Shape}
 use Rattle.machine_pws.specs.Machine.{Configuration, allBelow}
 use Rattle.machine_pws.specs.Entries.{AboveList, entry}
 use Rattle.file_records.specs.declared.program.Program.{Program}
-use Rattle.file_records.specs.Bytes.{choose}
+use Rattle.base.specs.Bytes.{choose}
 use Rattle.file_records.specs.ProgramPart.{programOf}
 use Rattle.file_again.specs.Again.{entriesOf}
 use Rattle.list_summary.specs.Slots.{countAt}

@@ -5,7 +5,7 @@ use mathlib.Core.Bool.{Bool, true, false}
 use mathlib.Core.List.{List, [], _∷_, _++_, append-assoc}
 use native.Mathlib.Omega.{arith}
 use lib.ListN.{length, drop, length-append}
-use Rattle.file_records.specs.Bytes.{choose}
+use Rattle.base.specs.Bytes.{choose}
 use Rattle.drawing.specs.declared.word.Way.{Way}
 use Rattle.drawing.specs.declared.word.Way.the-variants.{On, Stuck}
 use Rattle.drawing.specs.declared.read.NodesRead.{NodesRead}

@@ -9,7 +9,7 @@ use lib.ListN.{length, take, drop, length-append, take-append-drop, List·getD-a
 use lib.Seq.{take-at, take-take, getD-take, length-take-le}
 use borrow.Author.Tests.{lt-ltb}
 use Rattle.machine_pws.specs.declared.Step.{Step}
-use Rattle.file_records.specs.Bytes.{choose, byte}
+use Rattle.base.specs.Bytes.{choose, byte}
 use Rattle.drawing.specs.declared.word.Way.{Way}
 use Rattle.drawing.specs.declared.word.Way.the-variants.{On, Stuck}
 use Rattle.drawing.specs.declared.read.NodesRead.{NodesRead}

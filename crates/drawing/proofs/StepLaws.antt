@@ -9,7 +9,7 @@ use lib.Seq.{drop-cons}
 use lib.Dec.{leb, ltb}
 use borrow.Author.Tests.{eqb-true, ltb-true, leb-true, leb-false, not-false}
 use Rattle.machine_pws.specs.declared.Step.the-variants.{Take, Serialise, Update}
-use Rattle.file_records.specs.Bytes.{choose, byte}
+use Rattle.base.specs.Bytes.{choose, byte}
 use Rattle.file_records.specs.declared.program.Refusal.{Refusal}
 use Rattle.file_records.specs.declared.program.Checked.{Checked}
 use Rattle.file_records.specs.declared.program.Checked.the-variants.{Fine, Refused}

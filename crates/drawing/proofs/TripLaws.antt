@@ -9,7 +9,7 @@ use lib.ListN.{length, drop, length-drop, length-append}
 use borrow.Author.Tests.{eq-eqb, ne-eqb, lt-ltb, le-leb, lt-leb}
 use Rattle.machine_pws.specs.declared.Step.{Step}
 use Rattle.machine_pws.specs.declared.Step.the-variants.{Take, Serialise, Update}
-use Rattle.file_records.specs.Bytes.{byte, cut}
+use Rattle.base.specs.Bytes.{byte, cut}
 use Rattle.file_records.specs.declared.program.Checked.the-variants.{Fine}
 use Rattle.file_records.specs.declared.program.Counted.{Counted}
 use Rattle.file_records.specs.declared.program.Counted.the-variants.{Records, Stopped}

@@ -7,7 +7,7 @@ use mathlib.Core.List.{List, [], _++_}
 use lib.ListN.{length, drop}
 use lib.Dec.{leb, ltb}
 use Rattle.machine_pws.specs.declared.Step.{Step}
-use Rattle.file_records.specs.Bytes.{choose}
+use Rattle.base.specs.Bytes.{choose}
 use Rattle.file_records.specs.declared.program.Counted.{Counted}
 use Rattle.file_records.specs.declared.program.Counted.the-variants.{Records, Stopped}
 use Rattle.file_contents.specs.EvidencePart.{stepsFrom, stepsOf}

@@ -4,9 +4,9 @@ ghost use Prim.Native.Nat.{_+_, _≤_, _<_};
 ghost use lib.ListN.{length};
 ghost use Rattle.drawing.specs.Reading.{isDigit, isSmall, valueAt, thirdDigit, secondDigit, numberAt, variableAt, pairAt, processAt, labelAt};
 use crate::word::has;
-use file_records::bytes::both;
-use file_records::bytes::byte_at;
-use file_records::bytes::wide;
+use base::bytes::both;
+use base::bytes::byte_at;
+use base::bytes::wide;
 use machine_pws::Step;
 
 // An edge's step and the place after it, or where something else stands.

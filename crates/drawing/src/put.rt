@@ -7,7 +7,7 @@ ghost use Rattle.drawing.specs.Text.{decimal, letters, nodeLine};
 ghost use Rattle.drawing.specs.Runs.{StepInRange, stepInRange};
 ghost use Rattle.drawing.specs.Writing.{shown};
 ghost use Rattle.drawing.specs.Parts.{Put, edgeHead};
-use file_records::bytes::both;
+use base::bytes::both;
 use machine_pws::Step;
 
 // The word goes to a place in the slice, and the place after it is handed back.

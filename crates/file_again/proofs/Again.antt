@@ -15,7 +15,7 @@ use Rattle.file_records.specs.declared.program.Checked.the-variants.{Fine, Refu
 use Rattle.file_records.specs.declared.program.Program.{Program}
 use Rattle.file_contents.specs.declared.evidence.Part.{Part}
 use Rattle.file_contents.specs.declared.evidence.Reading.{Reading}
-use Rattle.file_records.specs.Bytes.{byte}
+use Rattle.base.specs.Bytes.{byte}
 use Rattle.file_records.specs.Records.{isKind, transitionAt, stateAt, stepBody}
 use Rattle.file_records.specs.ProgramPart.{programFrom, programOf, targetsOf}
 use Rattle.file_contents.specs.EvidencePart.{stepsOf, entriesAllowed, wroteFrom}

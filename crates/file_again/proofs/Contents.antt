@@ -19,7 +19,7 @@ use Rattle.file_records.specs.declared.program.Checked.the-variants.{Fine, Refu
 use Rattle.file_records.specs.declared.program.Counted.{Counted}
 use Rattle.file_records.specs.declared.program.Counted.the-variants.{Records, Stopped}
 use Rattle.file_records.specs.declared.program.Program.{Program}
-use Rattle.file_records.specs.Bytes.{byte, le32}
+use Rattle.base.specs.Bytes.{byte, le32}
 use Rattle.file_records.specs.Records.{checked, isKind, claimNumber, startNumber, memoryAt, exists, stepBody, stepNames, stepNumber, stepAt, transitionAt}
 use Rattle.file_records.specs.ProgramPart.{unlessEnd, programFrom, programOf, targetsOf}
 use Rattle.file_contents.specs.declared.evidence.Part.{Part}

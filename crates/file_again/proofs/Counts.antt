@@ -8,7 +8,7 @@ use Rattle.machine_pws.specs.declared.Step.{Step}
 use Rattle.machine_pws.specs.Program as pws
 use Rattle.machine_pws.specs.Ranges.{CountsOf}
 use Rattle.file_records.specs.declared.program.Program.{Program}
-use Rattle.file_records.specs.Bytes.{byte}
+use Rattle.base.specs.Bytes.{byte}
 use Rattle.file_records.specs.Records.{shapeAt}
 use Rattle.file_records.specs.ProgramPart.{programFrom}
 use Rattle.file_contents.specs.Reading.{Input, evidenceAt, FileRead, refused, list, run, psoRun, readFile}

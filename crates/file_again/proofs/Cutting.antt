@@ -16,7 +16,7 @@ use Rattle.file_records.specs.declared.program.Counted.{Counted}
 use Rattle.file_records.specs.declared.program.Counted.the-variants.{Records, Stopped}
 use Rattle.file_records.specs.declared.program.Program.{Program}
 use Rattle.file_contents.specs.declared.evidence.Part.the-variants.{InProgram, InEvidence}
-use Rattle.file_records.specs.Bytes.{choose, byte}
+use Rattle.base.specs.Bytes.{choose, byte}
 use Rattle.file_records.specs.Records.{checked, claimNumber, startNumber, memoryAt}
 use Rattle.file_records.specs.ProgramPart.{unlessEnd, programFrom, programOf, targetsOf}
 use Rattle.file_contents.specs.EvidencePart.{stepsFrom, stepsOf, EntriesRead, entriesFrom, entriesAllowed}

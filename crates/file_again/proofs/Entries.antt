@@ -12,10 +12,10 @@ use Rattle.machine_pws.specs.Entries.{entry}
 use Rattle.file_records.specs.declared.program.Shape.{Shape}
 use Rattle.file_records.specs.declared.program.Checked.{Checked}
 use Rattle.file_records.specs.declared.program.Checked.the-variants.{Fine, Refused}
-use Rattle.file_records.specs.Bytes.{choose, le32, put32}
+use Rattle.base.specs.Bytes.{choose, le32, put32}
 use Rattle.file_records.specs.Records.{checked, entryNumber}
 use Rattle.file_contents.specs.EvidencePart.{EntryRead, whole, bad, entryRead, EntriesRead, headThen, entryThen, entriesFrom, wroteFrom}
-use Rattle.file_records.proofs.ByteLaws.{put32-length, le32-put32, le32-elsewhere}
+use Rattle.base.proofs.ByteLaws.{put32-length, le32-put32, le32-elsewhere}
 use Rattle.file_records.proofs.RecordLaws.{fine-refused, entry-fine}
 use Rattle.file_again.proofs.Names.{no-true}
 use Rattle.file_again.proofs.Entry.{entry-near}

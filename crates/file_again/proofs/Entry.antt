@@ -21,12 +21,12 @@ use Rattle.file_records.specs.declared.program.Refusal.{Refusal}
 use Rattle.file_records.specs.declared.program.Checked.{Checked}
 use Rattle.file_records.specs.declared.program.Checked.the-variants.{Fine, Refused}
 use Rattle.file_contents.specs.declared.entry.Loaded.{Loaded}
-use Rattle.file_records.specs.Bytes.{choose, byte, cut}
+use Rattle.base.specs.Bytes.{choose, byte, cut}
 use Rattle.file_records.specs.Records.{checked, isKind, exists, stateNames, stateAt, pointerNames, pointerAt, entryNumber, messageAt, messageNumber, messageNames, waitingNumber, waitingNames}
 use Rattle.file_records.specs.ProgramPart.{shapeOf}
 use Rattle.file_contents.specs.EvidencePart.{beginning, withMessage, withWaiting, extended, bodySize, bodyNumber, pointerInside, pointsFirst, pointersFit, someFirst, complete, whole, bad, atBoundary, finished, bodyThen, entryFrom, entryRead}
 use Rattle.file_contents.specs.Cube.{configurationOf, loadsMessage, loadsWaiting, nothingLoaded, moreMessage, moreWaiting, loadFrom, loaded, loadEntry}
-use Rattle.file_records.proofs.ByteLaws.{byte-past}
+use Rattle.base.proofs.ByteLaws.{byte-past}
 use Rattle.file_records.proofs.RecordLaws.{Good, good, entry-fine, cut-fits}
 use Rattle.file_records.proofs.ProgramLaws.{and-true}
 use Rattle.file_contents.proofs.CubeLaws.{load-message, load-waiting, load-ends}

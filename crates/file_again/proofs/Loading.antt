@@ -13,7 +13,7 @@ use Rattle.machine_pws.specs.declared.Message.{Message}
 use Rattle.machine_pws.specs.Machine.{Configuration, putQueue, noMessage}
 use Rattle.file_contents.specs.declared.entry.Queue.{Queue}
 use Rattle.file_contents.specs.declared.entry.Loaded.{Loaded}
-use Rattle.file_records.specs.Bytes.{byte}
+use Rattle.base.specs.Bytes.{byte}
 use Rattle.file_records.specs.Records.{messageAt}
 use Rattle.file_contents.specs.EvidencePart.{beginning, withMessage, withWaiting}
 use Rattle.file_contents.specs.Cube.{noQueue, emptyQueue, blankMessage, waitingOf, channelOf, queueOf, pushed, nothingLoaded, moreMessage, moreWaiting}

@@ -14,7 +14,7 @@ use Rattle.machine_pws.specs.Program as pws
 use Rattle.machine_pws.specs.Configurations.{MessageIn, StatesOf, StartingMemory}
 use Rattle.machine_pws.specs.Entries.{ValueOrFF}
 use Rattle.file_records.specs.declared.program.Shape.{Shape}
-use Rattle.file_records.specs.Bytes.{byte}
+use Rattle.base.specs.Bytes.{byte}
 use Rattle.file_records.specs.Records.{inRange, valueExists, operationNames, operationOf, transitionAt, transitionNames, stateName, stateNames, stateAt, exists, pointerName, pointerNames, pointerAt, valueName, valueNames, messageNames, messageAt, waitingNames, valueCount, checked, startName, startNames, startNumber, memoryAt}
 use Rattle.file_records.specs.ProgramPart.{shapeOf}
 use Rattle.file_records.specs.declared.program.Checked.the-variants.{Fine}

@@ -10,7 +10,7 @@ use lib.Dec.{eqb}
 use borrow.Author.Tests.{eq-eqb, ne-eqb}
 use Rattle.file_contents.specs.declared.evidence.Part.{Part}
 use Rattle.file_contents.specs.declared.evidence.Part.the-variants.{InProgram, InEvidence}
-use Rattle.file_records.specs.Bytes.{byte}
+use Rattle.base.specs.Bytes.{byte}
 use Rattle.file_again.specs.Offending.{bodyOf, recordAt, Offending, isInProgram, bytesOf, endOfFile, isOfRecord, offendingBy, partBy}
 
 -- ---- the record at a place

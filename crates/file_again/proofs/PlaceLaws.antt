@@ -7,9 +7,9 @@ use native.Mathlib.Omega.{arith}
 use native.Mathlib.Decide.{decLe}
 use lib.ListN.{length, getD}
 use lib.Dec.{eqb}
-use Rattle.file_records.specs.Bytes.{byte}
+use Rattle.base.specs.Bytes.{byte}
 use Rattle.file_records.specs.Records.{transitionAt}
-use Rattle.file_records.proofs.ByteLaws.{byte-past}
+use Rattle.base.proofs.ByteLaws.{byte-past}
 use Rattle.file_again.specs.Again.{placeIn}
 
 pub place-past : (f : List ℕ) (x : ℕ) → length f ≤ x → length f ≡ placeIn f x

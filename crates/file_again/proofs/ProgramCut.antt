@@ -16,7 +16,7 @@ use Rattle.file_records.specs.declared.program.ProgramRead.{ProgramRead}
 use Rattle.file_records.specs.declared.program.Checked.{Checked}
 use Rattle.file_records.specs.declared.program.Checked.the-variants.{Fine}
 use Rattle.file_records.specs.declared.program.Counted.the-variants.{Records}
-use Rattle.file_records.specs.Bytes.{byte, cut}
+use Rattle.base.specs.Bytes.{byte, cut}
 use Rattle.file_records.specs.Records.{checked, isKind, shapeAt, shapeNumber, statesNumber, transitionAt, transitionNumber, transitionNames, targetNumber, stateNames, stateAt}
 use Rattle.file_records.specs.ProgramPart.{unlessEnd, statesFrom, ofProcess, ofProcesses, rowFrom, transitionsFrom, atEnd, targetsFrom, rowsFrom, restFrom, programFrom, tableFrom, programOf, targetsOf}
 use Rattle.file_records.proofs.RecordLaws.{unless-fine, unless-not, cut-fits, row-ends, row-next, transition-fine, target-fine}

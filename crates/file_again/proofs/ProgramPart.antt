@@ -16,7 +16,7 @@ use Rattle.file_records.specs.declared.program.Shape.{Shape}
 use Rattle.file_records.specs.declared.program.Program.{Program}
 use Rattle.file_records.specs.declared.program.Checked.the-variants.{Fine}
 use Rattle.file_records.specs.declared.program.Counted.the-variants.{Records}
-use Rattle.file_records.specs.Bytes.{byte}
+use Rattle.base.specs.Bytes.{byte}
 use Rattle.file_records.specs.Records.{checked, inRange, isKind, shapeAt, valueCount, countInRange, countsInRange, countIfAbsent, countsIfAbsent, shapeNumber, transitionAt, transitionNumber, transitionNames, targetNumber, stateNames, stateAt}
 use Rattle.file_records.specs.ProgramPart.{unlessEnd, statesFrom, ofProcess, ofProcesses, atEnd, transitionsFrom, targetsFrom, programFrom, shapeOf, programOf, targetsOf}
 use Rattle.file_records.proofs.RecordLaws.{good, unless-fine, states-fine, transition-fine, target-fine}

@@ -12,7 +12,7 @@ use Rattle.file_records.specs.declared.program.Checked.{Checked}
 use Rattle.file_records.specs.declared.program.Checked.the-variants.{Fine, Refused}
 use Rattle.file_records.specs.declared.program.Counted.{Counted}
 use Rattle.file_records.specs.declared.program.Counted.the-variants.{Records, Stopped}
-use Rattle.file_records.specs.Bytes.{choose}
+use Rattle.base.specs.Bytes.{choose}
 use Rattle.file_records.specs.Records.{checked, statesNumber, stepBody, stepAt}
 use Rattle.file_records.specs.ProgramPart.{unlessEnd, andThen, countThen, statesFrom, rowFrom}
 use Rattle.file_contents.specs.EvidencePart.{stepsOf}

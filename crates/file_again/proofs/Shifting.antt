@@ -15,7 +15,7 @@ use Rattle.file_records.specs.declared.program.Checked.{Checked}
 use Rattle.file_records.specs.declared.program.Checked.the-variants.{Fine, Refused}
 use Rattle.file_records.specs.declared.program.Counted.{Counted}
 use Rattle.file_records.specs.declared.program.Counted.the-variants.{Records, Stopped}
-use Rattle.file_records.specs.Bytes.{choose, byte, cut}
+use Rattle.base.specs.Bytes.{choose, byte, cut}
 use Rattle.file_records.specs.Records.{checked, isKind, claimNumber, startNames, startNumber, memoryAt, stepBody, stepNames, stepNumber, stepAt, stateNames, stateAt, pointerNames, pointerAt, entryNumber, valueNames, messageNames, messageNumber, waitingNames, waitingNumber}
 use Rattle.file_records.specs.ProgramPart.{unlessEnd, countThen, rowFrom}
 use Rattle.file_contents.specs.EvidencePart.{stepsFrom, stepsOf, beginning, extended, bodySize, bodyNumber, complete, EntryRead, whole, bad, atBoundary, finished, bodyThen, entryFrom, entryRead, EntriesRead, headThen, entryThen, entriesFrom}

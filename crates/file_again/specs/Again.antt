@@ -6,7 +6,7 @@ use Rattle.machine_pws.specs.declared.Transition.{Transition}
 use Rattle.machine_pws.specs.Machine.{Configuration}
 use Rattle.file_records.specs.declared.program.Program.{Program}
 use Rattle.file_contents.specs.declared.entry.Cube.{Cube}
-use Rattle.file_records.specs.Bytes.{byte, le32}
+use Rattle.base.specs.Bytes.{byte, le32}
 use Rattle.file_records.specs.Records.{transitionAt}
 use Rattle.file_records.specs.ProgramPart.{tableFrom}
 use Rattle.file_contents.specs.Cube.{configurationOf, loadEntry}

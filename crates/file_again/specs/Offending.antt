@@ -6,7 +6,7 @@ use lib.ListN.{length, take, drop}
 use lib.Dec.{eqb, leb}
 use Rattle.file_contents.specs.declared.evidence.Part.{Part}
 use Rattle.file_contents.specs.declared.evidence.Part.the-variants.{InProgram, InEvidence}
-use Rattle.file_records.specs.Bytes.{byte}
+use Rattle.base.specs.Bytes.{byte}
 use Rattle.file_contents.specs.Reading.{Input, FileRead, refused, list, run, psoRun}
 
 -- the length of the body of each kind that the judge's files have anywhere (document 01, "Records"; document 02, N3 and N5), and 0 for an unknown one

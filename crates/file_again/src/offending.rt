@@ -3,10 +3,10 @@
 ghost use mathlib.Core.Path.{_≡_};
 ghost use mathlib.Core.List.{[]};
 ghost use Rattle.file_again.specs.Offending.{bodyOf, recordAt, isOfRecord, isInProgram, offendingBy, partBy};
+use base::bytes::both;
+use base::bytes::byte_at;
+use base::bytes::either;
 use file_contents::evidence::Part;
-use file_records::bytes::both;
-use file_records::bytes::byte_at;
-use file_records::bytes::either;
 
 // The length of a record's body by its kind; 0 for an unknown kind.
 fn body_of(kind: u8) -> usize

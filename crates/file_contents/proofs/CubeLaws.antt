@@ -9,10 +9,10 @@ use lib.ListN.{length, getD}
 use lib.Dec.{eqb, ltb}
 use borrow.Author.Tests.{eqb-true, ltb-true, lt-ltb, le-ltb}
 use Rattle.file_contents.specs.declared.entry.Loaded.{Loaded}
-use Rattle.file_records.specs.Bytes.{byte}
+use Rattle.base.specs.Bytes.{byte}
 use Rattle.file_records.specs.Records.{isKind}
 use Rattle.file_contents.specs.Cube.{loadsMessage, loadsWaiting, nothingLoaded, moreMessage, moreWaiting, loadFrom, loaded}
-use Rattle.file_records.proofs.ByteLaws.{byte-past}
+use Rattle.base.proofs.ByteLaws.{byte-past}
 use Rattle.file_records.proofs.ProgramLaws.{and-true}
 
 -- a record of a kind stands in the file

@@ -17,7 +17,7 @@ use Rattle.file_records.specs.declared.program.Counted.{Counted}
 use Rattle.file_records.specs.declared.program.Counted.the-variants.{Records, Stopped}
 use Rattle.file_records.specs.declared.program.Program.{Program}
 use Rattle.file_records.specs.declared.program.ProgramRead.{ProgramRead}
-use Rattle.file_records.specs.Bytes.{byte, cut}
+use Rattle.base.specs.Bytes.{byte, cut}
 use Rattle.file_records.specs.Records.{checked, claimNumber, startNumber, memoryAt, isKind, shapeAt, shapeNumber}
 use Rattle.file_records.specs.ProgramPart.{unlessEnd, statesFrom, ofProcesses, transitionsFrom, targetsFrom, orRefused, withCount, rowsFrom, restFrom, programFrom}
 use Rattle.file_contents.specs.EvidencePart.{stepsFrom, EntriesRead, entriesFrom, entriesAllowed}

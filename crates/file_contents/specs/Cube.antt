@@ -9,7 +9,7 @@ use Rattle.machine_pws.specs.Machine.{Configuration, noMessage}
 use Rattle.file_contents.specs.declared.entry.Queue.{Queue}
 use Rattle.file_contents.specs.declared.entry.Cube.{Cube}
 use Rattle.file_contents.specs.declared.entry.Loaded.{Loaded}
-use Rattle.file_records.specs.Bytes.{choose, byte}
+use Rattle.base.specs.Bytes.{choose, byte}
 use Rattle.file_records.specs.Records.{isKind, messageAt}
 use Rattle.file_contents.specs.Tally.{queueAt}
 

@@ -13,7 +13,7 @@ use Rattle.file_records.specs.declared.program.Checked.{Checked}
 use Rattle.file_records.specs.declared.program.Checked.the-variants.{Fine, Refused}
 use Rattle.file_records.specs.declared.program.Counted.{Counted}
 use Rattle.file_records.specs.declared.program.Counted.the-variants.{Records, Stopped}
-use Rattle.file_records.specs.Bytes.{choose, byte, put32}
+use Rattle.base.specs.Bytes.{choose, byte, put32}
 use Rattle.file_records.specs.Records.{
   checked,
   isKind,

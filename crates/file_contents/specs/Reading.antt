@@ -18,7 +18,7 @@ use Rattle.file_records.specs.declared.program.ProgramRead.{ProgramRead}
 use Rattle.file_contents.specs.declared.evidence.Part.{Part}
 use Rattle.file_contents.specs.declared.evidence.Part.the-variants.{InProgram, InEvidence}
 use Rattle.file_contents.specs.declared.evidence.Reading.{Reading}
-use Rattle.file_records.specs.Bytes.{choose, byte}
+use Rattle.base.specs.Bytes.{choose, byte}
 use Rattle.file_records.specs.Records.{checked, claimNumber, startNumber, memoryAt}
 use Rattle.file_records.specs.ProgramPart.{unlessEnd, noProgram, programFrom, programOf, targetsOf}
 use Rattle.file_contents.specs.EvidencePart.{stepsFrom, stepsOf, EntriesRead, entriesFrom, entriesAllowed, wroteFrom}

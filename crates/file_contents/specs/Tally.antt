@@ -6,7 +6,7 @@ use Rattle.file_records.specs.declared.program.Checked.{Checked}
 use Rattle.file_records.specs.declared.program.Checked.the-variants.{Fine, Refused}
 use Rattle.file_records.specs.declared.program.Counted.{Counted}
 use Rattle.file_records.specs.declared.program.Counted.the-variants.{Records, Stopped}
-use Rattle.file_records.specs.Bytes.{byte}
+use Rattle.base.specs.Bytes.{byte}
 use Rattle.file_contents.specs.EvidencePart.{EntriesRead}
 
 -- the place of a queue's count

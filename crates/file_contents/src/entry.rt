@@ -4,11 +4,11 @@ ghost use Prim.Native.Nat.{ℕ, _+_, _*_, _≤_, _<_};
 ghost use lib.ListN.{length, getD};
 ghost use Rattle.file_records.specs.Records.{messageAt};
 ghost use Rattle.file_contents.specs.Cube.{loadsMessage, loadsWaiting, pushed, headed, loaded, loadEntry};
-use file_records::bytes::both;
-use file_records::bytes::byte_at;
-use file_records::bytes::cut;
-use file_records::bytes::field;
-use file_records::bytes::wide;
+use base::bytes::both;
+use base::bytes::byte_at;
+use base::bytes::cut;
+use base::bytes::field;
+use base::bytes::wide;
 use file_records::record::is_kind;
 use machine_pws::Message;
 

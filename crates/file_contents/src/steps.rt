@@ -2,11 +2,11 @@
 ghost use mathlib.Core.Path.{_≡_};
 ghost use Rattle.file_records.specs.Records.{checked, isStep, stepBody, exists, stepNames, stepNumber, stepAt};
 ghost use Rattle.file_contents.specs.EvidencePart.{stepsFrom};
-use file_records::bytes::both;
-use file_records::bytes::cut;
-use file_records::bytes::either;
-use file_records::bytes::field;
-use file_records::bytes::wide;
+use base::bytes::both;
+use base::bytes::cut;
+use base::bytes::either;
+use base::bytes::field;
+use base::bytes::wide;
 use file_records::program::Checked;
 use file_records::program::Counted;
 use file_records::program::Shape;

@@ -2,10 +2,10 @@
 ghost use mathlib.Core.Path.{_≡_};
 ghost use Rattle.file_records.specs.Records.{checked, inRange, countInRange, countsInRange, countIfAbsent, countsIfAbsent, shapeNumber, statesNumber, valueExists, allZero, operationNames, transitionNames, transitionNumber, stateName, stateNames, targetNumber};
 use crate::program::shape_at;
-use file_records::bytes::both;
-use file_records::bytes::cut;
-use file_records::bytes::field;
-use file_records::bytes::wide;
+use base::bytes::both;
+use base::bytes::cut;
+use base::bytes::field;
+use base::bytes::wide;
 use file_records::program::Checked;
 use file_records::program::Shape;
 use file_records::program::of_four;

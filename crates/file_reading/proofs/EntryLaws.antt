@@ -17,7 +17,7 @@ use Rattle.file_records.specs.declared.program.Refusal.{Refusal}
 use Rattle.file_records.specs.declared.program.Checked.{Checked}
 use Rattle.file_records.specs.declared.program.Checked.the-variants.{Fine, Refused}
 use Rattle.file_reading.specs.declared.list.Tally.{Tally}
-use Rattle.file_records.specs.Bytes.{choose, byte, cut}
+use Rattle.base.specs.Bytes.{choose, byte, cut}
 use Rattle.file_records.specs.Records.{firstNumber, checked, isKind, exists, pointerAt, messageAt, messageNumber, messageNames, waitingNumber, waitingNames}
 use Rattle.file_contents.specs.EvidencePart.{EntryRead, whole, bad, beginning, withMessage, withWaiting, extended, bodySize, bodyNumber, complete, atBoundary, finished, entryFrom, entryRead}
 use Rattle.file_contents.specs.Tally.{queueAt}

@@ -10,7 +10,7 @@ use Rattle.file_records.specs.declared.program.Checked.{Checked}
 use Rattle.file_records.specs.declared.program.Checked.the-variants.{Fine, Refused}
 use Rattle.file_records.specs.declared.program.Counted.{Counted}
 use Rattle.file_records.specs.declared.program.Program.{Program}
-use Rattle.file_records.specs.Bytes.{byte}
+use Rattle.base.specs.Bytes.{byte}
 use Rattle.file_records.specs.Records.{checked, claimNumber}
 use Rattle.file_records.specs.ProgramPart.{refusalOf, unlessEnd}
 use Rattle.file_contents.specs.declared.evidence.Part.the-variants.{InEvidence}

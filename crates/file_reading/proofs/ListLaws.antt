@@ -14,7 +14,7 @@ use Rattle.file_records.specs.declared.program.Refusal.{Refusal}
 use Rattle.file_records.specs.declared.program.Checked.{Checked}
 use Rattle.file_records.specs.declared.program.Checked.the-variants.{Fine, Refused}
 use Rattle.file_reading.specs.declared.list.EntryEnd.the-variants.{Next, Bad}
-use Rattle.file_records.specs.Bytes.{choose, put32}
+use Rattle.base.specs.Bytes.{choose, put32}
 use Rattle.file_records.specs.Records.{checked, entryNumber}
 use Rattle.file_contents.specs.EvidencePart.{
   EntryRead,
@@ -35,7 +35,7 @@ use Rattle.file_contents.specs.EvidencePart.{
   wroteFrom,
 }
 use Rattle.file_reading.specs.Tally.{endOf}
-use Rattle.file_records.proofs.ByteLaws.{put32-length}
+use Rattle.base.proofs.ByteLaws.{put32-length}
 use Rattle.file_records.proofs.RecordLaws.{entry-fine}
 
 -- ---- an entry ends past its 10

@@ -1,8 +1,8 @@
 // The claim (document 01, "Records").
 ghost use mathlib.Core.Path.{_≡_};
 ghost use Rattle.file_records.specs.Records.{checked, claimNumber};
-use file_records::bytes::cut;
-use file_records::bytes::field;
+use base::bytes::cut;
+use base::bytes::field;
 use file_records::program::Checked;
 use file_records::record::answer;
 use file_records::record::first_number;

@@ -1,9 +1,9 @@
 // The memory that a run starts from (document 02, N3).
 ghost use mathlib.Core.Path.{_≡_};
 ghost use Rattle.file_records.specs.Records.{checked, startName, startNames, startNumber, memoryAt};
-use file_records::bytes::both;
-use file_records::bytes::cut;
-use file_records::bytes::field;
+use base::bytes::both;
+use base::bytes::cut;
+use base::bytes::field;
 use file_records::program::Checked;
 use file_records::program::Shape;
 use file_records::program::value_count;

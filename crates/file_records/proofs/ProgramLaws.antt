@@ -11,7 +11,7 @@ use Rattle.file_records.specs.declared.program.Checked.{Checked}
 use Rattle.file_records.specs.declared.program.Checked.the-variants.{Fine, Refused}
 use Rattle.file_records.specs.declared.program.Counted.the-variants.{Records, Stopped}
 use Rattle.file_records.specs.declared.program.Shape.{Shape}
-use Rattle.file_records.specs.Bytes.{byte, cut}
+use Rattle.base.specs.Bytes.{byte, cut}
 use Rattle.file_records.specs.Records.{checked, inRange, countsInRange, shapeAt, shapeNumber}
 use Rattle.file_records.specs.ProgramPart.{unlessEnd, transitionsFrom, targetsFrom}
 use Rattle.file_records.proofs.RecordLaws.{Good, good, cut-fits, unless-fine, row-most}

@@ -13,7 +13,7 @@ use Rattle.file_records.specs.declared.program.Checked.{Checked}
 use Rattle.file_records.specs.declared.program.Checked.the-variants.{Fine, Refused}
 use Rattle.file_records.specs.declared.program.Counted.{Counted}
 use Rattle.file_records.specs.declared.program.Counted.the-variants.{Records, Stopped}
-use Rattle.file_records.specs.Bytes.{choose, byte, cut}
+use Rattle.base.specs.Bytes.{choose, byte, cut}
 use Rattle.file_records.specs.declared.program.Shape.{Shape}
 use Rattle.file_records.specs.Records.{firstNumber, checked, isKind, inRange, statesNumber, transitionNumber, transitionNames, targetNumber, stateNames, isStep, stepBody, stepNames, stepNumber, entryNumber, pointerNames}
 use Rattle.file_records.specs.ProgramPart.{unlessEnd, countThen, statesFrom, rowFrom}

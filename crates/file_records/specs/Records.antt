@@ -16,7 +16,7 @@ use Rattle.file_records.specs.declared.program.Shape.{Shape}
 use Rattle.file_records.specs.declared.program.Refusal.{Refusal}
 use Rattle.file_records.specs.declared.program.Checked.{Checked}
 use Rattle.file_records.specs.declared.program.Checked.the-variants.{Fine, Refused}
-use Rattle.file_records.specs.Bytes.{byte, cut}
+use Rattle.base.specs.Bytes.{byte, cut}
 
 -- within one record 2, 1, 5, 3, 4; 0 where nothing is refused
 unfoldable pub firstNumber : Bool → Bool → Bool → Bool → Bool → ℕ

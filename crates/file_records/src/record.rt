@@ -1,11 +1,11 @@
 // One record of the program part: its number in the refusal table, and what it says (document 01, "Records").
 ghost use mathlib.Core.Path.{_≡_};
 ghost use Rattle.file_records.specs.Records.{firstNumber, checked, isKind, operationOf, transitionAt};
-use crate::bytes::byte_at;
-use crate::bytes::field;
-use crate::bytes::wide;
 use crate::program::Checked;
 use crate::program::Refusal;
+use base::bytes::byte_at;
+use base::bytes::field;
+use base::bytes::wide;
 use machine_pws::Operation;
 use machine_pws::Transition;
 

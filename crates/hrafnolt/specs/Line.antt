@@ -8,7 +8,7 @@ use lib.Dec.{eqb, ltb}
 use Rattle.io.specs.Digits.{digits, Fewest}
 use Rattle.machine_pws.specs.declared.Step.{Step}
 use Rattle.machine_pws.specs.declared.Step.the-variants.{Take, Serialise, Update}
-use Rattle.file_records.specs.Bytes.{choose}
+use Rattle.base.specs.Bytes.{choose}
 use Rattle.drawing.specs.Text.{letters}
 use Rattle.drawing.specs.Runs.{StepInRange}
 use Rattle.file_contents.specs.Reading.{combined}

@@ -13,7 +13,7 @@ use Rattle.machine_pws.specs.Entries.{entry}
 use Rattle.file_records.specs.declared.program.Program.{Program}
 use Rattle.file_records.specs.declared.program.Shape.{Shape}
 use Rattle.file_contents.specs.declared.entry.Cube.{Cube}
-use Rattle.file_records.specs.Bytes.{choose, byte, le32, put32}
+use Rattle.base.specs.Bytes.{choose, byte, le32, put32}
 use Rattle.file_records.specs.ProgramPart.{tableFrom, programOf, targetsOf}
 use Rattle.list_theory.specs.Decision.{verdictOf}
 use Rattle.file_contents.specs.Cube.{configurationOf, loadEntry}

@@ -11,12 +11,12 @@ ghost use Rattle.file_records.specs.ProgramPart.{shapeOf};
 ghost use Rattle.file_records.specs.declared.program.Shape.{Shape};
 ghost use Rattle.file_contents.specs.Cube.{channelOf, configurationOf};
 ghost use Rattle.list_before.specs.Before.{Sound, LastWrites, WritePlace, byNumber, Inserted};
+use base::bytes::both;
+use base::bytes::least;
+use base::bytes::wide;
 use file_contents::entry::Cube;
-use file_records::bytes::both;
-use file_records::bytes::wide;
 use file_records::program::Shape;
 use file_records::program::of_four;
-use list_key::least;
 use machine_pws::Message;
 
 // ---- LastWrite

@@ -9,11 +9,11 @@ ghost use Rattle.list_theory.specs.Predecessors.{endsAlike};
 ghost use Rattle.file_records.specs.ProgramPart.{shapeOf};
 ghost use Rattle.file_contents.specs.Cube.{noQueue, waitingOf, queueOf, configurationOf};
 ghost use Rattle.list_before.specs.Before.{Waits};
+use base::bytes::both;
+use base::bytes::least;
 use file_contents::entry::Cube;
 use file_contents::entry::Queue;
-use file_records::bytes::both;
 use file_records::program::Shape;
-use list_key::least;
 use list_key::related;
 use list_key::waiting;
 

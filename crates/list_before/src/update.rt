@@ -12,12 +12,12 @@ ghost use Rattle.list_before.specs.Before.{Sound, CubeFor, LastWrites, R
 use crate::messages::inserted;
 use crate::messages::raised;
 use crate::messages::write_place;
+use base::bytes::both;
+use base::bytes::least;
 use file_contents::entry::Cube;
-use file_records::bytes::both;
 use file_records::program::Shape;
 use file_records::program::of_four;
 use list_key::any_message;
-use list_key::least;
 use list_key::word;
 use machine_pws::Message;
 

@@ -12,7 +12,7 @@ use borrow.Author.Tests.{eqb-true, eqb-false, ltb-true, leb-true, eq-eqb, ne-eqb
 use Rattle.machine_pws.specs.declared.Message.{Message}
 use Rattle.machine_pws.specs.Machine.{noMessage}
 use Rattle.file_records.specs.declared.program.Shape.{Shape}
-use Rattle.file_records.specs.Bytes.{byte}
+use Rattle.base.specs.Bytes.{byte}
 use Rattle.file_records.specs.Records.{messageAt}
 use Rattle.file_records.proofs.ProgramLaws.{and-true}
 use Rattle.file_contents.specs.declared.entry.Cube.{Cube}

@@ -13,7 +13,7 @@ use borrow.Author.Tests.{eqb-true, ltb-true, leb-true, leb-false, eq-eqb, ne-eqb
 use Rattle.machine_pws.specs.declared.Message.{Message}
 use Rattle.machine_pws.specs.Machine.{noMessage, newestWaiting, allBelow}
 use Rattle.file_records.specs.declared.program.Shape.{Shape}
-use Rattle.file_records.specs.Bytes.{byte, cut}
+use Rattle.base.specs.Bytes.{byte, cut}
 use Rattle.file_records.specs.Records.{isKind, messageAt}
 use Rattle.file_records.proofs.ProgramLaws.{and-true}
 use Rattle.file_contents.specs.declared.entry.Queue.{Queue}

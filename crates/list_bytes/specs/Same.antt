@@ -8,7 +8,7 @@ use lib.Dec.{eqb}
 use Rattle.machine_pws.specs.declared.Message.{Message}
 use Rattle.machine_pws.specs.Machine.{noMessage, allBelow}
 use Rattle.file_records.specs.declared.program.Shape.{Shape}
-use Rattle.file_records.specs.Bytes.{byte}
+use Rattle.base.specs.Bytes.{byte}
 use Rattle.file_records.specs.Records.{messageAt}
 use Rattle.file_contents.specs.declared.entry.Queue.{Queue}
 use Rattle.file_contents.specs.declared.entry.Cube.{Cube}

@@ -12,11 +12,11 @@ use crate::messages::before_messages;
 use crate::messages::channel_at;
 use crate::messages::messages_at;
 use crate::queues::queues_from;
+use base::bytes::cut;
+use base::bytes::least;
 use file_contents::entry::Cube;
 use file_contents::entry::Queue;
-use file_records::bytes::cut;
 use file_records::program::Shape;
-use list_key::least;
 use list_key::states_match;
 use list_key::values_related;
 

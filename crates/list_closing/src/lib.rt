@@ -17,18 +17,18 @@ ghost use Rattle.list_closing.specs.Walk.{stepHeld, walkStep, LowestFail
 use crate::serialise::serialised_held;
 use crate::take::before_held;
 use crate::update::updated_held;
+use base::bytes::least;
+use base::bytes::wide;
 use file_again::entry_at;
 use file_again::leads_to;
 use file_again::transition_of;
 use file_contents::entry::Cube;
-use file_records::bytes::wide;
 use file_records::program::Program;
 use list_before::messages::last_writes;
 use list_before::newest::newest;
 use list_families::in_full_family;
 use list_full::is_full;
 use list_full::states_from;
-use list_key::least;
 use machine_pws::Step;
 
 mod finding;

@@ -16,6 +16,7 @@ ghost use Rattle.list_before.specs.Before.{CubeFor, serialiseBefore};
 ghost use Rattle.list_families.specs.Family.{Families};
 ghost use Rattle.list_closing.specs.Walk.{stepHeld, Walkable, Serialising};
 use crate::finding::found;
+use base::bytes::least;
 use file_contents::entry::Cube;
 use file_contents::steps::pair_exists;
 use file_records::program::Program;
@@ -29,7 +30,6 @@ use list_before::serialise::may_serialise;
 use list_before::serialise::repeats_value;
 use list_cover::search::search;
 use list_families::in_full_family;
-use list_key::least;
 
 // With message k inside, which is past LastWrite: if there is such a cube, it is held.
 fn inside_held(

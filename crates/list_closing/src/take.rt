@@ -17,8 +17,9 @@ ghost use Rattle.list_full.specs.Table.{Full};
 ghost use Rattle.list_families.specs.Family.{Families};
 ghost use Rattle.list_closing.specs.Walk.{stepHeld, Walkable, Acting, TakenHeld};
 use crate::finding::found;
+use base::bytes::both;
+use base::bytes::least;
 use file_contents::entry::Cube;
-use file_records::bytes::both;
 use file_records::program::Program;
 use list_before::newest::alike_before;
 use list_before::newest::at_newest;
@@ -34,7 +35,6 @@ use list_before::operations::may_write;
 use list_before::queues::none_waiting;
 use list_full::is_full;
 use list_full::states_from;
-use list_key::least;
 use machine_pws::Operation;
 use machine_pws::Transition;
 

@@ -12,7 +12,7 @@ use Rattle.list_theory.specs.Matching.{matches}
 use Rattle.file_records.specs.declared.program.Shape.{Shape}
 use Rattle.file_contents.specs.declared.entry.Cube.{Cube}
 use Rattle.file_contents.specs.declared.entry.Loaded.{Loaded}
-use Rattle.file_records.specs.Bytes.{byte}
+use Rattle.base.specs.Bytes.{byte}
 use Rattle.file_records.specs.ProgramPart.{shapeOf}
 use Rattle.file_contents.specs.Cube.{configurationOf, loadEntry}
 use Rattle.file_contents.proofs.CubeLaws.{loaded-nothing}

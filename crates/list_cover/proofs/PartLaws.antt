@@ -19,7 +19,7 @@ use Rattle.file_records.specs.declared.program.Shape.{Shape}
 use Rattle.file_contents.specs.declared.entry.Queue.{Queue}
 use Rattle.file_contents.specs.declared.entry.Cube.{Cube}
 use Rattle.file_records.specs.ProgramPart.{shapeOf}
-use Rattle.file_records.specs.Bytes.{choose}
+use Rattle.base.specs.Bytes.{choose}
 use Rattle.file_contents.specs.Cube.{noQueue, waitingOf, channelOf, queueOf, configurationOf}
 use Rattle.file_contents.proofs.CubeParts.{channel-length, channel-message, channel-equal, queue-of, queue-put}
 use Rattle.list_key.proofs.ValueLaws.{value-waits}

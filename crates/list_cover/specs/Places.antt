@@ -12,7 +12,7 @@ use Rattle.list_theory.specs.Cubes.{withValues}
 use Rattle.file_records.specs.declared.program.Shape.{Shape}
 use Rattle.file_contents.specs.declared.entry.Queue.{Queue}
 use Rattle.file_contents.specs.declared.entry.Cube.{Cube}
-use Rattle.file_records.specs.Bytes.{choose}
+use Rattle.base.specs.Bytes.{choose}
 use Rattle.file_records.specs.Records.{valueCount}
 use Rattle.file_contents.specs.Cube.{noQueue, waitingOf}
 use Rattle.list_cover.specs.declared.place.Place.{Place}

@@ -4,13 +4,13 @@ ghost use mathlib.Core.Bool.{Bool, true, false, _&&_};
 ghost use Prim.Native.Nat.{ℕ, _+_, _*_, _≤_, _<_, min};
 ghost use lib.ListN.{length, getD};
 ghost use Rattle.list_cover.specs.Places.{isWhole, withWaiting, withSent, partOf, valueFree, waitsFree, sentFree, isFree, fillings, placeAt, NoneFree};
+use base::bytes::both;
+use base::bytes::least;
+use base::bytes::wide;
 use file_contents::entry::Cube;
 use file_contents::entry::Queue;
-use file_records::bytes::both;
-use file_records::bytes::wide;
 use file_records::program::Shape;
 use file_records::program::value_count;
-use list_key::least;
 use list_key::waiting;
 use machine_pws::Message;
 

@@ -24,9 +24,9 @@ use Rattle.list_theory.specs.Predecessors.{onTop, cube, predecessors}
 use Rattle.list_theory.specs.Decision.{held}
 use Rattle.list_theory.proofs.Matching.{queue-leftmost}
 use Rattle.file_records.specs.declared.program.Shape.{Shape}
-use Rattle.file_records.specs.Bytes.{byte, le32}
+use Rattle.base.specs.Bytes.{byte, le32}
 use Rattle.file_records.specs.ProgramPart.{shapeOf}
-use Rattle.file_records.proofs.ByteLaws.{byte-past}
+use Rattle.base.proofs.ByteLaws.{byte-past}
 use Rattle.file_contents.specs.declared.entry.Cube.{Cube}
 use Rattle.file_contents.specs.declared.entry.Queue.{Queue}
 use Rattle.file_contents.specs.Cube.{noQueue, waitingOf, channelOf, configurationOf, loadEntry}

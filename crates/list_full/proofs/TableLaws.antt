@@ -23,7 +23,7 @@ use Rattle.list_theory.specs.Predecessors.{predecessors}
 use Rattle.list_theory.specs.Decision.{held}
 use Rattle.list_theory.proofs.Lists.{T-true}
 use Rattle.file_records.specs.declared.program.Shape.{Shape}
-use Rattle.file_records.specs.Bytes.{choose}
+use Rattle.base.specs.Bytes.{choose}
 use Rattle.list_full.specs.Table.{fourAt, Full, placeOf, isFull, Among, putFour, withStates, statesFrom}
 use Rattle.list_full.proofs.Steps.{statesBefore, full-step}
 

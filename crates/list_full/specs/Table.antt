@@ -11,7 +11,7 @@ use Rattle.machine_pws.specs.Machine.{Configuration, put, allBelow}
 use Rattle.machine_pws.specs.Entries.{EntryOf, entry}
 use Rattle.list_theory.specs.Verdict.{TargetHeld}
 use Rattle.file_records.specs.declared.program.Shape.{Shape}
-use Rattle.file_records.specs.Bytes.{choose}
+use Rattle.base.specs.Bytes.{choose}
 
 -- the four bytes at a place
 unfoldable pub fourAt : List ℕ → ℕ → List ℕ

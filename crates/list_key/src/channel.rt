@@ -8,10 +8,10 @@ ghost use Rattle.list_key.specs.Relation.{relation};
 ghost use Rattle.list_key.specs.Tags.{labelNumber};
 ghost use Rattle.list_key.specs.Match.{Suits, channelMatches};
 use crate::tags::lowest;
-use crate::values::least;
 use crate::values::values_related;
+use base::bytes::least;
+use base::bytes::wide;
 use file_contents::entry::Cube;
-use file_records::bytes::wide;
 use file_records::program::Shape;
 use machine_pws::Message;
 

@@ -19,7 +19,6 @@ pub use queues::states_match;
 pub use tags::lowest;
 pub use tags::tags_of;
 pub use values::any_message;
-pub use values::least;
 pub use values::related;
 pub use values::values_related;
 pub use values::waiting;

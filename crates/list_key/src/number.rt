@@ -10,11 +10,11 @@ use crate::cues::cue_of;
 use crate::signature::wait_bits;
 use crate::signature::with_message;
 use crate::tags::lowest;
-use crate::values::least;
 use crate::values::waiting;
+use base::bytes::least;
+use base::bytes::wide;
 use file_contents::entry::Cube;
 use file_contents::entry::Queue;
-use file_records::bytes::wide;
 use file_records::program::Shape;
 
 fn stir(h: u64) -> u64

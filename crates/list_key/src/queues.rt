@@ -8,11 +8,11 @@ ghost use Rattle.file_contents.specs.Cube.{waitingOf};
 ghost use Rattle.list_theory.specs.Matching.{queueMatches};
 ghost use Rattle.list_key.specs.Relation.{relation};
 ghost use Rattle.list_key.specs.Match.{queueRow};
-use crate::values::least;
 use crate::values::related;
 use crate::values::waiting;
+use base::bytes::both;
+use base::bytes::least;
 use file_contents::entry::Queue;
-use file_records::bytes::both;
 use file_records::program::Shape;
 
 pub fn states_match(processes: usize, a: [u8; 4], b: [u8; 4]) -> bool

@@ -7,11 +7,11 @@ ghost use lib.Bits.{bitOr};
 ghost use lib.Dec.{eqb, ltb, leb};
 ghost use Rattle.file_contents.specs.Cube.{waitingOf};
 ghost use Rattle.list_key.specs.Signature.{FreeWord, bitAt, valueBit, valueBits, messageBits, waitBits};
-use crate::values::least;
 use crate::values::waiting;
 use crate::values::word;
+use base::bytes::least;
+use base::bytes::wide;
 use file_contents::entry::Queue;
-use file_records::bytes::wide;
 use machine_pws::Message;
 
 fn bit_at(k: usize) -> usize

@@ -3,10 +3,10 @@ ghost use mathlib.Core.Path.{_≡_};
 ghost use Prim.Native.Nat.{_+_, _*_, _%_, _^_, _<_, min};
 ghost use Rattle.list_key.specs.Roles.{labelPlace};
 ghost use Rattle.list_key.specs.Tags.{labelNumber, tagsOf, lowestPointer};
-use crate::values::least;
+use base::bytes::both;
+use base::bytes::least;
+use base::bytes::wide;
 use file_contents::entry::Cube;
-use file_records::bytes::both;
-use file_records::bytes::wide;
 use file_records::program::Shape;
 use machine_pws::Message;
 

@@ -8,18 +8,12 @@ ghost use Rattle.list_theory.specs.Values.{pairwise};
 ghost use Rattle.list_theory.specs.Cubes.{anyValue, anyMessage};
 ghost use Rattle.list_key.specs.Relation.{relation};
 ghost use Rattle.list_key.specs.Word.{Word};
+use base::bytes::both;
+use base::bytes::either;
+use base::bytes::wide;
 use file_contents::entry::Queue;
-use file_records::bytes::both;
-use file_records::bytes::either;
-use file_records::bytes::wide;
 use file_records::program::Shape;
 use machine_pws::Message;
-
-pub fn least(a: usize, b: usize) -> usize
-    ensures { λ r. ⌜ r ≡ min a b ⌝ }
-{
-    if a <= b { a } else { b }
-}
 
 // A value of an entry and one of a cube: exactly, the first may stand for the second; else they may have a value in common.
 pub fn related(exact: bool, a: u8, b: u8) -> bool

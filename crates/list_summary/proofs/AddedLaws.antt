@@ -11,7 +11,7 @@ use lib.Dec.{T, eqb, ltb}
 use borrow.Author.Tests.{eq-eqb, ne-eqb, eqb-true, eqb-false, lt-ltb, le-ltb, ltb-true, ltb-false}
 use Rattle.machine_pws.specs.Machine.{put}
 use Rattle.file_records.specs.declared.program.Shape.{Shape}
-use Rattle.file_records.specs.Bytes.{choose, byte, le32}
+use Rattle.base.specs.Bytes.{choose, byte, le32}
 use Rattle.file_again.specs.Again.{cubeAt}
 use Rattle.list_key.specs.Tags.{sumBelow}
 use Rattle.list_key.specs.Number.{signatureIn, numberOf, statesMixed}

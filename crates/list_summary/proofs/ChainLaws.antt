@@ -10,7 +10,7 @@ use lib.ListN.{length}
 use lib.Dec.{ltb, eqb}
 use lib.Count.{leadingZeros}
 use borrow.Author.Tests.{lt-ltb, le-ltb, ltb-true}
-use Rattle.file_records.specs.Bytes.{choose}
+use Rattle.base.specs.Bytes.{choose}
 use Rattle.machine_pws.specs.Machine.{put}
 use Rattle.list_summary.specs.Slots.{linked, marked, linkTo, headLink, nextLink, homeOf, Met, here, later}
 use Rattle.list_summary.proofs.WordLaws.{put-is, put-is-not}

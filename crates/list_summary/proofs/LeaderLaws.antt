@@ -10,7 +10,7 @@ use lib.ListN.{length, getD}
 use lib.Dec.{T, eqb, ltb}
 use borrow.Author.Tests.{eq-eqb, ne-eqb, eqb-true, eqb-false, lt-ltb, le-ltb, ltb-true, ltb-false, not-true}
 use Rattle.file_records.specs.declared.program.Shape.{Shape}
-use Rattle.file_records.specs.Bytes.{choose}
+use Rattle.base.specs.Bytes.{choose}
 use Rattle.list_key.specs.Number.{stir, behind, packedStates, statesMixed}
 use Rattle.list_summary.specs.Slots.{linked, headLink, nextLink, countAt, homeOf, Met, here, later}
 use Rattle.list_summary.specs.Groups.{sameStates, statesAt, leads, inGroup, leaderFrom, leaderOf}

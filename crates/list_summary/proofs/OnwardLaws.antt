@@ -13,7 +13,7 @@ use lib.Pow.{shr-shr, pow-mono}
 use borrow.Author.Tests.{lt-ltb, eqb-true, eq-eqb}
 use Rattle.file_records.proofs.ProgramLaws.{and-true}
 use Rattle.file_records.specs.declared.program.Shape.{Shape}
-use Rattle.file_records.specs.Bytes.{choose}
+use Rattle.base.specs.Bytes.{choose}
 use Rattle.file_again.specs.Again.{cubeAt}
 use Rattle.list_key.specs.Signature.{Contained}
 use Rattle.list_key.specs.Number.{signatureIn, Agrees, numberOf, statesMixed}

@@ -9,7 +9,7 @@ use lib.Bits.{bitOr}
 use lib.Dec.{eqb, ltb}
 use lib.Count.{leadingZeros, leading-top}
 use borrow.Author.Tests.{lt-ltb, le-ltb}
-use Rattle.file_records.specs.Bytes.{choose, le32, put32}
+use Rattle.base.specs.Bytes.{choose, le32, put32}
 use Rattle.list_summary.specs.Slots.{word, putWord, linkTo, headLink, fieldAt, countAt, signatureAt, withLink, withDigit, hung, putField, homeOf}
 
 pub word-far : (sum : List ℕ) (i : ℕ) → length sum / 4 ≤ i → word sum i ≡ 0

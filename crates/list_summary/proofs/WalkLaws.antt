@@ -11,7 +11,7 @@ use lib.Seq.{take-all, take-at, drop-at, length-take-le}
 use lib.Dec.{eqb, ltb, leb}
 use borrow.Author.Tests.{eq-eqb, ne-eqb, lt-ltb, le-ltb, le-leb, lt-leb}
 use Rattle.file_records.specs.declared.program.Shape.{Shape}
-use Rattle.file_records.specs.Bytes.{choose}
+use Rattle.base.specs.Bytes.{choose}
 use Rattle.file_contents.specs.declared.entry.Cube.{Cube}
 use Rattle.file_again.specs.Again.{cubeAt}
 use Rattle.list_key.specs.Tags.{tagsOf}

@@ -9,8 +9,8 @@ use native.Mathlib.Decide.{decLe, ℕ-discrete}
 use lib.ListN.{length}
 use lib.Dec.{ltb, eqb}
 use borrow.Author.Tests.{lt-ltb, le-ltb, eq-eqb, ne-eqb}
-use Rattle.file_records.specs.Bytes.{choose, le32, put32}
-use Rattle.file_records.proofs.ByteLaws.{put32-length, le32-put32, le32-elsewhere}
+use Rattle.base.specs.Bytes.{choose, le32, put32}
+use Rattle.base.proofs.ByteLaws.{put32-length, le32-put32, le32-elsewhere}
 use Rattle.machine_pws.specs.Machine.{put}
 use Rattle.list_summary.specs.Slots.{word, putWord, linked, marked, linkTo, headLink, nextLink, fieldAt, numberIn, countAt, signatureAt, withLink, withDigit, hung, putField}
 

@@ -7,7 +7,7 @@ use lib.ListN.{length, getD, take, drop}
 use lib.Dec.{eqb, ltb, leb}
 use Rattle.machine_pws.specs.Machine.{allBelow}
 use Rattle.file_records.specs.declared.program.Shape.{Shape}
-use Rattle.file_records.specs.Bytes.{choose}
+use Rattle.base.specs.Bytes.{choose}
 use Rattle.file_again.specs.Again.{cubeAt}
 use Rattle.list_key.specs.Number.{signatureIn, numberOf, statesMixed}
 use Rattle.list_summary.specs.Slots.{linked, nextLink, headLink, countAt, hung, putField, homeOf, markIn, Met}

@@ -7,7 +7,7 @@ use mathlib.Core.List.{List}
 use lib.ListN.{length}
 use lib.Dec.{ltb}
 use lib.Count.{leadingZeros}
-use Rattle.file_records.specs.Bytes.{choose, le32, put32}
+use Rattle.base.specs.Bytes.{choose, le32, put32}
 
 -- ---- words
 

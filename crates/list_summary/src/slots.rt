@@ -5,12 +5,12 @@ ghost use Prim.Native.Nat.{ℕ, suc, _+_, _*_, _/_, _%_, _^_, _≤_, _<_};
 ghost use lib.Bits.{bitOr};
 ghost use lib.ListN.{length};
 ghost use lib.Dec.{eqb};
-ghost use Rattle.file_records.specs.Bytes.{le32};
+ghost use Rattle.base.specs.Bytes.{le32};
 ghost use Rattle.list_key.specs.Number.{signatureIn};
 ghost use Rattle.list_summary.specs.Slots.{word, putWord, linked, marked, linkTo, headLink, nextLink, fieldAt, countAt, signatureAt, withLink, withDigit, hung, putField, homeOf, markIn};
-use file_records::bytes::store_number;
-use file_records::places::slot_word;
-use file_records::places::word_place;
+use base::bytes::store_number;
+use base::places::slot_word;
+use base::places::word_place;
 
 // ---- words
 

@@ -12,9 +12,9 @@ use crate::slots::mark_of;
 use crate::slots::marked;
 use crate::slots::next_link;
 use crate::slots::signature_in;
-use file_records::bytes::both;
+use base::bytes::both;
+use base::bytes::least;
 use file_records::program::Shape;
-use list_key::least;
 
 // An entry, counted from 1, or 0 where the walk ends; and where it goes on: below which entry and with which link, and whether the first entry
 // of the group was met.

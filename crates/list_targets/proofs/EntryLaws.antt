@@ -19,7 +19,7 @@ use Rattle.list_theory.specs.Cubes.{memoryOf, withValues, topmost}
 use Rattle.list_theory.specs.Shapes.{outlineMemory}
 use Rattle.list_theory.specs.Decision.{held}
 use Rattle.file_records.specs.declared.program.Shape.{Shape}
-use Rattle.file_records.specs.Bytes.{byte}
+use Rattle.base.specs.Bytes.{byte}
 use Rattle.file_records.specs.ProgramPart.{shapeOf}
 use Rattle.file_contents.specs.declared.entry.Queue.{Queue}
 use Rattle.file_contents.specs.declared.entry.Cube.{Cube}

@@ -17,7 +17,7 @@ use Rattle.list_theory.specs.Shapes.{shapeCubes}
 use Rattle.list_theory.specs.Decision.{held, targetHeld}
 use Rattle.list_theory.proofs.Verdict.{target-yes}
 use Rattle.file_records.specs.declared.program.Shape.{Shape}
-use Rattle.file_records.specs.Bytes.{choose}
+use Rattle.base.specs.Bytes.{choose}
 use Rattle.file_records.specs.ProgramPart.{shapeOf}
 use Rattle.file_contents.specs.Cube.{configurationOf}
 use Rattle.file_again.specs.Again.{cubeAt, entriesOf}

@@ -5,7 +5,7 @@ use mathlib.Core.List.{List, []}
 use lib.ListN.{getD}
 use lib.Dec.{ltb}
 use Rattle.file_records.specs.declared.program.Shape.{Shape}
-use Rattle.file_records.specs.Bytes.{choose}
+use Rattle.base.specs.Bytes.{choose}
 use Rattle.list_theory.specs.Decision.{targetHeld}
 use Rattle.file_again.specs.Again.{cubeAt, entriesOf}
 use Rattle.list_summary.specs.Slots.{countAt}

@@ -20,16 +20,16 @@ ghost use Rattle.list_targets.specs.Depth.{SmallShape, AtQueue, AtMessag
 use crate::seen::moved;
 use crate::seen::seen_held;
 use crate::starts::same_bytes;
+use base::bytes::both;
+use base::bytes::least;
+use base::bytes::wide;
 use file_again::entry_at;
 use file_contents::entry::Cube;
 use file_contents::entry::Queue;
-use file_records::bytes::both;
-use file_records::bytes::wide;
 use file_records::program::Shape;
 use list_cover::search::search;
 use list_families::newest_values;
 use list_key::any_message;
-use list_key::least;
 use machine_pws::Message;
 
 mod groups;

@@ -10,17 +10,17 @@ ghost use Rattle.list_targets.specs.Walk.{Searches};
 ghost use Rattle.list_targets.specs.Members.{Kept};
 use crate::family_held;
 use crate::seen::sees_held;
+use base::bytes::both;
+use base::bytes::either;
+use base::bytes::least;
+use base::bytes::wide;
 use file_again::entry_at;
 use file_contents::entry::Cube;
-use file_records::bytes::both;
-use file_records::bytes::either;
-use file_records::bytes::wide;
 use file_records::program::Shape;
 use file_records::program::value_count;
 use list_families::count_member;
 use list_families::in_full_family;
 use list_families::put_family;
-use list_key::least;
 use list_key::waiting;
 
 // The family of entry k by its newest values joins the table, if it is full.

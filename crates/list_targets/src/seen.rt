@@ -17,9 +17,9 @@ ghost use Rattle.list_targets.specs.Seeing.{Movable, Seeing, movedTo, ro
 ghost use Rattle.list_targets.specs.Walk.{Searches, Judges};
 use crate::Aim;
 use crate::shapes_held;
+use base::bytes::both;
+use base::bytes::wide;
 use file_contents::entry::Cube;
-use file_records::bytes::both;
-use file_records::bytes::wide;
 use file_records::program::Shape;
 use list_before::messages::inserted;
 use list_before::messages::last_writes;

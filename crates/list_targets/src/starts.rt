@@ -8,11 +8,11 @@ ghost use Rattle.file_contents.specs.Cube.{waitingOf, queueOf, configurationOf}
 ghost use Rattle.file_again.specs.Again.{cubeAt};
 ghost use Rattle.list_theory.specs.Decision.{looksStarted};
 ghost use Rattle.list_targets.specs.Sizes.{Small, startsOf};
+use base::bytes::least;
 use file_again::entry_at;
 use file_contents::entry::Cube;
 use file_contents::entry::Queue;
 use file_records::program::Shape;
-use list_key::least;
 use list_summary::states_at;
 
 // Nothing waits.

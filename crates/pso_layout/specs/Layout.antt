@@ -9,7 +9,7 @@ use Rattle.machine_pws.specs.declared.Step as pws
 use Rattle.machine_pws.specs.declared.Step.the-variants as steps
 use Rattle.file_records.specs.declared.program.Shape.{Shape}
 use Rattle.file_records.specs.declared.program.Row.{Row}
-use Rattle.file_records.specs.Bytes.{choose, byte}
+use Rattle.base.specs.Bytes.{choose, byte}
 use Rattle.run_layout.specs.Layout.{queueNumber, transitionIn}
 use Rattle.pso_layout.specs.declared.moves.PsoMove.{PsoMove}
 use Rattle.pso_layout.specs.declared.moves.PsoMove.the-variants.{Absent, Operate, UpdateVariable, RemoveMark}

@@ -5,8 +5,8 @@
 // A step puts at most one item into a buffer, so 1,024 bytes hold what 1,024 steps put there.
 ghost use mathlib.Core.Path.{_≡_};
 ghost use Rattle.pso_layout.specs.Layout.{itemPlace, itemAt, putItem};
-use file_records::bytes::byte_at;
-use file_records::bytes::wide;
+use base::bytes::byte_at;
+use base::bytes::wide;
 use run_layout::area::widen;
 
 fn item_place(q: u8, k: u16) -> usize

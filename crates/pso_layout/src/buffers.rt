@@ -2,8 +2,8 @@
 ghost use mathlib.Core.Path.{_≡_};
 ghost use Rattle.pso_layout.specs.Layout.{emptyIn, headItem, valueFirstIn, markFirstIn, idleIn, noItemsIn, markedIn, allMarkedIn, seesIn};
 use crate::area::item_at;
-use file_records::bytes::both;
-use file_records::bytes::either;
+use base::bytes::both;
+use base::bytes::either;
 use file_records::program::Shape;
 use file_records::program::of_four;
 use run_layout::area::queue_number;

@@ -20,12 +20,12 @@ use Rattle.machine_pso.specs.Machine.{PsoConfiguration, psoMay, psoAfter}
 use Rattle.machine_pso.specs.Runs.{PsoStart, psoStartWith, PsoTakes, done, step, PsoInTarget, psoInTarget}
 use Rattle.run_causes.specs.declared.Answer.{Answer}
 use Rattle.run_causes.specs.declared.Answer.the-variants.{Permitted, Refused}
-use Rattle.run_last_test.specs.declared.RunAnswer.{RunAnswer}
-use Rattle.run_last_test.specs.declared.RunAnswer.the-variants.{Reachable, Stopped, Missed}
+use Rattle.run_step.specs.declared.last_test.RunAnswer.{RunAnswer}
+use Rattle.run_step.specs.declared.last_test.RunAnswer.the-variants.{Reachable, Stopped, Missed}
 use Rattle.run_replay.specs.Answers.{lastAnswer, answerThen}
-use Rattle.pso_answering.specs.Causes.{Because, psoStepAnswer}
+use Rattle.pso_step.specs.Causes.{Because, psoStepAnswer}
 use Rattle.pso_replay.specs.Answers.{PsoAnswered, psoLowestMet, psoAnswerFrom, psoRunAnswer}
-use Rattle.pso_answering.proofs.CauseLaws.{Answers, answers, because-only}
+use Rattle.pso_step.proofs.CauseLaws.{Answers, answers, because-only}
 use Rattle.pso_replay.proofs.Alike.{Alike, answers-alike}
 
 -- ---- targets

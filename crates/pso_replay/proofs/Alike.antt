@@ -22,9 +22,9 @@ use Rattle.run_causes.specs.declared.Answer.{Answer}
 use Rattle.run_causes.specs.declared.Answer.the-variants.{Permitted, Refused}
 use Rattle.run_replay.specs.Answers.{lastAnswer, answerThen}
 use Rattle.run_causes.specs.Causes.{firstCause}
-use Rattle.pso_answering.specs.Causes.{psoQueueFits, psoValueFits, psoStepAnswer}
+use Rattle.pso_step.specs.Causes.{psoQueueFits, psoValueFits, psoStepAnswer}
 use Rattle.pso_replay.specs.Answers.{psoLowestMet, psoAnswerFrom}
-use Rattle.pso_answering.proofs.CauseLaws.{Answers, answers}
+use Rattle.pso_step.proofs.CauseLaws.{Answers, answers}
 
 pub record Alike (S : Shape) (d e : PsoConfiguration) : Type 0 where
   pub states : (p : ℕ) → p < S .processes → d .state p ≡ e .state p

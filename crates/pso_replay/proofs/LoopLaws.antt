@@ -10,17 +10,17 @@ use Rattle.file_records.specs.Records.{stepAt}
 use Rattle.run_causes.specs.declared.Cause.{Cause}
 use Rattle.run_causes.specs.declared.Answer.{Answer}
 use Rattle.run_causes.specs.declared.Answer.the-variants.{Permitted, Refused}
-use Rattle.run_last_test.specs.declared.RunAnswer.{RunAnswer}
+use Rattle.run_step.specs.declared.last_test.RunAnswer.{RunAnswer}
 use Rattle.run_replay.specs.Answers.{answerThen}
-use Rattle.run_last_test.specs.LastTest.{lastIn}
+use Rattle.run_step.specs.LastTest.{lastIn}
 use Rattle.run_replay.specs.Loop.{nextStep, stoppedBy}
 use Rattle.pso_layout.specs.declared.moves.PsoMove.{PsoMove}
 use Rattle.pso_layout.specs.declared.buffers.PsoRun.{PsoRun}
 use Rattle.pso_layout.specs.Layout.{psoMoveOf}
-use Rattle.pso_answering.specs.Answering.{answerIn}
-use Rattle.pso_stepping.specs.After.{runAfter, lowerAfterMove}
+use Rattle.pso_step.specs.Answering.{answerIn}
+use Rattle.pso_step.specs.After.{runAfter, lowerAfterMove}
 use Rattle.pso_replay.specs.Loop.{runFrom}
-use Rattle.pso_stepping.proofs.Lengths.{area-length}
+use Rattle.pso_step.proofs.Lengths.{area-length}
 
 -- after k steps: what is left to do gives the answer of all
 pub record Replaying (g f : List ℕ) (s : Shape) (transitions targets : Row) (steps at : ℕ) (run₀ : PsoRun) (a₀ : List ℕ) (k place : ℕ) (run : PsoRun) (a : List ℕ) : Type 0 where

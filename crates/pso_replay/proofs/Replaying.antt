@@ -20,18 +20,18 @@ use Rattle.file_records.specs.ProgramPart.{shapeOf, programOf, targetsOf}
 use Rattle.file_contents.specs.EvidencePart.{stepsOf}
 use Rattle.run_causes.specs.declared.Answer.{Answer}
 use Rattle.run_causes.specs.declared.Answer.the-variants.{Permitted, Refused}
-use Rattle.run_last_test.specs.declared.RunAnswer.{RunAnswer}
+use Rattle.run_step.specs.declared.last_test.RunAnswer.{RunAnswer}
 use Rattle.run_replay.specs.Replay.{lowestMet}
 use Rattle.run_replay.specs.Answers.{lastAnswer, answerThen}
 use Rattle.run_replay.specs.Loop.{nextStep}
 use Rattle.run_replay.proofs.Replaying.{zeros-at, steps-next, steps-length, targets-last}
 use Rattle.pso_layout.specs.declared.buffers.PsoRun.{PsoRun}
-use Rattle.pso_answering.specs.Causes.{psoStepAnswer}
+use Rattle.pso_step.specs.Causes.{psoStepAnswer}
 use Rattle.pso_replay.specs.Answers.{psoStep, psoSteps, psoLowestMet, psoAnswerFrom, psoRunAnswer}
 use Rattle.pso_layout.specs.Layout.{psoMoveOf}
-use Rattle.pso_stepping.specs.After.{runAfter, lowerAfterMove}
+use Rattle.pso_step.specs.After.{runAfter, lowerAfterMove}
 use Rattle.pso_replay.specs.Loop.{firstRun, runFrom, replayIn}
-use Rattle.pso_answering.proofs.CauseLaws.{Answers, answers}
+use Rattle.pso_step.proofs.CauseLaws.{Answers, answers}
 use Rattle.pso_layout.proofs.Kept.{Kept}
 use Rattle.pso_replay.proofs.Stepping.{answer-is, step-kept}
 

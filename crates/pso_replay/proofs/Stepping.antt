@@ -34,16 +34,16 @@ use Rattle.run_layout.proofs.MoveLaws.{transition-count, transition-is, exists-
 use Rattle.pso_layout.specs.declared.moves.PsoMove.{PsoMove}
 use Rattle.pso_layout.specs.declared.moves.PsoMove.the-variants.{Absent, Operate, UpdateVariable, RemoveMark}
 use Rattle.pso_layout.specs.declared.buffers.PsoRun.{PsoRun}
-use Rattle.pso_answering.specs.Causes.{psoOperateAnswer, psoStepAnswer}
+use Rattle.pso_step.specs.Causes.{psoOperateAnswer, psoStepAnswer}
 use Rattle.pso_replay.specs.Answers.{psoStep}
 use Rattle.pso_layout.specs.Layout.{itemAt, psoMoveOf, headItem}
-use Rattle.pso_answering.specs.Answering.{answerIn}
-use Rattle.pso_stepping.specs.After.{advancedBelow, memoryOperated, tailsOperated, lastsOperated, runAfter, markedBelow, areaOperated, lowerAfterMove}
-use Rattle.pso_stepping.proofs.Lengths.{area-length}
+use Rattle.pso_step.specs.Answering.{answerIn}
+use Rattle.pso_step.specs.After.{advancedBelow, memoryOperated, tailsOperated, lastsOperated, runAfter, markedBelow, areaOperated, lowerAfterMove}
+use Rattle.pso_step.proofs.Lengths.{area-length}
 use Rattle.pso_layout.proofs.Items.{BufferHeld, held-keep, held-value, held-mark, held-pop, oldest-held, marked-held}
-use Rattle.pso_stepping.proofs.Holding.{putBuffer-each, eachBuffer-each, advanced-length, advanced-same, advanced-other, below-length, below-out, below-in, item-same, item-other, marked-out, marked-in}
+use Rattle.pso_step.proofs.Holding.{putBuffer-each, eachBuffer-each, advanced-length, advanced-same, advanced-other, below-length, below-out, below-in, item-same, item-other, marked-out, marked-in}
 use Rattle.pso_layout.proofs.Kept.{Kept}
-use Rattle.pso_answering.proofs.AnsweringLaws.{operate-is, update-is, remove-is}
+use Rattle.pso_step.proofs.AnsweringLaws.{operate-is, update-is, remove-is}
 
 module _ (s : Shape) (pl : s .processes ≤ 4) (vl : s .variables ≤ 4) (xl : (v : ℕ) → v < s .variables → shapeOf s .values v ≤ 4) (k : ℕ) (run : PsoRun) (a : List ℕ)
     (d : PsoConfiguration) (K : Kept (shapeOf s) k run a d) (few : k < 1024) where

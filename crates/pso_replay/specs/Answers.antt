@@ -14,10 +14,10 @@ use Rattle.machine_pso.specs.declared.PsoStep.the-variants.{Operate, UpdateVari
 use Rattle.machine_pso.specs.Machine.{PsoConfiguration, psoAfter}
 use Rattle.machine_pso.specs.Runs.{PsoStart, psoStartWith, PsoTakes, PsoInTarget, psoInTarget}
 use Rattle.run_causes.specs.declared.Cause.{Cause}
-use Rattle.run_last_test.specs.declared.RunAnswer.{RunAnswer}
-use Rattle.run_last_test.specs.declared.RunAnswer.the-variants.{Reachable, Stopped, Missed}
+use Rattle.run_step.specs.declared.last_test.RunAnswer.{RunAnswer}
+use Rattle.run_step.specs.declared.last_test.RunAnswer.the-variants.{Reachable, Stopped, Missed}
 use Rattle.run_replay.specs.Answers.{lastAnswer, answerThen}
-use Rattle.pso_answering.specs.Causes.{Because, psoStepAnswer}
+use Rattle.pso_step.specs.Causes.{Because, psoStepAnswer}
 
 -- ---- the steps of a file: 20 is a transition, 21 an update of a variable, 22 the removal of a mark
 

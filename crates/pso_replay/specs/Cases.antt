@@ -9,8 +9,8 @@ use Rattle.machine_pso.specs.declared.PsoStep.{PsoStep}
 use Rattle.machine_pso.specs.declared.PsoStep.the-variants.{Operate, UpdateVariable, RemoveMark}
 use Rattle.machine_pso.specs.Cases.{zeros, fenced, marked, atomic, inOrder}
 use Rattle.run_causes.specs.declared.Cause.the-variants.{State, Queue, Value, Nothing}
-use Rattle.run_last_test.specs.declared.RunAnswer.{RunAnswer}
-use Rattle.run_last_test.specs.declared.RunAnswer.the-variants.{Reachable, Stopped, Missed}
+use Rattle.run_step.specs.declared.last_test.RunAnswer.{RunAnswer}
+use Rattle.run_step.specs.declared.last_test.RunAnswer.the-variants.{Reachable, Stopped, Missed}
 use Rattle.pso_replay.specs.Answers.{psoRunAnswer}
 
 pub record Row : Type 0 where

@@ -7,14 +7,14 @@ use Rattle.file_records.specs.declared.program.Shape.{Shape}
 use Rattle.file_records.specs.declared.program.Row.{Row}
 use Rattle.file_records.specs.declared.program.Program.{Program}
 use Rattle.file_records.specs.Records.{stepAt}
-use Rattle.run_last_test.specs.declared.RunAnswer.{RunAnswer}
+use Rattle.run_step.specs.declared.last_test.RunAnswer.{RunAnswer}
 use Rattle.run_replay.specs.Answers.{answerThen}
-use Rattle.run_last_test.specs.LastTest.{lastIn}
+use Rattle.run_step.specs.LastTest.{lastIn}
 use Rattle.run_replay.specs.Loop.{nextStep}
 use Rattle.pso_layout.specs.declared.buffers.PsoRun.{PsoRun}
 use Rattle.pso_layout.specs.Layout.{psoMoveOf}
-use Rattle.pso_answering.specs.Answering.{answerIn}
-use Rattle.pso_stepping.specs.After.{runAfter, lowerAfterMove}
+use Rattle.pso_step.specs.Answering.{answerIn}
+use Rattle.pso_step.specs.After.{runAfter, lowerAfterMove}
 
 abbrev pub firstRun : List ℕ → List ℕ → PsoRun
 firstRun states memory = record { states = states; memory = memory; heads = replicate 16 0; tails = replicate 16 0; lasts = replicate 16 0 }

@@ -9,17 +9,17 @@ ghost use Rattle.pso_replay.specs.Answers.{psoSteps, psoRunAnswer};
 ghost use Rattle.pso_replay.specs.Loop.{firstRun, replayIn};
 use file_contents::steps::step_at;
 use file_records::program::Program;
-use pso_answering::step_answer;
 use pso_layout::buffers::PsoRun;
 use pso_layout::moves::pso_move;
-use pso_stepping::run_after;
-use pso_stepping::store;
+use pso_step::answering::step_answer;
+use pso_step::stepping::run_after;
+use pso_step::stepping::store;
 use run_causes::Answer;
-use run_last_test::RunAnswer;
-use run_last_test::last_answer;
 use run_layout::area::clear;
 use run_replay::run::next_step;
 use run_replay::run::stopped_by;
+use run_step::last_test::RunAnswer;
+use run_step::last_test::last_answer;
 
 // Initial local states, empty buffers, and this memory.
 fn first_run(states: [u8; 4], memory: [u8; 4]) -> PsoRun

@@ -9,7 +9,7 @@ use lib.Seq.{ext-getD, getD-set-same, getD-set-other}
 use lib.Dec.{ltb}
 use Rattle.machine_pws.specs.declared.Operation.the-variants.{Nop}
 use Rattle.run_layout.specs.Layout.{putSnapshot}
-use Rattle.file_records.specs.Bytes.{choose, byte}
+use Rattle.base.specs.Bytes.{choose, byte}
 use Rattle.file_records.specs.Records.{transitionAt, operationOf}
 use native.Mathlib.Decide.{ℕ-discrete}
 

@@ -10,7 +10,7 @@ use lib.ListN.{length, length-set, getD, set}
 use lib.Seq.{getD-set-same, getD-set-other}
 use lib.Dec.{eqb}
 use borrow.Author.Tests.{le-ltb, lt-ltb, eq-eqb, ne-eqb}
-use Rattle.file_records.specs.Bytes.{byte}
+use Rattle.base.specs.Bytes.{byte}
 use Rattle.run_layout.specs.Layout.{nextNumber, snapshotAt, putSnapshot, waitingPlace, waitingAt, halves, putWaiting}
 
 pub next-is : (x : ℕ) → x < 65535 → nextNumber x ≡ suc x

@@ -9,7 +9,7 @@ use Rattle.machine_pws.specs.declared.Transition.{Transition}
 use Rattle.machine_pws.specs.declared.Step as pws
 use Rattle.machine_pws.specs.declared.Step.the-variants as steps
 use Rattle.file_records.specs.declared.program.Row.{Row}
-use Rattle.file_records.specs.Bytes.{choose, byte}
+use Rattle.base.specs.Bytes.{choose, byte}
 use Rattle.file_records.specs.Records.{transitionAt}
 use Rattle.run_layout.specs.declared.moves.Move.{Move}
 use Rattle.run_layout.specs.declared.moves.Move.the-variants.{Absent, Take, Serialise, Update}

@@ -7,8 +7,8 @@ ghost use mathlib.Core.Path.{_≡_};
 ghost use Prim.Native.Nat.{_+_, _*_, _<_};
 ghost use lib.ListN.{length, set, replicate};
 ghost use Rattle.run_layout.specs.Layout.{queueNumber, snapshotAt, putSnapshot, waitingAt, waitingPlace, halves, putWaiting, nextNumber};
-use file_records::bytes::byte_at;
-use file_records::bytes::wide;
+use base::bytes::byte_at;
+use base::bytes::wide;
 
 pub fn widen(x: u16) -> usize
     ensures { λ r. ⌜ r ≡ x ⌝ }

@@ -10,7 +10,7 @@ use crate::after::tails_after;
 use crate::area::next_number;
 use crate::area::queue_number;
 use crate::moves::Move;
-use file_records::bytes::wide;
+use base::bytes::wide;
 
 // The small part of a configuration. The values of queue q = 4 p + v that wait are those from the number heads[q] to the one before
 // tails[q], of all that were written into it.

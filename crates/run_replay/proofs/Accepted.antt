@@ -25,7 +25,7 @@ use Rattle.machine_pws.proofs.Cases.{all-yes}
 use Rattle.run_causes.specs.declared.Answer.{Answer}
 use Rattle.run_causes.specs.declared.Answer.the-variants.{Refused}
 use Rattle.run_causes.specs.declared.Cause.the-variants.{State}
-use Rattle.run_last_test.specs.declared.RunAnswer.{RunAnswer}
+use Rattle.run_step.specs.declared.last_test.RunAnswer.{RunAnswer}
 use Rattle.run_replay.specs.Replay as run
 use Rattle.run_causes.specs.Causes.{firstCause, queueFits, pointerFits, valueFits, takeAnswer, stepAnswer, isPermitted}
 use Rattle.run_replay.specs.Answers.{lastAnswer, answerThen, answerFrom, runAnswer}

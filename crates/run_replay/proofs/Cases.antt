@@ -1,6 +1,6 @@
 -- Each row of the table of worked cases holds.
 use mathlib.Core.Path.{refl}
-use Rattle.file_records.specs.Bytes.{cut}
+use Rattle.base.specs.Bytes.{cut}
 use Rattle.file_records.specs.Records.{
   firstNumber,
   checked,

@@ -14,8 +14,8 @@ use Rattle.machine_pws.specs.Machine.{Memory, put, putQueue, message, newest, l
 use Rattle.machine_pws.proofs.Facts.{put-same, put-other, put-each, putQueue-each, last-is}
 use Rattle.file_records.specs.ProgramPart.{tableFrom}
 use Rattle.run_layout.specs.Layout.{nextNumber, queueNumber, snapshotAt, putSnapshot, waitingAt, putWaiting, pointerOf, lastWriteOf, advanced}
-use Rattle.run_stepping.specs.After.{pointed, putLast, later, updatedRow, updated}
-use Rattle.run_storing.specs.Stored.{appended}
+use Rattle.run_step.specs.Rows.{pointed, putLast, later, updatedRow, updated}
+use Rattle.run_step.specs.Stored.{appended}
 use Rattle.run_layout.proofs.ByteLaws.{next-is, snapshot-same, snapshot-other, waiting-same, waiting-other, waiting-before}
 use Rattle.run_layout.proofs.Kept.{queue-is, pointer-is, last-write-is}
 

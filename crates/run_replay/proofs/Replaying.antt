@@ -17,24 +17,24 @@ use Rattle.machine_pws.specs.Configurations.{inTarget, startWith}
 use Rattle.machine_pws.specs.Sequences as sequences
 use Rattle.file_records.specs.declared.program.Shape.{Shape}
 use Rattle.file_records.specs.declared.program.Program.{Program}
-use Rattle.file_records.specs.Bytes.{choose, byte}
+use Rattle.base.specs.Bytes.{choose, byte}
 use Rattle.file_records.specs.Records.{isKind, stateAt, stepBody, stepAt}
 use Rattle.file_records.specs.ProgramPart.{tableFrom, shapeOf, programOf, targetsOf}
 use Rattle.file_contents.specs.EvidencePart.{stepsOf}
 use Rattle.run_causes.specs.declared.Answer.{Answer}
 use Rattle.run_causes.specs.declared.Answer.the-variants.{Permitted, Refused}
 use Rattle.run_layout.specs.declared.arrays.Run.{Run}
-use Rattle.run_last_test.specs.declared.RunAnswer.{RunAnswer}
-use Rattle.run_last_test.specs.declared.RunAnswer.the-variants.{Reachable}
+use Rattle.run_step.specs.declared.last_test.RunAnswer.{RunAnswer}
+use Rattle.run_step.specs.declared.last_test.RunAnswer.the-variants.{Reachable}
 use Rattle.run_replay.specs.Replay as run
 use Rattle.run_causes.specs.Causes.{stepAnswer, isPermitted}
 use Rattle.run_replay.specs.Answers.{verdictOfRun, lastAnswer, answerThen, answerFrom, runAnswer, RunOf}
 use Rattle.run_layout.specs.Layout.{putSnapshot, moveOf}
-use Rattle.run_answering.specs.Answering.{answerIn}
+use Rattle.run_step.specs.Answering.{answerIn}
 use Rattle.run_layout.specs.After.{runAfter}
-use Rattle.run_stepping.specs.After.{rowsAfter}
-use Rattle.run_storing.specs.Stored.{lowerAfter}
-use Rattle.run_last_test.specs.LastTest.{agreesIn, inTargetIn, nextTarget, lastFrom}
+use Rattle.run_step.specs.Rows.{rowsAfter}
+use Rattle.run_step.specs.Stored.{lowerAfter}
+use Rattle.run_step.specs.LastTest.{agreesIn, inTargetIn, nextTarget, lastFrom}
 use Rattle.run_replay.specs.Loop.{nextStep, firstRun, firstRows, runFrom, replayIn}
 use Rattle.run_layout.proofs.AreaLaws.{snapshot-length}
 use Rattle.run_layout.proofs.ByteLaws.{snapshot-same}

@@ -29,17 +29,17 @@ use Rattle.run_layout.specs.declared.moves.Move.the-variants.{Take, Serialise, 
 use Rattle.run_layout.specs.declared.arrays.Run.{Run}
 use Rattle.run_causes.specs.Causes.{firstCause, takeAnswer, stepAnswer, isPermitted}
 use Rattle.run_layout.specs.Layout.{queueNumber, snapshotAt, waitingAt, moveOf}
-use Rattle.run_storing.specs.Stored.{appended, lowerTaken, lowerAfter}
-use Rattle.run_answering.specs.Answering.{answerIn}
+use Rattle.run_step.specs.Stored.{appended, lowerTaken, lowerAfter}
+use Rattle.run_step.specs.Answering.{answerIn}
 use Rattle.run_layout.specs.After.{runAfter, messagesTaken, tailsTaken}
-use Rattle.run_stepping.specs.After.{rowsTaken, rowsAfter}
+use Rattle.run_step.specs.Rows.{rowsTaken, rowsAfter}
 use Rattle.run_layout.specs.Represents.{Represents}
-use Rattle.run_storing.proofs.Lengths.{area-length}
+use Rattle.run_step.proofs.Lengths.{area-length}
 use Rattle.run_layout.proofs.ByteLaws.{next-is, waiting-past, snapshot-below}
 use Rattle.run_causes.proofs.CauseLaws.{answer-may}
 use Rattle.run_layout.proofs.MoveLaws.{transition-count, move-take, move-absent, exists-is, exists-not}
 use Rattle.run_layout.proofs.Kept.{Kept, table-empty, queue-is}
-use Rattle.run_answering.proofs.AnsweringLaws.{take-is, serialise-is, update-is}
+use Rattle.run_step.proofs.AnsweringLaws.{take-is, serialise-is, update-is}
 use Rattle.run_replay.proofs.Holding.{MemoryHeld, memory-area, memory-append, memory-update, memory-arw, QueuesHeld, queues-area, queues-push, queues-pop}
 
 -- ---- the parts of what is kept

@@ -10,8 +10,8 @@ use Rattle.machine_pws.specs.Machine.{Configuration, after}
 use Rattle.machine_pws.specs.Configurations.{startWith}
 use Rattle.run_causes.specs.declared.Answer.{Answer}
 use Rattle.run_causes.specs.declared.Answer.the-variants.{Permitted, Refused}
-use Rattle.run_last_test.specs.declared.RunAnswer.{RunAnswer}
-use Rattle.run_last_test.specs.declared.RunAnswer.the-variants.{Reachable, Stopped, Missed}
+use Rattle.run_step.specs.declared.last_test.RunAnswer.{RunAnswer}
+use Rattle.run_step.specs.declared.last_test.RunAnswer.the-variants.{Reachable, Stopped, Missed}
 use Rattle.run_replay.specs.Replay.{RunVerdict, reachable, stopped, missed, lowestMet, runVerdict}
 use Rattle.run_causes.specs.Causes.{stepAnswer}
 

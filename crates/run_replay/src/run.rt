@@ -11,17 +11,17 @@ use file_contents::evidence::Contents;
 use file_contents::steps::step_at;
 use file_contents::steps::step_body;
 use file_records::program::Program;
-use run_answering::step_answer;
 use run_causes::Answer;
 use run_causes::Cause;
-use run_last_test::RunAnswer;
-use run_last_test::last_answer;
 use run_layout::area::clear;
 use run_layout::area::put_snapshot;
 use run_layout::arrays::Run;
 use run_layout::moves::move_of;
-use run_stepping::rows_after;
-use run_storing::store;
+use run_step::answering::step_answer;
+use run_step::last_test::RunAnswer;
+use run_step::last_test::last_answer;
+use run_step::rows::rows_after;
+use run_step::storing::store;
 
 // Where the next step stands; past the file's end there is nothing to pass.
 pub fn next_step(file: &[u8], at: usize) -> usize

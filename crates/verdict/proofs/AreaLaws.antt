@@ -13,7 +13,7 @@ use Rattle.file_records.specs.declared.program.Shape.{Shape}
 use Rattle.file_records.specs.declared.program.Checked.{Checked}
 use Rattle.file_records.specs.declared.program.Checked.the-variants.{Fine, Refused}
 use Rattle.file_records.specs.declared.program.Program.{Program}
-use Rattle.file_records.specs.Bytes.{choose, byte, put32}
+use Rattle.base.specs.Bytes.{choose, byte, put32}
 use Rattle.file_records.specs.Records.{checked, claimNumber, startNumber, entryNumber}
 use Rattle.file_records.specs.ProgramPart.{unlessEnd, programFrom}
 use Rattle.file_contents.specs.EvidencePart.{EntryRead, whole, bad, entryRead, EntriesRead, headThen, entryThen, entriesFrom, entriesAllowed, wroteFrom}

@@ -25,8 +25,8 @@ use Rattle.file_again.specs.Offending.{offendingBy, partBy}
 use Rattle.file_again.proofs.OffendingLaws.{part-by}
 use Rattle.file_again.proofs.Contents.{list-read}
 use Rattle.run_causes.specs.declared.Cause.the-variants.{State, Queue, Pointer, Value, Nothing}
-use Rattle.run_last_test.specs.declared.RunAnswer.{RunAnswer}
-use Rattle.run_last_test.specs.declared.RunAnswer.the-variants.{Reachable, Stopped, Missed}
+use Rattle.run_step.specs.declared.last_test.RunAnswer.{RunAnswer}
+use Rattle.run_step.specs.declared.last_test.RunAnswer.the-variants.{Reachable, Stopped, Missed}
 use Rattle.run_replay.specs.Answers.{runAnswer}
 use Rattle.pso_replay.specs.Answers.{psoSteps, psoRunAnswer}
 use Rattle.verdict.specs.declared.answer.Answer.{Answer}

@@ -8,11 +8,11 @@ use lib.Dec.{ltb}
 use Rattle.machine_pws.specs.declared.Step.{Step}
 use Rattle.list_theory.specs.Verdict as lists
 use Rattle.list_theory.specs.Decision as decision
-use Rattle.file_records.specs.Bytes.{choose}
+use Rattle.base.specs.Bytes.{choose}
 use Rattle.file_contents.specs.EvidencePart.{entriesAllowed}
 use Rattle.file_contents.specs.Reading as reading
-use Rattle.run_last_test.specs.declared.RunAnswer.{RunAnswer}
-use Rattle.run_last_test.specs.declared.RunAnswer.the-variants.{Reachable, Stopped, Missed}
+use Rattle.run_step.specs.declared.last_test.RunAnswer.{RunAnswer}
+use Rattle.run_step.specs.declared.last_test.RunAnswer.the-variants.{Reachable, Stopped, Missed}
 use Rattle.run_causes.specs.Causes.{causeNumber}
 use Rattle.run_replay.specs.Answers.{runAnswer}
 use Rattle.pso_replay.specs.Answers.{psoSteps, psoRunAnswer}

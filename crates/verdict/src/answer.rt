@@ -12,7 +12,7 @@ use file_records::program::Refusal;
 use machine_pws::Step;
 use run_causes::Cause;
 use run_causes::cause_number;
-use run_last_test::RunAnswer;
+use run_step::last_test::RunAnswer;
 
 // The number and the values of each are given by `verdictIn`.
 pub enum Answer {

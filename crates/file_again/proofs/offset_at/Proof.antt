@@ -1,8 +1,8 @@
 use Prim.Native.Nat.{_*_}
 use mathlib.Core.Path.{sym, ap, _∙_}
 use native.Mathlib.Omega.{arith}
-use Rattle.file_records.specs.Bytes.{le32}
-use Rattle.file_records.proofs.ByteLaws.{le32-past}
+use Rattle.base.specs.Bytes.{le32}
+use Rattle.base.proofs.ByteLaws.{le32-past}
 use borrow.Author.Needs.{needs}
 use Rattle.file_again.proofs.offset_at.Statement.{statement}
 use Rattle.file_again.proofs.offset_at.Tie as tie

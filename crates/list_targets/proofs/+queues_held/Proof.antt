@@ -9,7 +9,7 @@ use Rattle.list_targets.proofs.queues_held.Reads as queues-held
 use Rattle.list_targets.proofs.queues_held.Kinds as queues-held-kinds
 use Rattle.list_targets.proofs.with_waiting.Reads as with-waiting-reads
 use Rattle.list_cover.proofs.search.search.Reads as search-reads
-use Rattle.file_records.proofs.bytes.both.Reads as both-reads
+use Rattle.base.proofs.bytes.both.Reads as both-reads
 use Rattle.list_targets.proofs.+queues_held.Lts-queues_held as queues-held-lts
 use Rattle.list_targets.proofs.+queues_held.{statement}
 use Rattle.list_targets.proofs.+queues_held.Tie.{close}

@@ -7,7 +7,7 @@ use lib.ListN.{length, getD, set}
 use Rattle.machine_pws.specs.declared.Message.{Message}
 use Rattle.file_contents.specs.declared.entry.Loaded.{Loaded}
 use Rattle.file_contents.specs.declared.entry.Queue.{Queue}
-use Rattle.file_records.specs.Bytes.{byte}
+use Rattle.base.specs.Bytes.{byte}
 use Rattle.file_contents.specs.Tally.{queueAt}
 use Rattle.file_contents.specs.Cube.{noQueue, headed, pushed, loadsMessage, loadsWaiting, moreMessage, moreWaiting}
 use Rattle.file_contents.proofs.CubeLaws.{message-loads, waiting-loads, Loading, loading-begin, loaded-nothing, loading-message, loading-waiting, loading-ends}

@@ -7,8 +7,8 @@ use Rattle.file_contents.proofs.entry.message_at.Statement.{statement}
 use Rattle.file_contents.proofs.entry.message_at.Tie as tie
 use Rattle.file_contents.proofs.entry.message_at.Reads as reads
 use Rattle.file_contents.proofs.entry.message_at.Lts as lts
-use Rattle.file_records.proofs.bytes.cut.Reads as cut-reads
-use Rattle.file_records.proofs.bytes.field.Reads as field-reads
+use Rattle.base.proofs.bytes.cut.Reads as cut-reads
+use Rattle.base.proofs.bytes.field.Reads as field-reads
 
 -- src/entry.rt:36:9
 cut-requires : tie.Need-cut-requires

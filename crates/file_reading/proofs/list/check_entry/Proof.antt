@@ -5,7 +5,7 @@ use mathlib.Core.Path.{_≡_, refl, sym, ap, _∙_}
 use mathlib.Core.Bool.{Bool, true, false}
 use native.Mathlib.Omega.{arith}
 use borrow.Author.Needs.{needs}
-use Rattle.file_records.specs.Bytes.{cut}
+use Rattle.base.specs.Bytes.{cut}
 use Rattle.file_records.specs.Records.{firstNumber, checked, entryNumber}
 use Rattle.file_records.proofs.RecordLaws.{cut-fits}
 use Rattle.file_reading.proofs.list.check_entry.Statement.{statement}

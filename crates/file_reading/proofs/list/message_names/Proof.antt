@@ -13,7 +13,7 @@ use Rattle.file_reading.proofs.list.message_names.Statement.{statement}
 use Rattle.file_reading.proofs.list.message_names.Tie as tie
 use Rattle.file_reading.proofs.list.message_names.Reads as reads
 use Rattle.file_reading.proofs.list.message_names.Lts as lts
-use Rattle.file_records.proofs.bytes.both.Reads as both-reads
+use Rattle.base.proofs.bytes.both.Reads as both-reads
 use Rattle.file_contents.proofs.entry.message_at.Reads as message-at-reads
 use Rattle.file_reading.proofs.list.value_names.Reads as value-names-reads
 use Rattle.file_contents.proofs.steps.pair_exists.Reads as pair-exists-reads

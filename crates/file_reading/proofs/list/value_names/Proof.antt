@@ -4,7 +4,7 @@ use Rattle.file_reading.proofs.list.value_names.Statement.{statement}
 use Rattle.file_reading.proofs.list.value_names.Tie as tie
 use Rattle.file_reading.proofs.list.value_names.Reads as reads
 use Rattle.file_reading.proofs.list.value_names.Lts as lts
-use Rattle.file_records.proofs.bytes.both.Reads as both-reads
+use Rattle.base.proofs.bytes.both.Reads as both-reads
 use Rattle.file_reading.proofs.list.value_name.Reads as value-name-reads
 
 -- src/list.rt:77:34

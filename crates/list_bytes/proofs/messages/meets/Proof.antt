@@ -1,6 +1,6 @@
 use Prim.Native.Nat.{_+_, _<_}
 use native.Mathlib.Omega.{arith}
-use Rattle.file_records.specs.Bytes.{byte}
+use Rattle.base.specs.Bytes.{byte}
 use Rattle.list_bytes.proofs.PlacedLaws.{cue-same, cue-other, cue-values}
 use borrow.Author.Needs.{needs}
 use Rattle.list_bytes.proofs.messages.meets.Statement.{statement}

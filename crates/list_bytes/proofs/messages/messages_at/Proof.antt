@@ -3,7 +3,7 @@ use mathlib.Core.Path.{_≡_, sym, _∙_}
 use native.Mathlib.Omega.{arith}
 use lib.Dec.{eqb, ltb}
 use borrow.Author.Tests.{eqb-true, ltb-true}
-use Rattle.file_records.specs.Bytes.{byte}
+use Rattle.base.specs.Bytes.{byte}
 use Rattle.file_records.proofs.ProgramLaws.{and-true}
 use Rattle.list_bytes.specs.Same.{Kinds}
 use Rattle.list_bytes.proofs.PlacedLaws.{kinds-next}

@@ -5,7 +5,7 @@ use Rattle.list_bytes.proofs.queues.ends_at.Statement.{statement}
 use Rattle.list_bytes.proofs.queues.ends_at.Tie as tie
 use Rattle.list_bytes.proofs.queues.ends_at.Reads as reads
 use Rattle.list_bytes.proofs.queues.ends_at.Lts as lts
-use Rattle.file_records.proofs.bytes.both.Reads as both-reads
+use Rattle.base.proofs.bytes.both.Reads as both-reads
 use Rattle.file_records.proofs.record.is_kind.Reads as is-kind-reads
 
 -- src/same.rt:100:11

@@ -14,7 +14,7 @@ use Rattle.list_bytes.proofs.queues.held_from.Tie as tie
 use Rattle.list_bytes.proofs.queues.held_from.Reads as reads
 use Rattle.list_bytes.proofs.queues.held_from.Lts as lts
 use Rattle.list_bytes.proofs.queues.waits_at.Reads as waits-at-reads
-use Rattle.file_records.proofs.bytes.both.Reads as both-reads
+use Rattle.base.proofs.bytes.both.Reads as both-reads
 
 abbrev Inv-loop : tie.InvT-loop
 Inv-loop file k q values₀ count₀ next₀ values count next = HeldFrom file q k (record { values = values; count = count }) next × (count ≤ 9)

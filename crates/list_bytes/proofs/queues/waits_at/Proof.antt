@@ -8,7 +8,7 @@ use Rattle.list_bytes.proofs.queues.waits_at.Tie as tie
 use Rattle.list_bytes.proofs.queues.waits_at.Reads as reads
 use Rattle.list_bytes.proofs.queues.waits_at.Lts as lts
 use Rattle.list_key.proofs.word.Reads as word-reads
-use Rattle.file_records.proofs.bytes.cut.Reads as cut-reads
+use Rattle.base.proofs.bytes.cut.Reads as cut-reads
 
 -- src/lib.rt:91:8
 cut-requires : tie.Need-cut-requires

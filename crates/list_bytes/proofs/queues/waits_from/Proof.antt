@@ -3,7 +3,7 @@ use mathlib.Core.Path.{refl, sym, ap, _∙_}
 use mathlib.Core.Bool.{false≢true}
 use native.Mathlib.Omega.{arith}
 use borrow.Author.Tests.{not-false}
-use Rattle.file_records.specs.Bytes.{byte}
+use Rattle.base.specs.Bytes.{byte}
 use lib.ListN.{length, getD}
 use Rattle.file_contents.specs.Cube.{noQueue, waitingOf}
 use Rattle.list_key.specs.Relation.{relation}

@@ -6,8 +6,8 @@ use Rattle.list_cover.proofs.entry.states_at.Statement.{statement}
 use Rattle.list_cover.proofs.entry.states_at.Tie as tie
 use Rattle.list_cover.proofs.entry.states_at.Reads as reads
 use Rattle.list_cover.proofs.entry.states_at.Lts as lts
-use Rattle.file_records.proofs.bytes.cut.Reads as cut-reads
-use Rattle.file_records.proofs.bytes.field.Reads as field-reads
+use Rattle.base.proofs.bytes.cut.Reads as cut-reads
+use Rattle.base.proofs.bytes.field.Reads as field-reads
 
 -- src/entry.rt:29:9
 cut-requires : tie.Need-cut-requires

@@ -8,8 +8,8 @@ use Rattle.list_cover.proofs.gaps.channel_gaps.Lts as lts
 use Rattle.list_cover.proofs.gaps.message_gaps.Reads as message-gaps-reads
 use Rattle.list_cover.proofs.gaps.tags_match.Reads as tags-match-reads
 use Rattle.list_key.proofs.lowest.Reads as lowest-reads
-use Rattle.list_key.proofs.least.Reads as least-reads
-use Rattle.file_records.proofs.bytes.wide.Reads as wide-reads
+use Rattle.base.proofs.bytes.least.Reads as least-reads
+use Rattle.base.proofs.bytes.wide.Reads as wide-reads
 
 abbrev Inv-loop : tie.InvT-loop
 Inv-loop left right a b first last all₀ i₀ j₀ all i j = (i ≤ 20) × (j ≤ 20)

@@ -1,7 +1,7 @@
 use mathlib.Core.Path.{sym, _∙_}
 use lib.Dec.{leb}
 use Rattle.file_records.proofs.ProgramLaws.{and-true}
-use Rattle.file_records.proofs.bytes.both.Reads as both-reads
+use Rattle.base.proofs.bytes.both.Reads as both-reads
 use Rattle.list_cover.proofs.PlaceLaws.{true-not-false}
 use Rattle.list_cover.proofs.SearchLaws.{Choosing, choosing-begin, choosing-next, choosing-end, far, far-less}
 use native.Mathlib.Omega.{arith}

@@ -25,8 +25,8 @@ use Rattle.list_key.proofs.number.stir.Reads as stir-reads
 use Rattle.list_key.proofs.number.with_signature.Reads as with-signature-reads
 use Rattle.list_key.proofs.signature.with_message.Reads as with-message-reads
 use Rattle.list_key.proofs.tags.lowest.Reads as lowest-reads
-use Rattle.list_key.proofs.values.least.Reads as least-reads
-use Rattle.file_records.proofs.bytes.wide.Reads as wide-reads
+use Rattle.base.proofs.bytes.least.Reads as least-reads
+use Rattle.base.proofs.bytes.wide.Reads as wide-reads
 
 again-one : {i : ℕ} → 0 < i → i - 1 + 1 ≡ i
 again-one l = omega arith

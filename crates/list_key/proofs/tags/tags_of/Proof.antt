@@ -18,9 +18,9 @@ use Rattle.list_key.proofs.tags.tags_of.Lts as lts
 use Rattle.list_key.proofs.tags.label_number.Reads as label-number-reads
 use Rattle.list_key.proofs.tags.label_place.Reads as label-place-reads
 use Rattle.list_key.proofs.tags.role_bit.Reads as role-bit-reads
-use Rattle.list_key.proofs.values.least.Reads as least-reads
-use Rattle.file_records.proofs.bytes.both.Reads as both-reads
-use Rattle.file_records.proofs.bytes.wide.Reads as wide-reads
+use Rattle.base.proofs.bytes.least.Reads as least-reads
+use Rattle.base.proofs.bytes.both.Reads as both-reads
+use Rattle.base.proofs.bytes.wide.Reads as wide-reads
 
 abbrev Inv-loop : tie.InvT-loop
 Inv-loop n end variables a b c d roles₀ tags₀ messages i₀ roles tags i = (i ≤ n) × RolesTo (λ p. getD (a ∷ b ∷ c ∷ d ∷ []) p 0) messages roles i × Labels tags messages i

@@ -1,5 +1,5 @@
 use native.Mathlib.Omega.{arith}
-use Rattle.file_records.specs.Bytes.{le32}
+use Rattle.base.specs.Bytes.{le32}
 use borrow.Author.Needs.{needs}
 use Rattle.list_summary.proofs.slots.four_bytes.Statement.{statement}
 use Rattle.list_summary.proofs.slots.four_bytes.Tie as tie

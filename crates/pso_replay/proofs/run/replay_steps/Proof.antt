@@ -4,7 +4,7 @@ use mathlib.Core.Logic.{⊎-elim}
 use native.Mathlib.Omega.{arith}
 use lib.ListN.{length, length-replicate, replicate}
 use Rattle.pso_layout.specs.Layout.{psoMoveOf}
-use Rattle.pso_answering.specs.Answering.{answerIn}
+use Rattle.pso_step.specs.Answering.{answerIn}
 use Rattle.pso_replay.specs.Loop.{runFrom, replayIn}
 use Rattle.pso_replay.proofs.LoopLaws.{Replaying, replaying-begin, replaying-done, replaying-stopped, replaying-next}
 use Rattle.pso_replay.proofs.Replaying.{replay-right}

@@ -1,7 +1,7 @@
 use mathlib.Core.Logic.{⊎-elim}
 use lib.ListN.{length, length-replicate, replicate}
 use Rattle.run_layout.specs.Layout.{moveOf}
-use Rattle.run_answering.specs.Answering.{answerIn}
+use Rattle.run_step.specs.Answering.{answerIn}
 use Rattle.run_replay.specs.Loop.{runFrom, replayIn}
 use Rattle.run_layout.proofs.AreaLaws.{snapshot-length}
 use Rattle.run_replay.proofs.Replaying.{replay-right}

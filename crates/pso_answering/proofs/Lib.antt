@@ -1,2 +1,0 @@
-pub mod CauseLaws
-pub mod AnsweringLaws

@@ -1,0 +1,4 @@
+pub mod CauseLaws
+pub mod AnsweringLaws
+pub mod Lengths
+pub mod Holding

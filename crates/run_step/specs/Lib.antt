@@ -1,0 +1,4 @@
+pub mod Answering
+pub mod Rows
+pub mod Stored
+pub mod LastTest
