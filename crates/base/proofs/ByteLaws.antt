@@ -2,14 +2,15 @@
 use Prim.Native.Nat.{ℕ, suc, _+_, _*_, _-_, _/_, _%_, _<_, _≤_}
 use mathlib.Core.Path.{_≡_, refl, sym, ap, _∙_}
 use mathlib.Core.Logic.{_⊎_, inl, inr, ⊎-elim, _≢_}
+use mathlib.Core.Bool.{false}
 use mathlib.Core.List.{List, [], _∷_}
 use native.Mathlib.Omega.{arith}
 use native.Mathlib.Nat.{div-div-eq-div-mul}
 use native.Mathlib.Decide.{decLe}
 use lib.ListN.{length, getD, set, length-set, List·getD-eq-default}
 use lib.Seq.{getD-set-same, getD-set-other}
-use borrow.Author.Tests.{le-leb, lt-leb}
-use Rattle.base.specs.Bytes.{choose, byte, le32, put32}
+use borrow.Author.Tests.{le-leb, lt-leb, leb-false}
+use Rattle.base.specs.Bytes.{choose, byte, cut, le32, put32}
 
 pub byte-past : (f : List ℕ) (at : ℕ) → length f ≤ at → byte f at ≡ 0
 byte-past f at l = List·getD-eq-default f 0 l
@@ -77,3 +78,9 @@ le32-elsewhere s at x i o =
     let away : (j : ℕ) → j < 4 → byte (put32 s at x) (i + j) ≡ byte s (i + j) = λ j l. byte-put32 s at x (i + j) (⊎-elim (λ a. inl (omega arith)) (λ a. inr (omega arith)) o) in
     let e : byte (put32 s at x) i ≡ byte s i = byte-put32 s at x i (⊎-elim (λ a. inl (omega arith)) (λ a. inr (omega arith)) o) in
     omega (arith, e, away 1 (omega arith), away 2 (omega arith), away 3 (omega arith))
+
+-- ---- records
+
+pub cut-fits : (f : List ℕ) (at body : ℕ) → cut f at body ≡ false → at + body < length f
+unfolding cut
+cut-fits f at body e = let l = leb-false (length f - at) body e in omega arith

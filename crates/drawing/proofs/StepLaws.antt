@@ -17,7 +17,8 @@ use Rattle.file_records.specs.declared.program.Counted.{Counted}
 use Rattle.file_records.specs.declared.program.Counted.the-variants.{Records, Stopped}
 use Rattle.file_records.specs.Records.{checked, isKind, isStep, stepBody, stepNames, stepNumber, stepAt}
 use Rattle.file_records.specs.ProgramPart.{countThen, rowFrom}
-use Rattle.file_records.proofs.RecordLaws.{step-fine, cut-fits}
+use Rattle.file_records.proofs.RecordLaws.{step-fine}
+use Rattle.base.proofs.ByteLaws.{cut-fits}
 use Rattle.file_contents.specs.EvidencePart.{stepsFrom, stepsOf}
 use Rattle.drawing.specs.Runs.{fullShape, StepInRange, recordOf, recordsOf}
 use Rattle.drawing.specs.Parts as parts

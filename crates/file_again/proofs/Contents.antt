@@ -27,7 +27,8 @@ use Rattle.file_contents.specs.declared.evidence.Part.the-variants.{InProgram, 
 use Rattle.file_contents.specs.EvidencePart.{stepsFrom, stepsOf, EntriesRead, entriesFrom, entriesAllowed, wroteFrom}
 use Rattle.file_contents.specs.Cube.{configurationOf, loadEntry}
 use Rattle.file_contents.specs.Reading.{Input, evidenceAt, entries, steps, runEvidence, noMemory, noParts, twoParts, partsOf, FileRead, refused, list, run, psoRun, runRead, partsRead, readFile, readingRefused, readingWith, readingOf}
-use Rattle.file_records.proofs.RecordLaws.{cut-fits, unless-fine, row-most, step-fine, entry-fine}
+use Rattle.base.proofs.ByteLaws.{cut-fits}
+use Rattle.file_records.proofs.RecordLaws.{unless-fine, row-most, step-fine, entry-fine}
 use Rattle.file_contents.proofs.ReadingLaws.{evidence-refused, evidence-entries, evidence-run, start-refused, run-steps, parts-short, parts-refused, parts-both}
 use Rattle.file_again.specs.Again.{placeOf, entriesOf}
 use Rattle.file_again.specs.Contents.{ListRead, StepOf, RunRead, CubeRange}

@@ -27,7 +27,8 @@ use Rattle.file_records.specs.ProgramPart.{shapeOf}
 use Rattle.file_contents.specs.EvidencePart.{beginning, withMessage, withWaiting, extended, bodySize, bodyNumber, pointerInside, pointsFirst, pointersFit, someFirst, complete, whole, bad, atBoundary, finished, bodyThen, entryFrom, entryRead}
 use Rattle.file_contents.specs.Cube.{configurationOf, loadsMessage, loadsWaiting, nothingLoaded, moreMessage, moreWaiting, loadFrom, loaded, loadEntry}
 use Rattle.base.proofs.ByteLaws.{byte-past}
-use Rattle.file_records.proofs.RecordLaws.{Good, good, entry-fine, cut-fits}
+use Rattle.file_records.proofs.RecordLaws.{Good, good, entry-fine}
+use Rattle.base.proofs.ByteLaws.{cut-fits}
 use Rattle.file_records.proofs.ProgramLaws.{and-true}
 use Rattle.file_contents.proofs.CubeLaws.{load-message, load-waiting, load-ends}
 use Rattle.file_again.specs.Contents.{EntryRange, CubeRange}

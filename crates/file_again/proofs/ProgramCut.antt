@@ -19,7 +19,8 @@ use Rattle.file_records.specs.declared.program.Counted.the-variants.{Records}
 use Rattle.base.specs.Bytes.{byte, cut}
 use Rattle.file_records.specs.Records.{checked, isKind, shapeAt, shapeNumber, statesNumber, transitionAt, transitionNumber, transitionNames, targetNumber, stateNames, stateAt}
 use Rattle.file_records.specs.ProgramPart.{unlessEnd, statesFrom, ofProcess, ofProcesses, rowFrom, transitionsFrom, atEnd, targetsFrom, rowsFrom, restFrom, programFrom, tableFrom, programOf, targetsOf}
-use Rattle.file_records.proofs.RecordLaws.{unless-fine, unless-not, cut-fits, row-ends, row-next, transition-fine, target-fine}
+use Rattle.file_records.proofs.RecordLaws.{unless-fine, unless-not, row-ends, row-next, transition-fine, target-fine}
+use Rattle.base.proofs.ByteLaws.{cut-fits}
 use Rattle.file_records.proofs.ProgramLaws.{transitions-most, targets-most}
 use Rattle.file_contents.proofs.ReadingLaws.{ProgramFine, program-fine}
 use Rattle.file_again.specs.Again.{placeOf}

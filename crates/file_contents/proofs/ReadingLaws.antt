@@ -22,7 +22,8 @@ use Rattle.file_records.specs.Records.{checked, claimNumber, startNumber, memor
 use Rattle.file_records.specs.ProgramPart.{unlessEnd, statesFrom, ofProcesses, transitionsFrom, targetsFrom, orRefused, withCount, rowsFrom, restFrom, programFrom}
 use Rattle.file_contents.specs.EvidencePart.{stepsFrom, EntriesRead, entriesFrom, entriesAllowed}
 use Rattle.file_contents.specs.Reading.{Input, evidenceAt, Evidence, refusal, entries, steps, claimThen, evidenceArea, runEvidence, evidenceFrom, Parts, noParts, twoParts, partsOf}
-use Rattle.file_records.proofs.RecordLaws.{fine-refused, good, cut-fits, unless-fine}
+use Rattle.file_records.proofs.RecordLaws.{fine-refused, good, unless-fine}
+use Rattle.base.proofs.ByteLaws.{cut-fits}
 use Rattle.file_records.proofs.ProgramLaws.{shape-fine}
 
 -- the part from h on, lent and given back as g of it

@@ -22,7 +22,8 @@ use Rattle.file_records.specs.Records.{firstNumber, checked, isKind, exists, po
 use Rattle.file_contents.specs.EvidencePart.{EntryRead, whole, bad, beginning, withMessage, withWaiting, extended, bodySize, bodyNumber, complete, atBoundary, finished, entryFrom, entryRead}
 use Rattle.file_contents.specs.Tally.{queueAt}
 use Rattle.file_reading.specs.Tally.{numberBy, TallyRoom, tallied, Tallies}
-use Rattle.file_records.proofs.RecordLaws.{Good, good, cut-fits}
+use Rattle.file_records.proofs.RecordLaws.{Good, good}
+use Rattle.base.proofs.ByteLaws.{cut-fits}
 use Rattle.file_records.proofs.ProgramLaws.{and-true}
 
 -- ---- the loop

@@ -14,7 +14,8 @@ use Rattle.file_records.specs.declared.program.Shape.{Shape}
 use Rattle.base.specs.Bytes.{byte, cut}
 use Rattle.file_records.specs.Records.{checked, inRange, countsInRange, shapeAt, shapeNumber}
 use Rattle.file_records.specs.ProgramPart.{unlessEnd, transitionsFrom, targetsFrom}
-use Rattle.file_records.proofs.RecordLaws.{Good, good, cut-fits, unless-fine, row-most}
+use Rattle.file_records.proofs.RecordLaws.{Good, good, unless-fine, row-most}
+use Rattle.base.proofs.ByteLaws.{cut-fits}
 
 pub and-true : (a b : Bool) → (a && b) ≡ true → (a ≡ true) × (b ≡ true)
 and-true true true e = (refl, refl)

@@ -57,10 +57,6 @@ first-fine false false false false false x = record { allowed = refl; whole = re
 pub good : {a b c d e : Bool} (k : ℕ) → checked (firstNumber a b c d e) k ≡ Fine → Good a b c d e
 good {a} {b} {c} {d} {e} k x = first-fine a b c d e (checked-fine (firstNumber a b c d e) k x)
 
-pub cut-fits : (f : List ℕ) (at body : ℕ) → cut f at body ≡ false → at + body < length f
-unfolding cut
-cut-fits f at body e = let l = leb-false (length f - at) body e in omega arith
-
 pub unless-fine : (f : List ℕ) (at : ℕ) (x : Checked) → unlessEnd f at x ≡ Fine → (at < length f) × (x ≡ Fine)
 unfolding unlessEnd
 unless-fine f at x e = go (leb (length f) at) refl e

@@ -4,7 +4,7 @@ use native.Mathlib.Omega.{arith}
 use lib.ListN.{getD}
 use lib.Dec.{eqb}
 use borrow.Author.Tests.{not-true}
-use Rattle.file_records.proofs.RecordLaws.{cut-fits}
+use Rattle.base.proofs.ByteLaws.{cut-fits}
 use Rattle.file_again.proofs.PlaceLaws.{place-leads}
 use borrow.Author.Needs.{needs}
 use Rattle.file_again.proofs.leads_to.Statement.{statement}

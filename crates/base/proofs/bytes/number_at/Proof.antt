@@ -3,7 +3,7 @@ use native.Mathlib.Omega.{arith}
 use borrow.Author.Tests.{not-true}
 use Rattle.base.specs.Bytes.{le32}
 use Rattle.base.proofs.ByteLaws.{le32-past}
-use Rattle.file_records.proofs.RecordLaws.{cut-fits}
+use Rattle.base.proofs.ByteLaws.{cut-fits}
 use borrow.Author.Needs.{needs}
 use Rattle.base.proofs.bytes.number_at.Statement.{statement}
 use Rattle.base.proofs.bytes.number_at.Tie as tie

@@ -1,7 +1,7 @@
 use mathlib.Core.Path.{sym, _∙_}
 use native.Mathlib.Omega.{arith}
 use borrow.Author.Tests.{not-true}
-use Rattle.file_records.proofs.RecordLaws.{cut-fits}
+use Rattle.base.proofs.ByteLaws.{cut-fits}
 use Rattle.file_contents.specs.Cube.{loadEntry}
 use Rattle.file_contents.proofs.entry.load_entry.Statement.{statement}
 use Rattle.file_contents.proofs.entry.load_entry.Tie as tie

@@ -1,6 +1,6 @@
 use mathlib.Core.Path.{sym, _∙_}
 use borrow.Author.Tests.{not-true}
-use Rattle.file_records.proofs.RecordLaws.{cut-fits}
+use Rattle.base.proofs.ByteLaws.{cut-fits}
 use native.Mathlib.Omega.{arith}
 use borrow.Author.Needs.{needs}
 use Rattle.file_contents.proofs.entry.message_at.Statement.{statement}

@@ -14,7 +14,8 @@ use Rattle.file_records.specs.declared.program.Counted.the-variants.{Stopped}
 use Rattle.file_records.specs.Records.{checked, stepBody, stepNumber}
 use Rattle.file_records.specs.ProgramPart.{refusalOf, rowFrom}
 use Rattle.file_contents.specs.EvidencePart.{stepsFrom}
-use Rattle.file_records.proofs.RecordLaws.{cut-fits, step-fine, row-ends, row-stops, row-step}
+use Rattle.base.proofs.ByteLaws.{cut-fits}
+use Rattle.file_records.proofs.RecordLaws.{step-fine, row-ends, row-stops, row-step}
 use Rattle.file_contents.proofs.steps.steps_from.Statement.{statement}
 use Rattle.file_contents.proofs.steps.steps_from.Tie as tie
 

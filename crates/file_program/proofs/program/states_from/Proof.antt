@@ -5,7 +5,8 @@ use borrow.Author.Needs.{needs}
 use Rattle.file_records.specs.declared.program.Checked.the-variants.{Fine, Refused}
 use Rattle.file_records.specs.Records.{checked, statesNumber}
 use Rattle.file_records.specs.ProgramPart.{unlessEnd, statesFrom}
-use Rattle.file_records.proofs.RecordLaws.{cut-fits, unless-fine, states-fine, states-step, states-stop}
+use Rattle.base.proofs.ByteLaws.{cut-fits}
+use Rattle.file_records.proofs.RecordLaws.{unless-fine, states-fine, states-step, states-stop}
 use Rattle.file_program.proofs.program.states_from.Statement.{statement}
 use Rattle.file_program.proofs.program.states_from.Tie as tie
 

@@ -11,7 +11,8 @@ use Rattle.file_records.specs.declared.program.Checked.the-variants.{Fine, Refu
 use Rattle.file_records.specs.declared.program.Counted.the-variants.{Stopped}
 use Rattle.file_records.specs.Records.{checked, targetNumber}
 use Rattle.file_records.specs.ProgramPart.{refusalOf, unlessEnd, rowFrom, atEnd, targetsFrom}
-use Rattle.file_records.proofs.RecordLaws.{cut-fits, unless-fine, target-fine, row-ends, row-stops, row-step}
+use Rattle.base.proofs.ByteLaws.{cut-fits}
+use Rattle.file_records.proofs.RecordLaws.{unless-fine, target-fine, row-ends, row-stops, row-step}
 use Rattle.file_program.proofs.program.targets_from.Statement.{statement}
 use Rattle.file_program.proofs.program.targets_from.Tie as tie
 

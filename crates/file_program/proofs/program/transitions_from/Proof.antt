@@ -11,7 +11,8 @@ use Rattle.file_records.specs.declared.program.Checked.the-variants.{Fine, Refu
 use Rattle.file_records.specs.declared.program.Counted.the-variants.{Stopped}
 use Rattle.file_records.specs.Records.{checked, isKind, transitionNumber}
 use Rattle.file_records.specs.ProgramPart.{refusalOf, rowFrom, transitionsFrom}
-use Rattle.file_records.proofs.RecordLaws.{cut-fits, transition-fine, row-ends, row-stops, row-step}
+use Rattle.base.proofs.ByteLaws.{cut-fits}
+use Rattle.file_records.proofs.RecordLaws.{transition-fine, row-ends, row-stops, row-step}
 use Rattle.file_program.proofs.program.transitions_from.Statement.{statement}
 use Rattle.file_program.proofs.program.transitions_from.Tie as tie
 

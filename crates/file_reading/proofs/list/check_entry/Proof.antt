@@ -7,7 +7,7 @@ use native.Mathlib.Omega.{arith}
 use borrow.Author.Needs.{needs}
 use Rattle.base.specs.Bytes.{cut}
 use Rattle.file_records.specs.Records.{firstNumber, checked, entryNumber}
-use Rattle.file_records.proofs.RecordLaws.{cut-fits}
+use Rattle.base.proofs.ByteLaws.{cut-fits}
 use Rattle.file_reading.proofs.list.check_entry.Statement.{statement}
 use Rattle.file_reading.proofs.list.check_entry.Tie as tie
 

@@ -13,7 +13,8 @@ use Rattle.file_records.specs.ProgramPart.{refusalOf}
 use Rattle.file_contents.specs.EvidencePart.{whole, entryRead, EntriesRead, stopAt, entriesFrom, wroteFrom}
 use Rattle.file_contents.specs.Tally.{countOf}
 use Rattle.file_reading.specs.Tally.{endRefusal}
-use Rattle.file_records.proofs.RecordLaws.{cut-fits, entry-fine}
+use Rattle.base.proofs.ByteLaws.{cut-fits}
+use Rattle.file_records.proofs.RecordLaws.{entry-fine}
 use Rattle.file_reading.proofs.ListLaws.{entry-past, end-whole, end-bad, list-ends, head-stops, head-room, entry-refused, wrote-length, Listed, listed-begin, listed-next}
 use Rattle.file_reading.proofs.list.entries_from.Statement.{statement}
 use Rattle.file_reading.proofs.list.entries_from.Tie as tie
