@@ -18,7 +18,7 @@ use Rattle.file_again.specs.Again.{cubeAt, entriesOf}
 use Rattle.list_key.proofs.Below.{all-true}
 use Rattle.list_summary.specs.Slots.{countAt}
 use Rattle.list_summary.specs.Groups.{sameStates, statesAt, leads, inGroup}
-use Rattle.judge.specs.Ready.{Ready}
+use Rattle.list_judge.specs.Ready.{Ready}
 use Rattle.demands.specs.Groups.{equalStates, group, GroupAgrees, GroupNumbered}
 
 -- ---- above the list, and above the group

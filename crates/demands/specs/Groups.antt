@@ -15,7 +15,7 @@ use Rattle.file_records.specs.ProgramPart.{programOf}
 use Rattle.file_again.specs.Again.{entriesOf}
 use Rattle.list_summary.specs.Slots.{countAt}
 use Rattle.list_summary.specs.Groups.{leads}
-use Rattle.judge.specs.Ready.{Ready}
+use Rattle.list_judge.specs.Ready.{Ready}
 
 -- every process has the same local state in both
 unfoldable pub equalStates : Shape → Configuration → Configuration → Bool

@@ -37,7 +37,7 @@ use Rattle.verdict.specs.declared.answer.Answer.the-variants.{Safe, Reachable, 
 use Rattle.verdict.specs.declared.answer.Verdict as declared
 use Rattle.verdict.specs.Judge.{Verdict, refused, ofRun, ofPsoRun, ofFile, judged, usedOf}
 use Rattle.verdict.specs.Answers.{verdictIn, offendingIn, answerInC, saidInC, Answered}
-use Rattle.judge.specs.Ready.{Listed, ListReady, slotsCleared, listSaid}
+use Rattle.list_judge.specs.Ready.{Listed, ListReady, slotsCleared, listSaid}
 use Rattle.verdict.proofs.AreaLaws.{few, upper-part, reading-kept, replay-kept, list-kept}
 use Rattle.judge.proofs.SummaryLaws.{listed-taken, said-taken, done-kept}
 use Rattle.list_summary.specs.Groups.{summarised}

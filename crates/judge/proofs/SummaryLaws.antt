@@ -26,7 +26,7 @@ use Rattle.list_summary.specs.Summary.{Summed}
 use Rattle.list_summary.proofs.ChainLaws.{home-below}
 use Rattle.list_summary.proofs.AddedLaws.{all-added}
 use Rattle.verdict.specs.Judge.{ofList}
-use Rattle.judge.specs.Ready.{Listed, ListReady, Ready, slotsCleared, listSaid}
+use Rattle.list_judge.specs.Ready.{Listed, ListReady, Ready, slotsCleared, listSaid}
 
 -- ---- the offsets below `at` are those of the whole
 

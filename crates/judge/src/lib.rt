@@ -12,8 +12,7 @@ ghost use Rattle.file_contents.specs.Reading.{input, combined, pair, runRead, r
 ghost use Rattle.file_again.specs.Offending.{offending};
 ghost use Rattle.verdict.specs.Judge.{ofRun, ofPsoRun, ofFile, judged, usedOf, areaAfter};
 ghost use Rattle.verdict.specs.Answers.{verdictIn, offendingIn, saidInC, Answered};
-ghost use Rattle.judge.specs.Ready.{Ready, ListReady, slotsCleared, listSaid};
-use crate::list::list_answer;
+ghost use Rattle.list_judge.specs.Ready.{Ready, ListReady, slotsCleared, listSaid};
 use base::places::slot_place;
 use base::places::word_place;
 use file_contents::evidence::Contents;
@@ -24,6 +23,7 @@ use file_records::program::Checked;
 use file_records::program::Program;
 use file_records::program::Refusal;
 use file_records::program::refusal_of;
+use list_judge::list_answer;
 use list_summary::summarise;
 use pso_replay::run::replay_steps;
 use run_layout::area::clear;
@@ -32,8 +32,6 @@ use run_step::last_test::RunAnswer;
 use verdict::answer::Answer;
 use verdict::answer::Verdict;
 use verdict::answer::shown;
-
-mod list;
 
 // The bytes of a work area that belong to the judgement: the first 16,384, and twelve for each entry allowed.
 fn used_of(area: usize) -> usize

@@ -21,9 +21,10 @@ use Rattle.file_contents.specs.declared.entry.Cube.{Cube}
 use Rattle.file_contents.specs.Cube.{noQueue, waitingOf, channelOf, queueOf, configurationOf}
 use Rattle.file_records.proofs.ProgramLaws.{and-true}
 use Rattle.file_contents.proofs.CubeParts.{channel-length, four-put, queue-put}
-use Rattle.list_before.specs.Before.{Sound, CubeFor, takeBefore, Waits, byNumber, Inserted, Requeued, Again}
-use Rattle.list_before.proofs.QueueLaws.{no-both, put-sizes}
-use Rattle.list_before.proofs.NewestLaws.{older-length}
+use Rattle.list_cube.specs.Editing.{Sound, CubeFor, Waits, byNumber, Inserted}
+use Rattle.list_before.specs.Before.{takeBefore, Requeued, Again}
+use Rattle.list_cube.proofs.QueueLaws.{no-both, put-sizes}
+use Rattle.list_cube.proofs.NewestLaws.{older-length}
 
 pub made : {ss zs : List ℕ} {qs : List Queue} {ms : List Message} {n : ℕ} (e : Configuration) → byNumber ss ≡ e .state → queueOf qs ≡ e .queue
     → channelOf ms n ≡ e .memory .channel → byNumber zs ≡ e .memory .pointer → n ≤ 20 → ((i : ℕ) → i < 16 → getD qs i noQueue .count ≤ 9)

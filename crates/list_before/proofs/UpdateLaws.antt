@@ -18,9 +18,10 @@ use Rattle.file_contents.specs.declared.entry.Cube.{Cube}
 use Rattle.file_contents.specs.Cube.{configurationOf}
 use Rattle.file_contents.proofs.CubeParts.{channel-message}
 use Rattle.list_key.proofs.ValueLaws.{SameBytes}
-use Rattle.list_before.specs.Before.{Sound, LastWrites, WritePlace, Repeats}
-use Rattle.list_before.proofs.QueueLaws.{no-both}
-use Rattle.list_before.proofs.WriteLaws.{four-list}
+use Rattle.list_cube.specs.Editing.{Sound, LastWrites, WritePlace}
+use Rattle.list_before.specs.Before.{Repeats}
+use Rattle.list_cube.proofs.QueueLaws.{no-both}
+use Rattle.list_cube.proofs.WriteLaws.{four-list}
 
 -- of the first i processes none but p points at z
 pub record Apart (zs : List ℕ) (z p i : ℕ) : Type 0 where

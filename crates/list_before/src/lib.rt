@@ -1,9 +1,6 @@
 // The predecessor cubes of an entry (theory, section 5), each made from the entry in one go, and the tests that say which there are. What
 // they are is defined in the theory of lists.
 
-pub mod messages;
-pub mod newest;
 pub mod operations;
-pub mod queues;
 pub mod serialise;
 pub mod update;

@@ -11,10 +11,11 @@ use Rattle.file_records.specs.ProgramPart.{shapeOf, programOf}
 use Rattle.file_contents.specs.declared.entry.Cube.{Cube}
 use Rattle.file_contents.specs.Cube.{configurationOf}
 use Rattle.file_again.specs.Again.{entriesOf}
-use Rattle.list_families.specs.Family.{Families, Recorded}
-use Rattle.list_families.proofs.TableLaws.{recorded-held, recorded-update, recorded-serialise}
+use Rattle.list_known.specs.FamilyTable.{Families, Recorded}
+use Rattle.list_known.proofs.FamilyTable.{recorded-held, recorded-update, recorded-serialise}
 use Rattle.list_theory.specs.Predecessors.{onTop}
-use Rattle.list_before.specs.Before.{CubeFor, serialiseBefore}
+use Rattle.list_cube.specs.Editing.{CubeFor}
+use Rattle.list_before.specs.Before.{serialiseBefore}
 use Rattle.list_cover.specs.Search.{Searchable}
 use Rattle.list_closing.specs.Walk.{stepHeld, walkStep, LowestFailing, Walkable, Serialising}
 use Rattle.list_closing.proofs.WalkLaws.{lowest-end, walk-update}

@@ -16,8 +16,8 @@ use Rattle.file_records.specs.ProgramPart.{programOf}
 use Rattle.file_contents.specs.Cube.{configurationOf}
 use Rattle.file_again.specs.Again.{transitionOf, entriesOf}
 use Rattle.file_again.proofs.Again.{transition-again}
-use Rattle.list_full.specs.Table.{Full, isFull, statesFrom}
-use Rattle.list_full.proofs.TableLaws.{full-take, full-serialise, full-update}
+use Rattle.list_known.specs.FullStates.{Full, isFull, statesFrom}
+use Rattle.list_known.proofs.FullTable.{full-take, full-serialise, full-update}
 use Rattle.list_closing.specs.Walk.{stepHeld, walkStep, openingAt, openingOf, LowestFailing, Walkable, Surrounded}
 use Rattle.list_closing.specs.declared.Opening.{Opening}
 use Rattle.list_closing.specs.declared.Opening.the-variants.{Shut, Through}

@@ -23,8 +23,9 @@ use Rattle.file_records.specs.ProgramPart.{shapeOf, programOf}
 use Rattle.file_contents.specs.Cube.{configurationOf}
 use Rattle.file_again.specs.Again.{entriesOf}
 use Rattle.file_records.proofs.ProgramLaws.{and-true}
-use Rattle.list_before.specs.Before.{CubeFor, serialiseBefore}
-use Rattle.list_before.proofs.NewestLaws.{older-length}
+use Rattle.list_cube.specs.Editing.{CubeFor}
+use Rattle.list_before.specs.Before.{serialiseBefore}
+use Rattle.list_cube.proofs.NewestLaws.{older-length}
 use Rattle.list_cover.specs.Search.{Searchable}
 use Rattle.list_closing.specs.Walk.{stepHeld, LowestFailing, Walkable, Serialising}
 use Rattle.list_closing.proofs.WalkLaws.{lowest-at}

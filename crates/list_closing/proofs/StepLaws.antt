@@ -29,7 +29,7 @@ use Rattle.file_contents.proofs.CubeParts.{channel-length, queue-of, queue-none
 use Rattle.file_again.specs.Again.{entriesOf, cubeAt}
 use Rattle.file_again.specs.Contents.{CubeRange}
 use Rattle.list_summary.specs.Summary.{Summed}
-use Rattle.list_before.specs.Before.{CubeFor}
+use Rattle.list_cube.specs.Editing.{CubeFor}
 use Rattle.list_cover.specs.Search.{Searchable}
 use Rattle.list_closing.specs.Walk.{stepHeld, Walkable}
 

@@ -24,7 +24,8 @@ use Rattle.file_contents.specs.Cube.{configurationOf}
 use Rattle.file_again.specs.Again.{transitionOf, entriesOf}
 use Rattle.file_again.proofs.Again.{transition-again}
 use Rattle.file_records.proofs.ProgramLaws.{and-true}
-use Rattle.list_before.specs.Before.{CubeFor, takeBefore}
+use Rattle.list_cube.specs.Editing.{CubeFor}
+use Rattle.list_before.specs.Before.{takeBefore}
 use Rattle.list_before.proofs.CubeLaws.{cube-is}
 use Rattle.list_cover.specs.Search.{Searchable}
 use Rattle.list_closing.specs.Walk.{stepHeld, Walkable, Acting}

@@ -18,7 +18,8 @@ use Rattle.file_records.specs.ProgramPart.{shapeOf, programOf}
 use Rattle.file_contents.specs.Cube.{configurationOf}
 use Rattle.file_again.specs.Again.{entriesOf}
 use Rattle.file_records.proofs.ProgramLaws.{and-true}
-use Rattle.list_before.specs.Before.{CubeFor, LastWrites, Repeats, updateBefore}
+use Rattle.list_cube.specs.Editing.{CubeFor, LastWrites}
+use Rattle.list_before.specs.Before.{Repeats, updateBefore}
 use Rattle.list_cover.specs.Search.{Searchable}
 use Rattle.list_closing.specs.Walk.{stepHeld, Walkable}
 use Rattle.list_closing.proofs.StepLaws.{not-both, step-true, step-false, searched}

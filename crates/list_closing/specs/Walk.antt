@@ -21,10 +21,10 @@ use Rattle.file_contents.specs.declared.entry.Cube.{Cube}
 use Rattle.file_records.specs.ProgramPart.{shapeOf, programOf}
 use Rattle.file_contents.specs.Cube.{configurationOf}
 use Rattle.file_again.specs.Again.{cubeAt, entriesOf, transitionOf}
-use Rattle.list_full.specs.Table.{isFull, statesFrom}
-use Rattle.list_families.specs.Family.{Families}
+use Rattle.list_known.specs.FullStates.{isFull, statesFrom}
+use Rattle.list_known.specs.FamilyTable.{Families}
 use Rattle.list_summary.specs.Summary.{Summed}
-use Rattle.list_before.specs.Before.{Sound}
+use Rattle.list_cube.specs.Editing.{Sound}
 use Rattle.list_closing.specs.declared.Opening.{Opening}
 use Rattle.list_closing.specs.declared.Opening.the-variants.{Shut, Through}
 

@@ -4,12 +4,12 @@ ghost use Rattle.list_theory.specs.Decision.{held};
 ghost use Rattle.file_records.specs.ProgramPart.{shapeOf};
 ghost use Rattle.file_contents.specs.Cube.{configurationOf};
 ghost use Rattle.file_again.specs.Again.{entriesOf};
-ghost use Rattle.list_families.specs.Family.{Families};
+ghost use Rattle.list_known.specs.FamilyTable.{Families};
 ghost use Rattle.list_cover.specs.Search.{Searchable};
 use file_contents::entry::Cube;
 use file_records::program::Shape;
 use list_cover::search::search;
-use list_families::in_full_family;
+use list_known::families::in_full_family;
 
 pub(crate) fn found(
     families: &[u8],

@@ -12,24 +12,25 @@ ghost use Rattle.list_theory.specs.Decision.{held};
 ghost use Rattle.file_records.specs.ProgramPart.{shapeOf, programOf};
 ghost use Rattle.file_contents.specs.Cube.{configurationOf};
 ghost use Rattle.file_again.specs.Again.{entriesOf};
-ghost use Rattle.list_before.specs.Before.{CubeFor, serialiseBefore};
-ghost use Rattle.list_families.specs.Family.{Families};
+ghost use Rattle.list_cube.specs.Editing.{CubeFor};
+ghost use Rattle.list_before.specs.Before.{serialiseBefore};
+ghost use Rattle.list_known.specs.FamilyTable.{Families};
 ghost use Rattle.list_closing.specs.Walk.{stepHeld, Walkable, Serialising};
 use crate::finding::found;
 use base::bytes::least;
 use file_contents::entry::Cube;
 use file_contents::steps::pair_exists;
 use file_records::program::Program;
-use list_before::messages::older_write;
-use list_before::newest::alike_before;
-use list_before::newest::newest;
 use list_before::serialise::before_serialise;
 use list_before::serialise::before_serialise_inside;
 use list_before::serialise::before_serialise_on_top;
 use list_before::serialise::may_serialise;
 use list_before::serialise::repeats_value;
 use list_cover::search::search;
-use list_families::in_full_family;
+use list_cube::messages::older_write;
+use list_cube::newest::alike_before;
+use list_cube::newest::newest;
+use list_known::families::in_full_family;
 
 // With message k inside, which is past LastWrite: if there is such a cube, it is held.
 fn inside_held(

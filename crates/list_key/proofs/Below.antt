@@ -1,5 +1,5 @@
 -- Tests over the numbers below a bound.
-use Prim.Native.Nat.{ℕ, zero, suc, _+_, _<_, _≤_}
+use Prim.Native.Nat.{ℕ, zero, suc, _+_, _<_, _≤_, min}
 use mathlib.Core.Path.{_≡_, refl, sym, ap, ap₂, _∙_}
 use mathlib.Core.Bool.{Bool, true, false, _&&_, _||_}
 use native.Mathlib.Omega.{arith}
@@ -55,3 +55,7 @@ each-all {f} {n} {i} w l = all-true n f (λ k m. w .each k (omega arith))
 
 pub each-none : {f : ℕ → Bool} {n i : ℕ} → Each f false n i → n ≤ i → anyBelow n f ≡ false
 each-none {f} {n} {i} w l = any-false n f (λ k m. w .each k (omega arith))
+
+-- a test of the first four is one of the first n, if there are no more
+pub few-all : (n : ℕ) (f : ℕ → Bool) → n ≤ 4 → allBelow (min n 4) f ≡ allBelow n f
+few-all n f l = ap (λ (k : ℕ). allBelow k f) {x = min n 4} {y = n} (omega arith)

@@ -26,7 +26,7 @@ use Rattle.list_theory.proofs.Lists.{each-in}
 use Rattle.list_theory.proofs.Shapes.{memory-shape, queues-shape}
 use Rattle.list_targets.specs.ShapeCube.{outlineOf, emptyShape}
 use Rattle.file_contents.specs.declared.entry.Cube.{Cube}
-use Rattle.list_families.specs.Family.{familyCube, familyCubes}
+use Rattle.list_theory.specs.Family.{familyCube, familyCubes}
 use Rattle.list_targets.specs.Walk.{withQueues, choicesFrom, Leaf, targetLeaf, familyLeaf, cubesAfter, outlineCubes, allCubes, labelCubes, choiceCubes}
 use Rattle.list_targets.proofs.ListLaws.{each-append, each-one, each-below, each-each, each-map, each-none, below-none, each-itself}
 

@@ -30,7 +30,7 @@ use Rattle.file_contents.proofs.CubeLaws.{load-message, load-waiting, load-ends
 use Rattle.file_contents.proofs.CubeParts.{channel-length, channel-equal, queue-of, queue-none}
 use Rattle.file_again.specs.Again.{offsetAt, cubeAt, entriesOf}
 use Rattle.list_key.proofs.RoleLaws.{labels}
-use Rattle.list_families.specs.Family.{topped, familyCube}
+use Rattle.list_theory.specs.Family.{topped, familyCube}
 use Rattle.list_cover.specs.Search.{Searchable}
 use Rattle.list_cover.proofs.EntryLaws.{load-few}
 use Rattle.list_targets.specs.ShapeCube.{outlineOf, ShapeCube}

@@ -1,4 +1,3 @@
-pub mod StartLaws
 pub mod ShapeLaws
 pub mod ListLaws
 pub mod JudgeLaws
@@ -9,5 +8,3 @@ pub mod QueueSteps
 pub mod ChannelSteps
 pub mod TargetLaws
 pub mod SeenLaws
-pub mod GroupLaws
-pub mod MemberLaws

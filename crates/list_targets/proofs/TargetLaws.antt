@@ -4,7 +4,7 @@ use mathlib.Core.Path.{_≡_, sym, ap, subst, _∙_}
 use mathlib.Core.Bool.{Bool, true, false}
 use mathlib.Core.List.{List, [], _∷_, List·Memᴰ}
 use native.Mathlib.Omega.{arith}
-use lib.ListN.{getD}
+use lib.ListN.{length, getD}
 use Rattle.machine_pws.specs.declared.Message.{Message}
 use Rattle.machine_pws.specs.Program as pws
 use Rattle.file_records.specs.declared.program.Shape.{Shape}
@@ -13,14 +13,23 @@ use Rattle.list_theory.specs.Lists.{every}
 use Rattle.list_theory.specs.Shapes.{shapeCubes}
 use Rattle.list_theory.specs.Decision.{held, targetHeld}
 use Rattle.machine_pws.specs.Machine.{Configuration}
+use Rattle.machine_pws.specs.Configurations.{Fits}
+use Rattle.machine_pws.specs.Entries.{ValueOrFF, noEntry, entry}
+use Rattle.file_again.proofs.Tables.{table-length, table-number}
 use Rattle.file_contents.specs.Cube.{configurationOf}
 use Rattle.file_again.specs.Again.{cubeAt, entriesOf}
-use Rattle.list_families.specs.Family.{familyCubes}
-use Rattle.list_families.proofs.FullLaws.{cubes-fit}
-use Rattle.list_families.proofs.TableLaws.{listed}
+use Rattle.list_theory.specs.Family.{familyCubes}
+use Rattle.list_theory.proofs.FamilyFull.{cubes-fit}
 use Rattle.list_targets.specs.Walk.{Searches, Judges, Leaf, targetLeaf, familyLeaf, outlineCubes, allCubes}
 use Rattle.list_targets.proofs.ChannelWalk.{walk-all, target-cubes, family-cubes, shapes-fit}
 use Rattle.list_targets.proofs.JudgeLaws.{judges-same}
+
+-- entries that fit, by number, as entries of the list
+pub listed : (S : pws.Shape) (f list : List ℕ) (n : ℕ) → ((k : ℕ) → k < n → Fits (ValueOrFF S) S (configurationOf (cubeAt f list k)))
+    → (k : ℕ) → k < length (entriesOf f list n) → Fits (ValueOrFF S) S (entry (entriesOf f list n) k)
+listed S f list n o k l =
+    let m : k < n = omega (arith, table-length (λ i. configurationOf (cubeAt f list i)) 0 n) in
+    subst (Fits (ValueOrFF S) S) (sym (table-number (λ i. configurationOf (cubeAt f list i)) n k noEntry m)) (o k m)
 
 pub product : (p v : ℕ) → p ≤ 4 → v ≤ 4 → p * v ≤ 16
 product zero v a b = omega arith

@@ -10,8 +10,8 @@ use Rattle.list_theory.specs.Lists.{forBelow}
 use Rattle.file_records.specs.declared.program.Shape.{Shape}
 use Rattle.file_contents.specs.declared.entry.Cube.{Cube}
 use Rattle.file_contents.specs.Cube.{noQueue, configurationOf}
-use Rattle.list_families.specs.Seen.{valued, witnessed, seenMemories, withMemory}
-use Rattle.list_before.specs.Before.{LastWrites}
+use Rattle.list_theory.specs.Seen.{valued, witnessed, seenMemories, withMemory}
+use Rattle.list_cube.specs.Editing.{LastWrites}
 use Rattle.list_targets.specs.declared.Aim.{Aim}
 
 -- an entry with the messages and pointers of a shape

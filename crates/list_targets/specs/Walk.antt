@@ -19,8 +19,8 @@ use Rattle.list_theory.specs.Shapes.{Outline, allowed, outlines, longest, outli
 use Rattle.list_theory.specs.Decision.{held}
 use Rattle.file_contents.specs.declared.entry.Cube.{Cube}
 use Rattle.file_again.specs.Again.{cubeAt, entriesOf}
-use Rattle.list_families.specs.Family.{familyCube}
-use Rattle.list_families.specs.Seen.{withMemory}
+use Rattle.list_theory.specs.Family.{familyCube}
+use Rattle.list_theory.specs.Seen.{withMemory}
 use Rattle.list_summary.specs.Summary.{Summed}
 use Rattle.list_targets.specs.declared.Aim.{Aim}
 use Rattle.list_targets.specs.ShapeCube.{emptyShape}

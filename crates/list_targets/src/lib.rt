@@ -14,12 +14,11 @@ ghost use Rattle.list_theory.specs.Shapes.{allowed};
 ghost use Rattle.list_theory.specs.Decision.{held, targetHeld};
 ghost use Rattle.list_targets.specs.ShapeCube.{ShapeCube, outlineOf, withWaiting};
 ghost use Rattle.file_again.specs.Again.{cubeAt, entriesOf};
-ghost use Rattle.list_families.specs.Family.{familyCube, familyCubes};
+ghost use Rattle.list_theory.specs.Family.{familyCube, familyCubes};
 ghost use Rattle.list_targets.specs.Walk.{Searches, Judges, queueCubes, leafOf, outlineCubes, allCubes, choiceCubes};
 ghost use Rattle.list_targets.specs.Depth.{SmallShape, AtQueue, AtMessage, AtPlace};
 use crate::seen::moved;
 use crate::seen::seen_held;
-use crate::starts::same_bytes;
 use base::bytes::both;
 use base::bytes::least;
 use base::bytes::wide;
@@ -28,18 +27,12 @@ use file_contents::entry::Cube;
 use file_contents::entry::Queue;
 use file_records::program::Shape;
 use list_cover::search::search;
-use list_families::newest_values;
+use list_cube::newest::newest_values;
 use list_key::any_message;
+use list_key::states_match;
 use machine_pws::Message;
 
-mod groups;
-mod members;
-mod seen;
-mod starts;
-
-pub use groups::put_groups;
-pub use members::put_member;
-pub use starts::entry_started;
+pub mod seen;
 
 // ---- shapes (section 3)
 
@@ -73,7 +66,7 @@ fn is_allowed(
     ensures { λ r. ⌜ r ≡ allowed (shapeOf shape) (channelOf messages n) (λ q. getD places q 0) (λ q. getD new q 0) p v ⌝ }
 {
     let processes = shape.processes;
-    if !same_bytes(processes, new, places) {
+    if !states_match(processes, new, places) {
         return true;
     }
     if is_seen(messages, n, p, v) {
@@ -487,10 +480,12 @@ pub fn target_held(
 }
 
 // All configurations in the family of entry k are above the list.
-fn family_held(file: &[u8], list: &[u8], sum: &[u8], n: usize, shape: Shape, k: usize) -> bool
-    requires { ⌜ k < 524288 ⌝ }
+pub fn family_held(file: &[u8], list: &[u8], sum: &[u8], n: usize, shape: Shape, k: usize) -> bool
     ensures { λ r. ⌜ (k < n → Searches (now (file .entry)) (now (list .entry)) (now (sum .entry)) n shape → r ≡ every (held (shapeOf shape) (entriesOf (now (file .entry)) (now (list .entry)) n)) (familyCubes (shapeOf shape) (configurationOf (cubeAt (now (file .entry)) (now (list .entry)) k)))) ⌝ }
 {
+    if 524288 <= k {
+        return false;
+    }
     let none = [0u8; 4];
     let aim = Aim {
         rep: k + 1,

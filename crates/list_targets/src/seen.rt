@@ -12,7 +12,7 @@ ghost use Rattle.file_contents.specs.Cube.{configurationOf};
 ghost use Rattle.list_theory.specs.Lists.{forBelow, every};
 ghost use Rattle.list_theory.specs.Decision.{held};
 ghost use Rattle.file_again.specs.Again.{cubeAt, entriesOf};
-ghost use Rattle.list_families.specs.Seen.{messageWith, seenCubes};
+ghost use Rattle.list_theory.specs.Seen.{messageWith, seenCubes};
 ghost use Rattle.list_targets.specs.Seeing.{Movable, Seeing, movedTo, roomFor, valuedAt, witnessedAt, labelledAt, seenAt};
 ghost use Rattle.list_targets.specs.Walk.{Searches, Judges};
 use crate::Aim;
@@ -21,12 +21,12 @@ use base::bytes::both;
 use base::bytes::wide;
 use file_contents::entry::Cube;
 use file_records::program::Shape;
-use list_before::messages::inserted;
-use list_before::messages::last_writes;
-use list_before::messages::raised;
-use list_before::messages::with_value;
-use list_before::messages::with_value_in;
 use list_cover::search::search;
+use list_cube::messages::inserted;
+use list_cube::messages::last_writes;
+use list_cube::messages::raised;
+use list_cube::messages::with_value;
+use list_cube::messages::with_value_in;
 use list_key::any_message;
 use machine_pws::Message;
 
@@ -229,7 +229,7 @@ pub(crate) fn seen_held(
 
 // All configurations with the local states and waiting values of entry k in which p can come to see x in v are above the list. It says no where a cube has no
 // room for one message more than a shape may have.
-pub(crate) fn sees_held(
+pub fn sees_held(
     file: &[u8],
     list: &[u8],
     sum: &[u8],
@@ -240,9 +240,11 @@ pub(crate) fn sees_held(
     v: usize,
     x: u8,
 ) -> bool
-    requires { ⌜ k < 524288 ⌝ }
     ensures { λ r. ⌜ (k < n → Searches (now (file .entry)) (now (list .entry)) (now (sum .entry)) n shape → ((c : Configuration) → List·Memᴰ c (seenCubes (shapeOf shape) p v x (configurationOf (cubeAt (now (file .entry)) (now (list .entry)) k))) → Fits (ValueOrFF (shapeOf shape)) (shapeOf shape) c) → r ≡ true → every (held (shapeOf shape) (entriesOf (now (file .entry)) (now (list .entry)) n)) (seenCubes (shapeOf shape) p v x (configurationOf (cubeAt (now (file .entry)) (now (list .entry)) k))) ≡ true) ⌝ }
 {
+    if 524288 <= k {
+        return false;
+    }
     if !both(p < 4, v < 4) {
         return false;
     }

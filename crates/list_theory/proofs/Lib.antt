@@ -18,3 +18,9 @@ pub mod Starts
 pub mod Splitting
 pub mod Verdict
 pub mod Cases
+pub mod FullSteps
+pub mod FamilyIn
+pub mod FamilySteps
+pub mod FamilyFull
+pub mod FamilySerialise
+pub mod FamilySeen

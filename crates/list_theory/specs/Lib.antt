@@ -8,3 +8,5 @@ pub mod Matching
 pub mod Covering
 pub mod Decision
 pub mod Cases
+pub mod Seen
+pub mod Family

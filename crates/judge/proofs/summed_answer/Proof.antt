@@ -7,7 +7,7 @@ use Rattle.judge.proofs.summed_answer.Statement.{statement}
 use Rattle.judge.proofs.summed_answer.Tie as tie
 use Rattle.judge.proofs.summed_answer.Reads as reads
 use Rattle.judge.proofs.summed_answer.Lts as lts
-use Rattle.judge.proofs.list.list_answer.Reads as list-answer-reads
+use Rattle.list_judge.proofs.list_answer.Reads as list-answer-reads
 
 -- src/lib.rt:57:23
 slice-aggregate-list-answer : tie.Need-slice-aggregate-list-answer

@@ -4,7 +4,7 @@ use native.Mathlib.Omega.{arith}
 use Rattle.file_records.specs.ProgramPart.{programOf}
 use Rattle.file_contents.specs.Cube.{configurationOf}
 use Rattle.file_again.specs.Again.{entriesOf}
-use Rattle.list_before.proofs.MessageLaws.{all-messages}
+use Rattle.list_cube.proofs.MessageLaws.{all-messages}
 use Rattle.list_closing.specs.Walk.{stepHeld}
 use Rattle.list_closing.proofs.WalkLaws.{walk-take, walk-serialise, walk-update}
 use Rattle.list_closing.proofs.FullLaws.{walk-full}

@@ -3,7 +3,7 @@ use mathlib.Core.Path.{_≡_, sym, ap, _∙_}
 use mathlib.Core.Bool.{false≢true}
 use mathlib.Core.List.{List}
 use borrow.Author.Tests.{not-true, not-false}
-use Rattle.list_full.specs.Table.{isFull}
+use Rattle.list_known.specs.FullStates.{isFull}
 use Rattle.list_closing.proofs.FullLaws.{Around, around-begin, around-next, around-end}
 use native.Mathlib.Omega.{arith}
 use mathlib.Core.Path.{refl}

@@ -4,8 +4,8 @@ use Rattle.file_contents.specs.declared.entry.Cube.{Cube}
 use Rattle.file_records.specs.ProgramPart.{shapeOf, programOf}
 use Rattle.file_contents.specs.Cube.{configurationOf}
 use Rattle.file_again.specs.Again.{cubeAt, entriesOf}
-use Rattle.list_full.specs.Table.{Full}
-use Rattle.list_families.specs.Family.{Families}
+use Rattle.list_known.specs.FullStates.{Full}
+use Rattle.list_known.specs.FamilyTable.{Families}
 use Rattle.list_closing.specs.Walk.{stepHeld, walkStep, openingAt, LowestFailing, Walkable}
 use Rattle.list_closing.proofs.WalkLaws.{opening-is}
 use borrow.Author.Needs.{needs}

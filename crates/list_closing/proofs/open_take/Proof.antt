@@ -5,9 +5,9 @@ use Rattle.machine_pws.specs.declared.Step.the-variants.{Take}
 use Rattle.file_records.specs.ProgramPart.{shapeOf, programOf}
 use Rattle.file_contents.specs.Cube.{configurationOf}
 use Rattle.file_again.specs.Again.{entriesOf}
-use Rattle.list_before.specs.Before.{LastWrites}
-use Rattle.list_full.specs.Table.{Full}
-use Rattle.list_families.specs.Family.{Families}
+use Rattle.list_cube.specs.Editing.{LastWrites}
+use Rattle.list_known.specs.FullStates.{Full}
+use Rattle.list_known.specs.FamilyTable.{Families}
 use Rattle.list_closing.specs.Walk.{stepHeld, Walkable}
 use Rattle.list_closing.proofs.StepLaws.{Passed, passed-begin, passed-next}
 use Rattle.list_closing.proofs.WalkLaws.{lowest-at, lowest-end}

@@ -7,7 +7,7 @@ use Rattle.machine_pws.specs.declared.Step.the-variants.{Update}
 use Rattle.file_records.specs.ProgramPart.{programOf}
 use Rattle.file_contents.specs.Cube.{configurationOf}
 use Rattle.file_again.specs.Again.{entriesOf}
-use Rattle.list_before.specs.Before.{LastWrites}
+use Rattle.list_cube.specs.Editing.{LastWrites}
 use Rattle.list_closing.specs.Walk.{stepHeld, Walkable}
 use Rattle.list_closing.proofs.StepLaws.{Passed, passed-begin, passed-next}
 use Rattle.list_closing.proofs.WalkLaws.{lowest-at, lowest-end}

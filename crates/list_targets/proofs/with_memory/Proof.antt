@@ -3,7 +3,7 @@ use native.Mathlib.Omega.{arith}
 use lib.ListN.{length}
 use borrow.Author.Needs.{needs}
 use Rattle.list_key.proofs.ValueLaws.{length-mapped}
-use Rattle.list_families.proofs.TableLaws.{values-newest}
+use Rattle.list_cube.proofs.NewestLaws.{values-newest}
 use Rattle.list_targets.proofs.EntryLaws.{topped-is, with-memory-is}
 use Rattle.list_targets.proofs.with_memory.Statement.{statement}
 use Rattle.list_targets.proofs.with_memory.Tie as tie

@@ -9,7 +9,7 @@ use Rattle.list_theory.specs.Predecessors.{before, undone}
 use Rattle.file_contents.specs.Cube.{configurationOf}
 use Rattle.file_contents.proofs.CubeParts.{four-put}
 use Rattle.list_before.specs.Before.{takeBefore}
-use Rattle.list_before.proofs.NewestLaws.{older-length, older-some}
+use Rattle.list_cube.proofs.NewestLaws.{older-length, older-some}
 use Rattle.list_before.proofs.CubeLaws.{made, few, room, nine}
 use native.Mathlib.Omega.{arith}
 use borrow.Author.Needs.{needs}

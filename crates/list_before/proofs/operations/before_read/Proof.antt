@@ -6,8 +6,8 @@ use borrow.Author.Tests.{not-true, not-false}
 use Rattle.machine_pws.specs.Machine.{isEmpty, lastWrite}
 use Rattle.list_theory.specs.Cubes.{setValue, withLast}
 use Rattle.file_contents.specs.Cube.{configurationOf}
-use Rattle.list_before.specs.Before.{Waits}
-use Rattle.list_before.proofs.MessageLaws.{write-some}
+use Rattle.list_cube.specs.Editing.{Waits}
+use Rattle.list_cube.proofs.MessageLaws.{write-some}
 use Rattle.list_key.proofs.ValueLaws.{length-mapped}
 use Rattle.list_before.proofs.CubeLaws.{few, less, room, few-wait, requeued, read-waiting, read-sent}
 use native.Mathlib.Omega.{arith}

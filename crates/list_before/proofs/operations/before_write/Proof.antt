@@ -3,7 +3,7 @@ use mathlib.Core.Path.{_≡_, subst}
 use mathlib.Core.List.{List}
 use lib.ListN.{length}
 use Rattle.list_theory.specs.Cubes.{withoutLast}
-use Rattle.list_before.specs.Before.{Waits}
+use Rattle.list_cube.specs.Editing.{Waits}
 use Rattle.list_key.proofs.ValueLaws.{length-mapped}
 use Rattle.list_before.proofs.CubeLaws.{few, less, few-wait, requeued}
 use native.Mathlib.Omega.{arith}

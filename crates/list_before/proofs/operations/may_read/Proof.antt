@@ -5,7 +5,7 @@ use lib.ListN.{getD}
 use Rattle.machine_pws.specs.Machine.{message, newestOr, newestWaiting, lastWrite}
 use Rattle.list_theory.specs.Values.{alike}
 use Rattle.file_contents.specs.Cube.{configurationOf}
-use Rattle.list_before.proofs.MessageLaws.{write-some}
+use Rattle.list_cube.proofs.MessageLaws.{write-some}
 use Rattle.list_before.proofs.CubeLaws.{few, less, room}
 use native.Mathlib.Omega.{arith}
 use borrow.Author.Needs.{needs}

@@ -6,7 +6,7 @@ use Rattle.list_theory.specs.Predecessors.{before, undone}
 use Rattle.file_records.specs.ProgramPart.{shapeOf}
 use Rattle.file_contents.specs.Cube.{configurationOf}
 use Rattle.list_before.specs.Before.{serialiseBefore}
-use Rattle.list_before.proofs.NewestLaws.{older-some}
+use Rattle.list_cube.proofs.NewestLaws.{older-some}
 use Rattle.list_before.proofs.CubeLaws.{made, few, less, room}
 use native.Mathlib.Omega.{arith}
 use borrow.Author.Needs.{needs}

@@ -5,7 +5,7 @@ use Rattle.machine_pws.specs.Entries.{FF}
 use Rattle.list_theory.specs.Cubes.{older}
 use Rattle.list_theory.specs.Predecessors.{before}
 use Rattle.file_contents.specs.Cube.{configurationOf}
-use Rattle.list_before.proofs.NewestLaws.{older-length, older-some}
+use Rattle.list_cube.proofs.NewestLaws.{older-length, older-some}
 use Rattle.list_before.proofs.CubeLaws.{low, inside-number, inserted-cube, cube-count, meet-length}
 use native.Mathlib.Omega.{arith}
 use borrow.Author.Needs.{needs}

@@ -2,7 +2,7 @@ use mathlib.Core.Path.{sym, ap, _∙_}
 use lib.ListN.{getD}
 use borrow.Author.Tests.{not-true}
 use Rattle.machine_pws.specs.declared.Message.{Message}
-use Rattle.list_before.proofs.QueueLaws.{no-both}
+use Rattle.list_cube.proofs.QueueLaws.{no-both}
 use Rattle.list_before.proofs.serialise.repeats_value.Statement.{statement}
 use Rattle.list_before.proofs.serialise.repeats_value.Tie as tie
 

@@ -1,6 +1,6 @@
 use Prim.Native.Nat.{_-_}
 use mathlib.Core.Path.{sym, _∙_}
-use Rattle.list_before.proofs.QueueLaws.{no-both}
+use Rattle.list_cube.proofs.QueueLaws.{no-both}
 use Rattle.list_before.proofs.UpdateLaws.{Apart, apart-begin, apart-next}
 use native.Mathlib.Omega.{arith}
 use borrow.Author.Needs.{needs}

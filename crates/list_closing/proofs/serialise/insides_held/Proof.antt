@@ -12,7 +12,7 @@ use Rattle.file_contents.specs.Cube.{configurationOf}
 use Rattle.file_again.specs.Again.{entriesOf}
 use Rattle.list_key.proofs.Below.{all-true, all-false}
 use Rattle.list_before.specs.Before.{serialiseBefore}
-use Rattle.list_families.specs.Family.{Families}
+use Rattle.list_known.specs.FamilyTable.{Families}
 use Rattle.list_closing.specs.Walk.{Serialising}
 use Rattle.list_closing.proofs.StepLaws.{Passed, passed-begin, passed-next}
 use native.Mathlib.Omega.{arith}

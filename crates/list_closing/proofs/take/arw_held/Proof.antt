@@ -7,7 +7,7 @@ use Rattle.list_theory.specs.Decision.{held}
 use Rattle.file_records.specs.ProgramPart.{shapeOf}
 use Rattle.file_contents.specs.Cube.{configurationOf}
 use Rattle.file_again.specs.Again.{entriesOf}
-use Rattle.list_families.specs.Family.{Families}
+use Rattle.list_known.specs.FamilyTable.{Families}
 use Rattle.list_before.specs.Before.{takeBefore}
 use Rattle.list_closing.proofs.StepLaws.{Passed, passed-begin, passed-next}
 use Rattle.list_closing.proofs.TakeLaws.{Swapping, take-false, top-has, arw-none, undone-fails, arw-all}

@@ -3,7 +3,7 @@ use mathlib.Core.Path.{_≡_, sym, subst, _∙_}
 use mathlib.Core.Bool.{true}
 use mathlib.Core.List.{List}
 use borrow.Author.Needs.{needs}
-use Rattle.list_full.specs.Table.{isFull}
+use Rattle.list_known.specs.FullStates.{isFull}
 use Rattle.list_closing.proofs.FullLaws.{take-full}
 use Rattle.list_closing.proofs.take.before_held.Statement.{statement}
 use Rattle.list_closing.proofs.take.before_held.Tie as tie

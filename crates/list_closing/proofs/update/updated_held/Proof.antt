@@ -8,7 +8,8 @@ use Rattle.list_theory.specs.Decision.{held}
 use Rattle.file_records.specs.ProgramPart.{shapeOf}
 use Rattle.file_contents.specs.Cube.{configurationOf}
 use Rattle.file_again.specs.Again.{entriesOf}
-use Rattle.list_before.specs.Before.{LastWrites, Repeats, updateBefore}
+use Rattle.list_cube.specs.Editing.{LastWrites}
+use Rattle.list_before.specs.Before.{Repeats, updateBefore}
 use Rattle.list_closing.specs.Walk.{Walkable}
 use Rattle.list_closing.proofs.StepLaws.{Passed, passed-begin, passed-next}
 use Rattle.list_closing.proofs.UpdateLaws.{undone-fails, label-kind, pointed-absent, pointed-there, pointed-fails, own-pointed, update-all}

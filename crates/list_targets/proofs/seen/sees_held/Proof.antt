@@ -12,6 +12,8 @@ use Rattle.list_targets.proofs.seen.sees_held.Tie as tie
 
 pub sees-held-spec : {M : Type 1} → statement M
 sees-held-spec = tie.close (tie.spec
+    -- returns
+    (λ c l h F y. absurd (true-not-false (sym y)))
     -- both-requires
     (λ c κs. tt)
     -- returns

@@ -1,0 +1,4 @@
+pub mod QueueLaws
+pub mod WriteLaws
+pub mod NewestLaws
+pub mod MessageLaws

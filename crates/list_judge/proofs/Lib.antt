@@ -1,0 +1,4 @@
+pub mod LowestLaws
+pub mod ListLaws
+pub mod ShutLaws
+pub mod FullLaws

@@ -1,0 +1,5 @@
+pub mod FullTable
+pub mod FamilyTable
+pub mod ClueLaws
+pub mod GroupLaws
+pub mod MemberLaws

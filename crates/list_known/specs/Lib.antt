@@ -1,0 +1,4 @@
+pub mod FullStates
+pub mod FamilyTable
+pub mod Groups
+pub mod Members
