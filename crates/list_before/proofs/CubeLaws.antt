@@ -52,17 +52,6 @@ inserted-cube {r} {c} {e} {k} {μ} {zs} {z} w h f l =
       queues = λ i m. subst (λ (qs : List Queue). getD qs i noQueue .count ≤ 9) (sym (h .queues)) (w .queues i m);
     }
 
-pub all-up : (zs : List ℕ) (k a b c d : ℕ) → length zs ≡ 4 → 1 ≤ k → a ≡ up k (getD zs 0 0) → b ≡ up k (getD zs 1 0) → c ≡ up k (getD zs 2 0) → d ≡ up k (getD zs 3 0)
-    → byNumber (a ∷ b ∷ c ∷ d ∷ []) ≡ (λ (q : ℕ). up k (getD zs q 0))
-all-up zs k a b c d n l e f g h = λ i q. at q i
-  where
-    at : (q : ℕ) → getD (a ∷ b ∷ c ∷ d ∷ []) q 0 ≡ up k (getD zs q 0)
-    at zero = e
-    at (suc zero) = f
-    at (suc (suc zero)) = g
-    at (suc (suc (suc zero))) = h
-    at (suc (suc (suc (suc q)))) = sym (ap (up k) (List·getD-eq-default zs 0 {n = suc (suc (suc (suc q)))} (omega arith)) ∙ ap (λ (b : Bool). cond b 1 0) (lt-leb k 0 l))
-
 -- an empty queue put in place of itself
 pub put-empty : (qs : ℕ → ℕ → List ℕ) (p v : ℕ) (xs : List ℕ) → qs p v ≡ xs → qs ≡ putQueue qs p v xs
 put-empty qs p v xs e = λ i r u. at r u i

@@ -6,13 +6,13 @@ use mathlib.Core.List.{List, [], _∷_}
 use native.Mathlib.Omega.{arith}
 use native.Mathlib.Numerals.{unary-clauses}
 use native.Mathlib.Decide.{ℕ-discrete}
-use lib.ListN.{length, getD, set, length-set}
+use lib.ListN.{length, getD, set, length-set, List·getD-eq-default}
 use lib.Seq.{getD-set-same, getD-set-other}
 use lib.Dec.{eqb}
 use borrow.Author.Tests.{le-leb, lt-leb, eq-eqb, ne-eqb}
 use Rattle.machine_pws.specs.declared.Message.{Message}
 use Rattle.machine_pws.specs.Machine.{noMessage, labelled, lastLabelled, lastWrite}
-use Rattle.machine_pws.specs.Insertion.{putMessage}
+use Rattle.machine_pws.specs.Insertion.{putMessage, up}
 use Rattle.list_theory.specs.Cubes.{memoryOf, withValues, setValue}
 use Rattle.file_records.specs.declared.program.Shape.{Shape}
 use Rattle.file_contents.specs.declared.entry.Cube.{Cube}
@@ -105,3 +105,14 @@ module _ {s : Shape} {c : Cube} (w : Sound s c) where
   all-messages ws g =
       let e : min (c .count) 20 ≡ c .count = omega (arith, w .count) in
       subst (λ (n : ℕ). LastWrites ws (memoryOf (channelOf (c .messages) n) (byNumber (c .pointers)))) e g
+
+pub all-up : (zs : List ℕ) (k a b c d : ℕ) → length zs ≡ 4 → 1 ≤ k → a ≡ up k (getD zs 0 0) → b ≡ up k (getD zs 1 0) → c ≡ up k (getD zs 2 0) → d ≡ up k (getD zs 3 0)
+    → byNumber (a ∷ b ∷ c ∷ d ∷ []) ≡ (λ (q : ℕ). up k (getD zs q 0))
+all-up zs k a b c d n l e f g h = λ i q. at q i
+  where
+    at : (q : ℕ) → getD (a ∷ b ∷ c ∷ d ∷ []) q 0 ≡ up k (getD zs q 0)
+    at zero = e
+    at (suc zero) = f
+    at (suc (suc zero)) = g
+    at (suc (suc (suc zero))) = h
+    at (suc (suc (suc (suc q)))) = sym (ap (up k) (List·getD-eq-default zs 0 {n = suc (suc (suc (suc q)))} (omega arith)) ∙ ap (λ (b : Bool). cond b 1 0) (lt-leb k 0 l))

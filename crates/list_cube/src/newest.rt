@@ -10,7 +10,7 @@ ghost use Rattle.list_theory.specs.Cubes.{withValues, topmost, older, alikeNewe
 ghost use Rattle.list_theory.specs.Predecessors.{before};
 ghost use Rattle.file_records.specs.declared.program.Shape.{Shape};
 ghost use Rattle.file_contents.specs.Cube.{channelOf, configurationOf};
-ghost use Rattle.list_cube.specs.Editing.{Sound};
+ghost use Rattle.list_cube.specs.Editing.{Sound, newestValues};
 use crate::messages::with_value;
 use base::bytes::either;
 use file_contents::entry::Cube;

@@ -1,4 +1,4 @@
-use Rattle.list_before.proofs.CubeLaws.{all-up}
+use Rattle.list_cube.proofs.MessageLaws.{all-up}
 use native.Mathlib.Omega.{arith}
 use borrow.Author.Needs.{needs}
 use Rattle.list_cube.proofs.messages.raised.Statement.{statement}
