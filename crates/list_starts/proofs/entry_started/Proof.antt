@@ -27,7 +27,7 @@ entry-started-spec = tie.close (tie.spec
     -- states-match-requires
     (λ c κs. tt)
     -- returns
-    (λ c small. other-states (c .before .before .before .before .before .before .args .shape) (c .before .before .before .before .before .before .args .initial) (cubeAt (c .before .before .before .before .before .before .args .file .now) (c .before .before .before .before .before .before .args .list .now) (c .before .before .before .before .before .before .args .k)) (c .before .before .before .least .result) (min (c .before .before .before .before .before .before .args .shape .variables) 4) (c .before .before .before .least .ensures) refl small (sym (ap (λ (z : List ℕ). allBelow (c .before .before .before .least .result) (λ p. eqb (getD z p 0) (getD (c .before .before .before .before .before .before .args .initial) p 0))) (c .before .before .states-at .ensures)) ∙ sym (c .before .states-match .ensures ∙ few-all _ _ (omega (arith, c .before .before .before .least .ensures))) ∙ not-true (c .before .states-match .result) (c .if1 .taken)))
+    (λ c small. other-states (c .before .before .before .before .before .before .args .shape) (c .before .before .before .before .before .before .args .initial) (cubeAt (c .before .before .before .before .before .before .args .file .now) (c .before .before .before .before .before .before .args .list .now) (c .before .before .before .before .before .before .args .k)) (c .before .before .before .least .result) (min (c .before .before .before .before .before .before .args .shape .variables) 4) (c .before .before .before .least .ensures) refl small (sym (ap (λ (z : List ℕ). allBelow (c .before .before .before .least .result) (λ p. eqb (getD z p 0) (getD (c .before .before .before .before .before .before .args .initial) p 0))) (c .before .before .states-at .ensures)) ∙ sym (c .before .states-match .ensures ∙ few-all (c .before .before .before .least .result) _ (omega (arith, c .before .before .before .least .ensures))) ∙ not-true (c .before .states-match .result) (c .if1 .taken)))
     -- entry-at-requires
     (λ c κs. tt)
     -- looks-started-requires

@@ -16,10 +16,10 @@ looks-started-spec = tie.close (tie.spec
     -- states-match-requires
     (λ c κs. tt)
     -- returns
-    (λ c small. other-states (c .before .before .before .before .before .args .shape) (c .before .before .before .before .before .args .initial) (c .before .before .before .before .before .args .cube) (c .before .before .before .before .least .result) (c .before .before .before .least2 .result) (c .before .before .before .before .least .ensures) (c .before .before .before .least2 .ensures) small (sym (c .before .states-match .ensures ∙ few-all _ _ (omega (arith, c .before .before .before .before .least .ensures))) ∙ not-true _ (c .if1 .taken)))
+    (λ c small. other-states (c .before .before .before .before .before .args .shape) (c .before .before .before .before .before .args .initial) (c .before .before .before .before .before .args .cube) (c .before .before .before .before .least .result) (c .before .before .before .least2 .result) (c .before .before .before .before .least .ensures) (c .before .before .before .least2 .ensures) small (sym (c .before .states-match .ensures ∙ few-all (c .before .before .before .before .least .result) _ (omega (arith, c .before .before .before .before .least .ensures))) ∙ not-true _ (c .if1 .taken)))
     -- none-waiting-requires
     (λ c κs. (omega (arith, c .before .before .before .before .before .least .ensures), omega (arith, c .before .before .before .before .least2 .ensures)))
     -- returns-2
-    (λ c small. some-waiting (c .before .before .before .before .before .before .before .before .args .shape) (c .before .before .before .before .before .before .before .before .args .initial) (c .before .before .before .before .before .before .before .before .args .cube) (c .before .before .before .before .before .before .before .least .result) (c .before .before .before .before .before .before .least2 .result) (c .before .before .before .before .before .before .before .least .ensures) (c .before .before .before .before .before .before .least2 .ensures) small (sym (c .before .before .before .before .states-match .ensures ∙ few-all _ _ (omega (arith, c .before .before .before .before .before .before .before .least .ensures))) ∙ not-false _ (c .before .before .before .if1 .left)) (sym (c .before .none-waiting .ensures) ∙ not-true _ (c .if2 .taken)))
+    (λ c small. some-waiting (c .before .before .before .before .before .before .before .before .args .shape) (c .before .before .before .before .before .before .before .before .args .initial) (c .before .before .before .before .before .before .before .before .args .cube) (c .before .before .before .before .before .before .before .least .result) (c .before .before .before .before .before .before .least2 .result) (c .before .before .before .before .before .before .before .least .ensures) (c .before .before .before .before .before .before .least2 .ensures) small (sym (c .before .before .before .before .states-match .ensures ∙ few-all (c .before .before .before .before .before .before .before .least .result) _ (omega (arith, c .before .before .before .before .before .before .before .least .ensures))) ∙ not-false _ (c .before .before .before .if1 .left)) (sym (c .before .none-waiting .ensures) ∙ not-true _ (c .if2 .taken)))
     -- returns-3
-    (λ c small. by-count (c .before .before .before .before .before .before .before .before .before .args .shape) (c .before .before .before .before .before .before .before .before .before .args .initial) (c .before .before .before .before .before .before .before .before .before .args .cube) (c .before .before .before .before .before .before .before .before .least .result) (c .before .before .before .before .before .before .before .least2 .result) (c .before .before .before .before .before .before .before .before .least .ensures) (c .before .before .before .before .before .before .before .least2 .ensures) small (sym (c .before .before .before .before .before .states-match .ensures ∙ few-all _ _ (omega (arith, c .before .before .before .before .before .before .before .before .least .ensures))) ∙ not-false _ (c .before .before .before .before .if1 .left)) (sym (c .before .before .none-waiting .ensures) ∙ not-false _ (c .before .if2 .left))))
+    (λ c small. by-count (c .before .before .before .before .before .before .before .before .before .args .shape) (c .before .before .before .before .before .before .before .before .before .args .initial) (c .before .before .before .before .before .before .before .before .before .args .cube) (c .before .before .before .before .before .before .before .before .least .result) (c .before .before .before .before .before .before .before .least2 .result) (c .before .before .before .before .before .before .before .before .least .ensures) (c .before .before .before .before .before .before .before .least2 .ensures) small (sym (c .before .before .before .before .before .states-match .ensures ∙ few-all (c .before .before .before .before .before .before .before .before .least .result) _ (omega (arith, c .before .before .before .before .before .before .before .before .least .ensures))) ∙ not-false _ (c .before .before .before .before .if1 .left)) (sym (c .before .before .none-waiting .ensures) ∙ not-false _ (c .before .if2 .left))))
