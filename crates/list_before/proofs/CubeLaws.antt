@@ -35,23 +35,6 @@ made e a b c d l q =
 pub cube-equal : {b c : Cube} {e : Configuration} → b ≡ c → CubeFor c e → CubeFor b e
 cube-equal {b} {c} {e} f w = subst (λ (c : Cube). CubeFor c e) (sym f) w
 
--- with a message put in
-pub inserted-cube : {r c : Cube} {e : Configuration} {k : ℕ} {μ : Message} {zs : List ℕ} {z : ℕ → ℕ} → CubeFor c e → Inserted r c k μ zs → byNumber zs ≡ z → c .count < 20
-    → CubeFor r (record { state = e .state; queue = e .queue; memory = record { channel = putMessage (e .memory .channel) k μ; pointer = z } })
-inserted-cube {r} {c} {e} {k} {μ} {zs} {z} w h f l =
-    record {
-      configuration = λ i. record {
-        state = (ap byNumber (h .states) ∙ ap (λ (d : Configuration). d .state) (w .configuration)) i;
-        queue = (ap queueOf (h .queues) ∙ ap (λ (d : Configuration). d .queue) (w .configuration)) i;
-        memory = record {
-          channel = (ap (channelOf (r .messages)) (h .count) ∙ h .channel ∙ ap (λ (d : Configuration). putMessage (d .memory .channel) k μ) (w .configuration)) i;
-          pointer = (ap byNumber (h .pointers) ∙ f) i;
-        };
-      };
-      count = omega (arith, h .count);
-      queues = λ i m. subst (λ (qs : List Queue). getD qs i noQueue .count ≤ 9) (sym (h .queues)) (w .queues i m);
-    }
-
 -- an empty queue put in place of itself
 pub put-empty : (qs : ℕ → ℕ → List ℕ) (p v : ℕ) (xs : List ℕ) → qs p v ≡ xs → qs ≡ putQueue qs p v xs
 put-empty qs p v xs e = λ i r u. at r u i

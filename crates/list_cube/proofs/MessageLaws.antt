@@ -11,14 +11,15 @@ use lib.Seq.{getD-set-same, getD-set-other}
 use lib.Dec.{eqb}
 use borrow.Author.Tests.{le-leb, lt-leb, eq-eqb, ne-eqb}
 use Rattle.machine_pws.specs.declared.Message.{Message}
-use Rattle.machine_pws.specs.Machine.{noMessage, labelled, lastLabelled, lastWrite}
+use Rattle.machine_pws.specs.Machine.{Configuration, noMessage, labelled, lastLabelled, lastWrite}
 use Rattle.machine_pws.specs.Insertion.{putMessage, up}
 use Rattle.list_theory.specs.Cubes.{memoryOf, withValues, setValue}
 use Rattle.file_records.specs.declared.program.Shape.{Shape}
 use Rattle.file_contents.specs.declared.entry.Cube.{Cube}
-use Rattle.file_contents.specs.Cube.{channelOf, configurationOf}
+use Rattle.file_contents.specs.declared.entry.Queue.{Queue}
+use Rattle.file_contents.specs.Cube.{noQueue, channelOf, queueOf, configurationOf}
 use Rattle.file_contents.proofs.CubeParts.{channel-length, channel-equal}
-use Rattle.list_cube.specs.Editing.{Sound, LastWrites, byNumber}
+use Rattle.list_cube.specs.Editing.{Sound, CubeFor, LastWrites, byNumber, Inserted}
 use Rattle.list_cube.proofs.WriteLaws.{last-most}
 
 pub last-next : (ms : List Message) (p v i : ℕ) → lastLabelled (channelOf ms (i + 1)) p v ≡ cond (labelled (getD ms i noMessage) p v) (i + 1) (lastLabelled (channelOf ms i) p v)
@@ -116,3 +117,20 @@ all-up zs k a b c d n l e f g h = λ i q. at q i
     at (suc (suc zero)) = g
     at (suc (suc (suc zero))) = h
     at (suc (suc (suc (suc q)))) = sym (ap (up k) (List·getD-eq-default zs 0 {n = suc (suc (suc (suc q)))} (omega arith)) ∙ ap (λ (b : Bool). cond b 1 0) (lt-leb k 0 l))
+
+-- with a message put in
+pub inserted-cube : {r c : Cube} {e : Configuration} {k : ℕ} {μ : Message} {zs : List ℕ} {z : ℕ → ℕ} → CubeFor c e → Inserted r c k μ zs → byNumber zs ≡ z → c .count < 20
+    → CubeFor r (record { state = e .state; queue = e .queue; memory = record { channel = putMessage (e .memory .channel) k μ; pointer = z } })
+inserted-cube {r} {c} {e} {k} {μ} {zs} {z} w h f l =
+    record {
+      configuration = λ i. record {
+        state = (ap byNumber (h .states) ∙ ap (λ (d : Configuration). d .state) (w .configuration)) i;
+        queue = (ap queueOf (h .queues) ∙ ap (λ (d : Configuration). d .queue) (w .configuration)) i;
+        memory = record {
+          channel = (ap (channelOf (r .messages)) (h .count) ∙ h .channel ∙ ap (λ (d : Configuration). putMessage (d .memory .channel) k μ) (w .configuration)) i;
+          pointer = (ap byNumber (h .pointers) ∙ f) i;
+        };
+      };
+      count = omega (arith, h .count);
+      queues = λ i m. subst (λ (qs : List Queue). getD qs i noQueue .count ≤ 9) (sym (h .queues)) (w .queues i m);
+    }

@@ -28,7 +28,7 @@ use Rattle.file_contents.proofs.CubeParts.{channel-length}
 use Rattle.file_again.specs.Again.{offsetAt, cubeAt, entriesOf}
 use Rattle.list_theory.specs.Seen.{messageWith, valued, witnessed, seenMemories, withMemory, seenCubes}
 use Rattle.list_cube.specs.Editing.{CubeFor, LastWrites, byNumber, Inserted}
-use Rattle.list_before.proofs.CubeLaws.{inserted-cube}
+use Rattle.list_cube.proofs.MessageLaws.{inserted-cube}
 use Rattle.list_cover.specs.Search.{Searchable}
 use Rattle.list_targets.specs.declared.Aim.{Aim}
 use Rattle.list_targets.specs.ShapeCube.{outlineOf, ShapeCube}

@@ -10,12 +10,12 @@ is-allowed-spec = tie.close (tie.spec
     -- states-match-requires
     (λ c κs. tt)
     -- returns
-    (λ c. rw (sym (c .before .states-match .ensures ∙ few-all _ _ (search needs)) ∙ not-true _ (c .if1 .taken)) refl)
+    (λ c. rw (sym (c .before .states-match .ensures ∙ few-all (c .before .before .args .shape .processes) _ (c .before .before .pre .0)) ∙ not-true _ (c .if1 .taken)) refl)
     -- is-seen-requires
     (λ c κs. search needs)
     -- returns-2
-    (λ c. rw (sym (c .before .before .before .states-match .ensures ∙ few-all _ _ (search needs)) ∙ not-false _ (c .before .before .if1 .left)) (rw (sym (c .before .is-seen .ensures) ∙ c .if2 .taken) refl))
+    (λ c. rw (sym (c .before .before .before .states-match .ensures ∙ few-all (c .before .before .before .before .args .shape .processes) _ (c .before .before .before .before .pre .0)) ∙ not-false _ (c .before .before .if1 .left)) (rw (sym (c .before .is-seen .ensures) ∙ c .if2 .taken) refl))
     -- array-read-result
     (λ c. search needs)
     -- returns-3
-    (λ c. rw (sym (c .before .before .before .states-match .ensures ∙ few-all _ _ (search needs)) ∙ not-false _ (c .before .before .if1 .left)) (rw (sym (c .before .is-seen .ensures) ∙ c .if2 .left) refl)))
+    (λ c. rw (sym (c .before .before .before .states-match .ensures ∙ few-all (c .before .before .before .before .args .shape .processes) _ (c .before .before .before .before .pre .0)) ∙ not-false _ (c .before .before .if1 .left)) (rw (sym (c .before .is-seen .ensures) ∙ c .if2 .left) refl)))

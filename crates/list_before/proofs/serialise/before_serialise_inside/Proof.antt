@@ -6,7 +6,8 @@ use Rattle.list_theory.specs.Cubes.{older}
 use Rattle.list_theory.specs.Predecessors.{before}
 use Rattle.file_contents.specs.Cube.{configurationOf}
 use Rattle.list_cube.proofs.NewestLaws.{older-length, older-some}
-use Rattle.list_before.proofs.CubeLaws.{low, inside-number, inserted-cube, cube-count, meet-length}
+use Rattle.list_before.proofs.CubeLaws.{low, inside-number, cube-count, meet-length}
+use Rattle.list_cube.proofs.MessageLaws.{inserted-cube}
 use native.Mathlib.Omega.{arith}
 use borrow.Author.Needs.{needs}
 use Rattle.list_before.proofs.serialise.before_serialise_inside.Statement.{statement}

@@ -3,7 +3,8 @@ use mathlib.Core.Path.{_≡_, ap, _∙_}
 use lib.ListN.{length, getD}
 use Rattle.machine_pws.specs.Machine.{put}
 use Rattle.file_contents.proofs.CubeParts.{four-put}
-use Rattle.list_before.proofs.CubeLaws.{few, low, sound-cube, inserted-cube}
+use Rattle.list_before.proofs.CubeLaws.{few, low, sound-cube}
+use Rattle.list_cube.proofs.MessageLaws.{inserted-cube}
 use native.Mathlib.Omega.{arith}
 use borrow.Author.Needs.{needs}
 use Rattle.list_before.proofs.update.before_update_pointed.Statement.{statement}
