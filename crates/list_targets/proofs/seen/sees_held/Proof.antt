@@ -16,15 +16,15 @@ sees-held-spec = tie.close (tie.spec
     (λ c l h F y. absurd (true-not-false (sym y)))
     -- both-requires
     (λ c κs. tt)
-    -- returns
+    -- returns-2
     (λ c l h F y. absurd (true-not-false (sym y)))
     -- both-requires-2
     (λ c κs. tt)
-    -- returns-2
+    -- returns-3
     (λ c l h F y. absurd (true-not-false (sym y)))
     -- add-t17
-    (λ c. omega (arith, c .before .before .before .before .before .before .before .before .before .pre))
+    (λ c. omega (arith, c .before .before .before .before .before .before .if1 .left))
     -- shapes-held-requires
     (λ c κs. tt)
-    -- returns-3
-    (λ c l h F y. sees-yes (c .before .before .before .before .before .before .before .before .before .before .args .shape) (record { rep = suc (c .before .before .before .before .before .before .before .before .before .before .args .k); sees = true; process = c .before .before .before .before .before .before .before .before .before .before .args .p; variable = c .before .before .before .before .before .before .before .before .before .before .args .v; value = c .before .before .before .before .before .before .before .before .before .before .args .x }) (cubeAt (c .before .before .before .before .before .before .before .before .before .before .args .file .now) (c .before .before .before .before .before .before .before .before .before .before .args .list .now) (c .before .before .before .before .before .before .before .before .before .before .args .k)) (c .before .before .before .before .before .before .both .ensures) (not-false _ (c .before .before .before .before .before .if1 .left)) (c .before .before .both2 .ensures) (c .before .if2 .left) (from-one (replicate 4 0) (c .before .before .before .before .before .before .before .before .before .before .args .k) true (c .before .before .before .before .before .before .before .before .before .before .args .p) (c .before .before .before .before .before .before .before .before .before .before .args .v) (c .before .before .before .before .before .before .before .before .before .before .args .x) (c .shapes-held .ensures)) h F y))
+    -- returns-4
+    (λ c l h F y. sees-yes (c .before .before .before .before .before .before .before .before .before .before .before .args .shape) (record { rep = suc (c .before .before .before .before .before .before .before .before .before .before .before .args .k); sees = true; process = c .before .before .before .before .before .before .before .before .before .before .before .args .p; variable = c .before .before .before .before .before .before .before .before .before .before .before .args .v; value = c .before .before .before .before .before .before .before .before .before .before .before .args .x }) (cubeAt (c .before .before .before .before .before .before .before .before .before .before .before .args .file .now) (c .before .before .before .before .before .before .before .before .before .before .before .args .list .now) (c .before .before .before .before .before .before .before .before .before .before .before .args .k)) (c .before .before .before .before .before .before .both .ensures) (not-false _ (c .before .before .before .before .before .if2 .left)) (c .before .before .both2 .ensures) (c .before .if3 .left) (from-one (replicate 4 0) (c .before .before .before .before .before .before .before .before .before .before .before .args .k) true (c .before .before .before .before .before .before .before .before .before .before .before .args .p) (c .before .before .before .before .before .before .before .before .before .before .before .args .v) (c .before .before .before .before .before .before .before .before .before .before .before .args .x) (c .shapes-held .ensures)) h F y))
