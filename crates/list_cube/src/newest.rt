@@ -44,7 +44,7 @@ pub fn newest_with(cube: Cube, v: usize, x: u8) -> [u8; 4]
 }
 
 // There is a message before the newest, and its values are ~ these.
-pub fn alike_older(cube: Cube, values: [u8; 4]) -> bool
+pub(crate) fn alike_older(cube: Cube, values: [u8; 4]) -> bool
     ensures { λ r. ⌜ (cube .count ≤ 20 → r ≡ alikeNewest (older (configurationOf cube .memory .channel)) values) ⌝ }
 {
     let n = cube.count;

@@ -292,7 +292,7 @@ fn free_word(table: &[u8], row: usize) -> usize
 }
 
 // The family of entry k, which the cube is, and of this clue stands in the table from now on, if there is room in its row.
-pub fn put_family(table: &mut [u8], shape: Shape, cube: Cube, k: usize, clue: usize)
+pub(crate) fn put_family(table: &mut [u8], shape: Shape, cube: Cube, k: usize, clue: usize)
     ensures { λ _. ⌜ (length (now (table .exit)) ≡ length (now (table .entry))) × ((S : pws.Shape) (es : List Configuration) → FamilyHeld S es (clueOf clue) (entry es k) → Families S es (now (table .entry)) → Families S es (now (table .exit))) ⌝ }
 {
     // no list has so many entries
@@ -358,7 +358,7 @@ fn counter_of(shape: Shape, cube: Cube) -> usize
 }
 
 // One entry more of its family: how many there are now.
-pub fn count_member(table: &mut [u8], shape: Shape, cube: Cube) -> usize
+pub(crate) fn count_member(table: &mut [u8], shape: Shape, cube: Cube) -> usize
     ensures { λ _. ⌜ (length (now (table .exit)) ≡ length (now (table .entry))) × ((S : pws.Shape) (es : List Configuration) → Families S es (now (table .entry)) → Families S es (now (table .exit))) ⌝ }
 {
     let at = counter_of(shape, cube);

@@ -39,7 +39,7 @@ fn put_group(
 }
 
 // With those of every group.
-pub fn put_groups(
+pub(crate) fn put_groups(
     file: &[u8],
     list: &[u8],
     sum: &[u8],

@@ -127,7 +127,7 @@ fn put_sights(
 
 // The table of full families with one of entry k, if it is: that by newest values when `most` entries like it were met, and those by what processes can come to see,
 // which have about four times as many cubes, when four times as many were.
-pub fn put_member(
+pub(crate) fn put_member(
     file: &[u8],
     list: &[u8],
     sum: &[u8],

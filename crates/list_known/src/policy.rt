@@ -118,9 +118,11 @@ pub fn put_like(
     k: usize,
     families: &mut [u8],
 )
-    requires { ⌜ k < 524288 ⌝ }
     ensures { λ _. ⌜ (length (now (families .exit)) ≡ length (now (families .entry))) × (k < n → Searches (now (file .entry)) (now (list .entry)) (now (sum .entry)) n shape → Families (shapeOf shape) (entriesOf (now (file .entry)) (now (list .entry)) n) (now (families .entry)) → Families (shapeOf shape) (entriesOf (now (file .entry)) (now (list .entry)) n) (now (families .exit))) ⌝ }
 {
+    if 524288 <= k {
+        return;
+    }
     // groups are tested first: what is full with all its local states needs no family
     if k < n / 32 {
         return;
