@@ -14,7 +14,7 @@ use Rattle.machine_pws.specs.declared.Operation.the-variants.{Nop, Read,
 use Rattle.machine_pws.specs.declared.Transition.{Transition}
 use Rattle.machine_pws.specs.declared.Step.{Step}
 use Rattle.machine_pws.specs.declared.Step.the-variants.{Take, Serialise, Update}
-use Rattle.machine_pws.specs.Program.{Shape, Program, transition, OperationOf, ProgramInRange}
+use Rattle.machine_pws.specs.Program.{Shape, Program, transition, OperationOf, WellFormed}
 use Rattle.machine_pws.specs.Machine.{
   Memory,
   Configuration,
@@ -110,7 +110,7 @@ catch P p v pe ve {x} {xs} (skip {y = y} {ys = ys} r) d q =
 
 -- ---- one step
 
-module _ (P : Program) (R : ProgramInRange P) (c d : Configuration) (oc : ConfigurationOf P c) (od : ConfigurationOf P d) (B : Below (P .shape) c d) where
+module _ (P : Program) (R : WellFormed P) (c d : Configuration) (oc : ConfigurationOf P c) (od : ConfigurationOf P d) (B : Below (P .shape) c d) where
   abbrev S : Shape
   S = P .shape
 
@@ -272,7 +272,7 @@ module _ (P : Program) (R : ProgramInRange P) (c d : Configuration) (oc : Config
 
 -- Demand 3, second sentence: for any two configurations of a program, one above the other, the upper answers each of the steps that
 -- the lower takes, in turn, with one or more of its own, and is above it after each.
-pub simulation : (P : Program) → ProgramInRange P → {c e : Configuration} (d : Configuration) {ss : List Step}
+pub simulation : (P : Program) → WellFormed P → {c e : Configuration} (d : Configuration) {ss : List Step}
     → ConfigurationOf P c → ConfigurationOf P d → Below (P .shape) c d → Takes P c ss e → Answers P c d ss
 simulation P R d oc od B done = none
 simulation P R d oc od B (step {c = c} s t r) =
