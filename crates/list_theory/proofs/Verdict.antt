@@ -19,7 +19,7 @@ use Rattle.machine_pws.specs.Entries.{NoValueIsFF, EntryOf, AboveList, filled, 
 use Rattle.machine_pws.specs.Sequences.{Visited, start, later}
 use Rattle.machine_pws.proofs.Steps.{step-configuration}
 use Rattle.list_theory.specs.Lists.{every, lowest}
-use Rattle.list_theory.specs.Verdict.{TargetHeld, TargetMissed, NoStartAbove, StartAbove, Closed, WayIn, LowestWayIn, noTarget, target, SafeList, ListVerdict, safe, unheld, started, entered, Unheld, Started, Entered, ListJudged}
+use Rattle.list_theory.specs.Verdict.{TargetHeld, TargetMissed, NoStartAbove, StartAbove, Closed, WayIn, LowestWayIn, noTarget, target, SafeList, ListSafety, ListVerdict, safe, unheld, started, entered, Unheld, Started, Entered, ListJudged}
 use Rattle.list_theory.specs.Covering.{Outside}
 use Rattle.list_theory.specs.Predecessors.{predecessors, steps, cube}
 use Rattle.list_theory.specs.Shapes.{shapeCubes}
@@ -223,10 +223,7 @@ stays-outside : {P : Program} → WellFormed P → {ts : List (ℕ → ℕ)} {es
 stays-outside R s o n start = (o, n)
 stays-outside {P} R s o n (later {b = c} step t r) = stays-outside R s (step-configuration P R c o step t) (λ A. n (s .before c o step t A)) r
 
--- no configuration that a sequence of steps visits from a start is in a target, or above the list
-pub safe-visited : (P : Program) → WellFormed P → (ts : List (ℕ → ℕ)) (es : List Configuration) → SafeList P ts es → {c d : Configuration} → Start P c → (ss : List Step)
-    → Visited P c ss d
-    → ((k : ℕ) → k < length ts → InTarget (P .shape) (target ts k) d → ⊥) × (AboveList (P .shape) es d → ⊥)
-safe-visited P R ts es s {c} {d} i ss v =
+pub list-safety : ListSafety
+list-safety P R ts es s c i ss d v =
     let r = stays-outside R s (i .configuration) (s .starts c i) v in
     (λ k l t. r .1 (s .targets d (r .0) k l t), r .1)

@@ -27,7 +27,7 @@ within-zero zero = inr (refl, refl)
 within-zero (suc n) = inl (omega arith)
 
 -- a snapshot with one value changed
-within-set : (counts xs : List ℕ) (v x : ℕ) → x < getD counts v 0 → ((u : ℕ) → Within (getD counts u 0) (getD xs u 0))
+pub within-set : (counts xs : List ℕ) (v x : ℕ) → x < getD counts v 0 → ((u : ℕ) → Within (getD counts u 0) (getD xs u 0))
     → (u : ℕ) → Within (getD counts u 0) (getD (set xs v x) u 0)
 within-set counts xs v x l o u = elim (ℕ-discrete u v) [
   | yes e ↦ elim (decLt v (length xs)) [
