@@ -10,10 +10,10 @@ all: build
 build:
 	@[ -e target/bin/hrafnolt-files ] || echo 'proving the judge, then building it: some minutes, the first time'
 	@.ci/prove hrafnolt exports.a
-	@c/build
+	@tools/build
 
 test:
 	@.ci/run
 
 install: build
-	@c/install $(DESTDIR)$(PREFIX)
+	@tools/install $(DESTDIR)$(PREFIX)

@@ -7,6 +7,12 @@
 #ifndef HRAFNOLT_H
 #define HRAFNOLT_H
 
+/* The version, said by `--version`, the manual pages and hrafnolt.pc too. A program that was compiled with one major number works with every
+ * library of that number: functions and numbers are added, and none is changed or taken away. */
+#define HRAFNOLT_VERSION "1.0"
+#define HRAFNOLT_VERSION_MAJOR 1
+#define HRAFNOLT_VERSION_MINOR 0
+
 #include <stddef.h>
 #include <stdint.h>
 
