@@ -3,14 +3,18 @@
 #![deny(unsafe_op_in_unsafe_fn)]
 
 pub mod batch;
+pub mod contents;
 pub mod figures;
 pub mod input;
 pub mod library;
+pub mod machine;
 pub mod names;
 pub mod options;
 pub mod output;
 pub mod outside;
+pub mod text;
 pub mod timeout;
+pub mod trace;
 
 /// The version, from the one place that has it: HRAFNOLT_VERSION in the header.
 pub fn version() -> &'static str {
