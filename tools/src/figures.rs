@@ -1,6 +1,7 @@
 //! The figures of -s: counts, and the three fractions of the library.
 
 use crate::library::{Collection, Fraction, Verdict, PSO, REACHABLE, SAFE};
+use crate::words;
 
 #[derive(Default)]
 pub struct Figures {
@@ -53,7 +54,8 @@ impl Figures {
         })
     }
 
-    pub fn lines(&self) -> String {
+    /// With what a refusal says below it, if that is wanted.
+    pub fn lines(&self, explain: bool) -> String {
         let counts: Vec<String> = self.counts().iter().map(|(name, n)| format!("{name} {n}")).collect();
         let mut text = format!("{}\n", counts.join(", "));
         for (name, f) in self.fractions() {
@@ -61,6 +63,9 @@ impl Figures {
                 0 => format!("{name} {}/{} ({:.6})\n", f.numerator, f.denominator, f.numerator as f64 / f.denominator as f64),
                 number => format!("{name} refused {number}\n"),
             };
+            if explain && f.number != 0 {
+                text += &format!("{name}: why: {}\n", words::says(f.number));
+            }
         }
         text
     }

@@ -4,6 +4,7 @@
 
 pub mod batch;
 pub mod contents;
+pub mod explain;
 pub mod figures;
 pub mod input;
 pub mod library;
@@ -15,6 +16,7 @@ pub mod outside;
 pub mod text;
 pub mod timeout;
 pub mod trace;
+pub mod words;
 
 /// The version, from the one place that has it: HRAFNOLT_VERSION in the header.
 pub fn version() -> &'static str {

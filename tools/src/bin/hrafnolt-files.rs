@@ -3,6 +3,7 @@
 //! options are wrong.
 
 use hrafnolt_tools::batch::{self, Progress};
+use hrafnolt_tools::explain::why;
 use hrafnolt_tools::figures::Figures;
 use hrafnolt_tools::input;
 use hrafnolt_tools::library::{self, Area, Lent, Verdict, PROGRAM_FILE};
@@ -11,6 +12,7 @@ use hrafnolt_tools::options::{self, choice, Choice, Word, NO_LETTER};
 use hrafnolt_tools::output::{misused, print_and_end, say, Output};
 use hrafnolt_tools::outside::{outside, Stop};
 use hrafnolt_tools::timeout::{self, Failed, Other};
+use hrafnolt_tools::words;
 use std::collections::HashMap;
 use std::ffi::{OsStr, OsString};
 use std::os::unix::ffi::{OsStrExt, OsStringExt};
@@ -34,10 +36,11 @@ const STATUS: &str = "
 Exit status: 0 if all were accepted, 1 if any was refused, 2 if a file can't be read.
 ";
 
-static CHOICES: [Choice; 12] = [
+static CHOICES: [Choice; 14] = [
     choice('p', "program", "PROGRAM", "judge evidence files against this program file; a refusal that stands in it ends\nin `in PROGRAM`"),
     choice(NO_LETTER, "pairs", "LIST", "judge pairs: each line of LIST has a program file, a tab and an evidence file"),
     choice('r', "record", "", "under each refusal 1 to 7 the offending record, in hexadecimal digits"),
+    choice('e', "explain", "", "under each refusal why it is refused, in a sentence"),
     choice('w', "outside", "", "under each refusal 9 or 11 a configuration that the list lacks, in words"),
     choice('s', "figures", "", "at the end counts, the mean and variance of entries per safe file, and the share\nof safe files"),
     choice('q', "quiet", "", "no line for a file that is accepted"),
@@ -45,6 +48,7 @@ static CHOICES: [Choice; 12] = [
     choice(NO_LETTER, "timeout", "SECONDS", "give up on a file that takes longer to judge"),
     choice(NO_LETTER, "json", "", "a JSON object for each file, with every field of the verdict"),
     choice('0', "null", "", "names as they are, with a NUL byte behind each in place of `: `; in LIST a NUL\nbyte behind each name"),
+    choice(NO_LETTER, "reasons", "", "what each refusal's number says"),
     choice(NO_LETTER, "help", "", "this text"),
     choice(NO_LETTER, "version", "", "the version"),
 ];
@@ -55,6 +59,7 @@ struct Options {
     pairs: Option<OsString>,
     files: Vec<OsString>,
     records: bool,
+    explain: bool,
     outside: bool,
     figures: bool,
     quiet: bool,
@@ -150,6 +155,9 @@ impl Options {
             let record = v.record(lent).filter(|record| !record.is_empty());
             shown.push(("record", record.map_or("none, the file ends here".to_string(), |record| hex(record, " "))));
         }
+        if self.explain && v.is_refused() {
+            shown.push(("why", why(lent, v)));
+        }
         if self.outside && v.refuses(&[9, 11]) {
             match outside(lent, v, self.timeout.map(|limit| Instant::now() + limit)) {
                 Ok(words) => shown.push(("outside", words)),
@@ -186,6 +194,9 @@ impl Options {
     fn object(&self, job: &Job, v: Verdict, shown: &[(&str, String)]) -> String {
         let mut parts = vec![named(job)];
         parts.extend(shown.iter().map(|(what, words)| format!("\"{what}\":{}", json_string(words.as_bytes()))));
+        if v.is_refused() {
+            parts.push(format!("\"reason\":{}", json_string(words::says(v.first).as_bytes())));
+        }
         parts.push(format!("\"kind\":\"{}\"", v.kind_word()));
         let numbers = [
             ("first", v.first),
@@ -225,12 +236,14 @@ fn read_options() -> Result<Options, i32> {
         };
         match long {
             "help" => return Err(print_and_end(&format!("{USAGE}{ABOUT}{}{STATUS}", options::help(&CHOICES)))),
+            "reasons" => return Err(print_and_end(&words::table())),
             "version" => return Err(print_and_end(&format!("{NAME} {}\n", hrafnolt_tools::version()))),
             "program" if options.program.is_some() => return Err(misuse("there is one program file, and -p was given twice".to_string())),
             "program" => options.program = Some(value),
             "pairs" if options.pairs.is_some() => return Err(misuse("--pairs was given twice".to_string())),
             "pairs" => options.pairs = Some(value),
             "record" => options.records = true,
+            "explain" => options.explain = true,
             "outside" => options.outside = true,
             "figures" => options.figures = true,
             "quiet" => options.quiet = true,
@@ -346,7 +359,7 @@ fn judge_all() -> Result<i32, i32> {
     let threads = options.threads.min(jobs.len()).max(1);
     progress.during(|| batch::run(&jobs, threads, Room::default, |room, job| options.answer(room, job), take))?;
     if options.figures {
-        output.write(if options.json { figures.json() } else { figures.lines() }.as_bytes())?;
+        output.write(if options.json { figures.json() } else { figures.lines(options.explain) }.as_bytes())?;
     }
     Ok(if incomplete {
         2
