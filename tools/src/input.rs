@@ -14,8 +14,10 @@ use std::time::{Duration, SystemTime, UNIX_EPOCH};
 /// 4,096 targets 22,549.
 pub const MOST: usize = 332_000_000;
 
-/// The kernel's clock for files ticks in up to 10 ms: two changes within a tick have the same time.
+/// The kernel's clock for files ticks in up to 10 ms, and some file systems keep whole seconds, or every second one: two changes within a tick have
+/// the same time.
 const TICK: Duration = Duration::from_millis(20);
+const COARSE_TICK: Duration = Duration::from_millis(2_100);
 
 /// What tells a file that was written to from one that was not.
 #[derive(PartialEq)]
@@ -36,7 +38,8 @@ impl Stamp {
         let Ok(now) = SystemTime::now().duration_since(UNIX_EPOCH) else { return false };
         let (seconds, nanoseconds) = self.modified.max(self.changed);
         let then = i128::from(seconds) * 1_000_000_000 + i128::from(nanoseconds);
-        (now.as_nanos() as i128 - then).unsigned_abs() < TICK.as_nanos()
+        let tick = if nanoseconds == 0 { COARSE_TICK } else { TICK };
+        (now.as_nanos() as i128 - then).unsigned_abs() < tick.as_nanos()
     }
 }
 
