@@ -299,10 +299,10 @@ fn jobs(options: &Options) -> Result<Vec<Job>, i32> {
             Some(Arc::new(Program { name: name.clone(), bytes: Ok(bytes) }))
         }
     };
-    let mut jobs = Vec::new();
-    for name in &options.files {
+    let mut jobs = Vec::with_capacity(options.files.len());
+    for (name, is_folder) in options.files.iter().zip(folders(options)?) {
         let mut add = |name: OsString, problem: Option<String>| jobs.push(Job { program: program.clone(), name, problem });
-        if input::is_standard_input(name) || !std::path::Path::new(name).is_dir() {
+        if !is_folder {
             add(name.clone(), None);
             continue;
         }
@@ -315,6 +315,24 @@ fn jobs(options: &Options) -> Result<Vec<Job>, i32> {
         }
     }
     Ok(jobs)
+}
+
+/// Which names are folders. Each takes a call, so they are shared out too.
+fn folders(options: &Options) -> Result<Vec<bool>, i32> {
+    let is_folder = |name: &OsString| !input::is_standard_input(name) && std::path::Path::new(name).is_dir();
+    let parts: Vec<&[OsString]> = options.files.chunks(256).collect();
+    let mut all = Vec::with_capacity(options.files.len());
+    batch::run(
+        &parts,
+        options.threads.min(parts.len()),
+        || (),
+        |_, part| part.iter().map(is_folder).collect::<Vec<bool>>(),
+        |part| {
+            all.extend(part);
+            Ok(())
+        },
+    )?;
+    Ok(all)
 }
 
 /// Each line has a program file, a tab and an evidence file; or each name has a NUL byte behind it. A program file is read once.
