@@ -2,6 +2,7 @@
 
 pub mod contents;
 pub mod machine;
+pub mod picture;
 pub mod text;
 pub mod trace;
 
