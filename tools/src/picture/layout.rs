@@ -1,7 +1,7 @@
 //! Where everything of a story stands. Steps are columns, wrapped in rows; in a row the first processes stand above memory and the others
 //! below it, and each process's waiting stores on its far side. A column has one step, so what goes up or down in it meets no operation.
 
-use super::story::{Change, From, Kind, Sight, Story};
+use super::story::{Bar, Change, From, Kind, Sight, Story};
 use super::svg::Svg;
 use crate::contents::{Machine, Program};
 use crate::text::Names;
@@ -16,6 +16,8 @@ const GAP: f64 = 26.0;
 /// Bars that a row shows of a process; more are counted.
 const MOST_TRACKS: usize = 12;
 const MOST_LETTERS: usize = 24;
+/// How far a look up is drawn from what it sees.
+const NEAR: f64 = 130.0;
 /// Half of what an arrow takes.
 const ARROW: f64 = 5.0;
 
@@ -70,6 +72,8 @@ struct Part {
     /// It began in this row, it comes out in this row.
     begins: bool,
     ends: bool,
+    /// It stands for so many.
+    many: usize,
 }
 
 struct Picture<'a> {
@@ -117,9 +121,12 @@ pub fn draw(program: &Program, names: &Names, story: &Story, title: &str, width:
         y += 18.0;
     }
     let legend = "a store waits in its bar until it comes out into memory; an arrow leads to each read from what it sees";
-    picture.svg.text(16.0, y + 6.0, legend, &format!("font-size=\"10\" fill=\"{}\"", GREY.0));
-    widest = widest.max(16.0 + length(legend) * NARROW);
-    y += 22.0;
+    for line in wrapped(legend, ((widest - 16.0) / NARROW).max(40.0) as usize) {
+        picture.svg.text(16.0, y + 6.0, &line, &format!("font-size=\"10\" fill=\"{}\"", GREY.0));
+        widest = widest.max(16.0 + length(&line) * NARROW);
+        y += 14.0;
+    }
+    y += 8.0;
     let mut definitions = String::from("<defs>\n");
     for (number, (strong, _)) in COLOURS.iter().chain([&GREY, &RED]).enumerate() {
         definitions.push_str(&format!(
@@ -196,6 +203,7 @@ impl Picture<'_> {
         }
         if let Some(change) = self.change_in(number) {
             crosses(change.variable);
+            needs[8] = needs[8].max(5.0 + length(&format!("#{}", change.message)) * 5.5);
             needs[4 + change.variable.min(3) as usize] = self.change_half(change);
         }
         needs
@@ -234,11 +242,25 @@ impl Picture<'_> {
     /// The bars of a process that a row shows, and how many it does not.
     fn parts(&self, row: &Row, process: usize) -> (Vec<Part>, usize) {
         let mut free: Vec<f64> = Vec::new();
-        let mut parts = Vec::new();
+        let mut parts: Vec<Part> = Vec::new();
         let mut hidden = 0;
+        let here = |bar: &Bar| bar.process == process && bar.start < row.end() && bar.end.map_or(true, |end| end >= row.first);
+        // Bars that only go through the row: many of one variable are one.
+        let read: Vec<usize> = self.story.sights.iter().filter(|sight| row.x(sight.column).is_some()).filter_map(|sight| sight.bar()).collect();
+        let through = |number: usize, bar: &Bar| {
+            here(bar) && bar.start < row.first && bar.end.map_or(true, |end| end >= row.end()) && !read.contains(&number)
+        };
+        let mut counts = [0usize; 5];
+        let slot = |bar: &Bar| bar.variable.map_or(4, |v| v.min(3) as usize);
+        for (_, bar) in self.story.bars.iter().enumerate().filter(|(number, bar)| through(*number, bar)) {
+            counts[slot(bar)] += 1;
+        }
         for (number, bar) in self.story.bars.iter().enumerate() {
-            let over = bar.end.is_some_and(|end| end < row.first);
-            if bar.process != process || bar.start >= row.end() || over {
+            if !here(bar) {
+                continue;
+            }
+            let many = if through(number, bar) && counts[slot(bar)] > 2 { counts[slot(bar)] } else { 1 };
+            if many > 1 && parts.iter().any(|part| part.many > 1 && self.story.bars.get(part.bar).is_some_and(|other| slot(other) == slot(bar))) {
                 continue;
             }
             let begins = bar.start >= row.first;
@@ -257,7 +279,7 @@ impl Picture<'_> {
                 hidden += 1;
                 continue;
             }
-            parts.push(Part { bar: number, from, to, track, begins, ends: ends.is_some() });
+            parts.push(Part { bar: number, from, to, track, begins, ends: ends.is_some(), many });
         }
         (parts, hidden)
     }
@@ -402,6 +424,12 @@ impl Picture<'_> {
 
     fn bars(&mut self, row: &Row, process: usize, lane: f64, parts: &(Vec<Part>, usize), memory: f64) {
         let outer = if self.is_above(process) { lane } else { lane + LANE };
+        // What goes between memory and the lanes behind this one.
+        let behind = |q: usize| self.is_above(q) == self.is_above(process) && if self.is_above(process) { q < process } else { q > process };
+        let lines = (row.first..row.end()).filter(|number| {
+            self.story.columns.get(*number).is_some_and(|c| behind(c.process) && !matches!(c.kind, Kind::Store(_) | Kind::Fence | Kind::Other))
+        });
+        let lines: Vec<f64> = lines.filter_map(|number| row.x(number)).collect();
         for part in &parts.0 {
             let Some(bar) = self.story.bars.get(part.bar) else { continue };
             let (strong, light) = bar.variable.map_or(GREY, colour);
@@ -415,6 +443,8 @@ impl Picture<'_> {
             let style = format!("fill=\"{light}\" stroke=\"{strong}\"{dashes}");
             self.svg.rect(from, y - 6.5, to - from, 13.0, 6.5, &style);
             let long = match (bar.variable, waits_on && row.last) {
+                (Some(v), _) if part.many > 1 => format!("{} stores to {} wait", part.many, cut(self.names.variable(v as usize), MOST_LETTERS)),
+                (None, _) if part.many > 1 => format!("{} marks of sfences", part.many),
                 (None, _) => String::from("mark of the sfence"),
                 (_, true) => format!("{} still waits", bar.text),
                 _ => format!("{} waits", bar.text),
@@ -423,6 +453,10 @@ impl Picture<'_> {
             // The text stands where no line of a bar farther out crosses this one.
             let farther = parts.0.iter().filter(|other| other.track > part.track);
             let crossing = farther.flat_map(|other| [other.begins.then_some(other.from), other.ends.then_some(other.to)]).flatten();
+            let crossing = crossing.chain(lines.iter().copied()).chain(parts.0.iter().filter(|other| other.track > part.track).flat_map(|other| {
+                let seen = |sight: &&Sight| sight.bar() == Some(other.bar);
+                self.story.sights.iter().filter(seen).filter_map(|sight| row.x(sight.column))
+            }));
             let mut cuts: Vec<f64> = crossing.filter(|x| *x > from && *x < to).collect();
             cuts.extend([from + 3.0, to - 3.0]);
             cuts.sort_by(f64::total_cmp);
@@ -510,6 +544,10 @@ impl Picture<'_> {
             From::Message(_, change) => {
                 let at = change.and_then(|at| self.story.changes.get(at)).copied();
                 let Some((from, change)) = at.and_then(|change| row.x(change.column).map(|x| (x, change))) else { return };
+                // Farther away its number has to do: such lines would lie upon each other.
+                if x - from > NEAR {
+                    return;
+                }
                 let track = between(5.0);
                 let strip = self.strip(memory, change.variable) + if self.is_above(p) { -10.0 } else { 10.0 };
                 let style = "stroke-width=\"1\" stroke-dasharray=\"1.5 2.5\"";
@@ -534,8 +572,8 @@ impl Picture<'_> {
             self.svg.rect(x - width / 2.0, y - 9.0, width, 18.0, 4.0, &format!("fill=\"{light}\" stroke=\"{strong}\" stroke-width=\"1.5\""));
             self.svg.text(x, y + 4.0, &text, &format!("text-anchor=\"middle\" fill=\"{strong}\""));
             if self.story.machine == Machine::Pws {
-                let style = format!("font-size=\"9\" fill=\"{}\"", GREY.0);
-                self.svg.text(x - width / 2.0 + 1.0, memory - 4.0, &format!("#{}", change.message), &style);
+                let style = format!("font-size=\"9\" text-anchor=\"end\" fill=\"{}\"", GREY.0);
+                self.svg.text(x - 5.0, memory - 4.0, &format!("#{}", change.message), &style);
             }
         }
         let text = cut(&column.text, MOST_LETTERS);

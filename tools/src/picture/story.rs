@@ -67,6 +67,15 @@ pub struct Sight {
     pub from: From,
 }
 
+impl Sight {
+    pub fn bar(&self) -> Option<usize> {
+        match self.from {
+            From::Bar(number) => Some(number),
+            _ => None,
+        }
+    }
+}
+
 #[derive(Clone, PartialEq, Eq, Debug)]
 pub struct Story {
     pub machine: Machine,
