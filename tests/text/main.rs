@@ -1,7 +1,9 @@
-//! Text and bytes, back and forth: `round FILE..` for files, `fuzz SEED COUNT FILE..` for damaged ones and `walk SEED PROCESSES VARIABLES STEPS pws|pso` for
-//! a file with a random run. Ends in status 1 with a line if something does not come back.
+//! Text and bytes, back and forth: `round FILE..` for files, `pair PROGRAM EVIDENCE` for two, `random SEED COUNT` for random ones of every kind, `fuzz SEED COUNT FILE..` for
+//! damaged ones; and `walk SEED PROCESSES VARIABLES STEPS pws|pso` makes a file with a random run. Ends in status 1 with a line if something does not come back.
 
-use hrafnolt_tools::contents::{self, Contents, Evidence, Machine, Operation, Program, Run, Step, Transition};
+use hrafnolt_tools::contents::{
+    self, Clue, Contents, Entry, Evidence, Item, Machine, Message, Operation, Pattern, Program, Run, Step, Transition,
+};
 use hrafnolt_tools::machine::Configuration;
 use hrafnolt_tools::text::assemble::{assemble, Assembled};
 use hrafnolt_tools::text::{listing, Names};
@@ -100,7 +102,18 @@ fn damaged(r: &mut Random, from: &[u8], other: &[u8]) -> Vec<u8> {
     for _ in 0..1 + r.below(3) {
         let at = r.below(out.len() + 1);
         let length = r.below(12).min(out.len() - at.min(out.len()));
-        match r.below(9) {
+        match r.below(12) {
+            9..=11 => {
+                // A word, or a number, by another one of the file.
+                let word = |b: &u8| b.is_ascii_alphanumeric() || *b == b'_';
+                let starts: Vec<usize> = (0..out.len()).filter(|i| word(&out[*i]) && (*i == 0 || !word(&out[i - 1]))).collect();
+                if starts.len() > 1 {
+                    let end = |start: usize| out[start..].iter().position(|b| !word(b)).map_or(out.len(), |n| start + n);
+                    let (to, from) = (starts[r.below(starts.len())], starts[r.below(starts.len())]);
+                    let (range, taken) = (to..end(to), out[from..end(from)].to_vec());
+                    out.splice(range, taken);
+                }
+            }
             0 if at < out.len() => out[at] ^= 1 << r.below(8),
             1 if at < out.len() => out[at] = r.next() as u8,
             2 => drop(out.drain(at..at + length)),
@@ -130,6 +143,160 @@ fn damaged(r: &mut Random, from: &[u8], other: &[u8]) -> Vec<u8> {
         }
     }
     out
+}
+
+/// A file of any kind that holds what it says, with no regard to sense.
+fn random(r: &mut Random) -> Contents {
+    let registers = r.below(5) == 0;
+    let (processes, variables) = (1 + r.below(4), 1 + r.below(4));
+    let mut program = Program {
+        processes,
+        variables,
+        values: [0; 4],
+        states: [0; 4],
+        initial: [0; 4],
+        registers,
+        transitions: Vec::new(),
+        targets: Vec::new(),
+    };
+    let most = [2, 4, 32][r.below(3)];
+    program.values.iter_mut().take(variables).for_each(|count| *count = if registers { 4 } else { 1 + r.below(4) as u8 });
+    for p in 0..processes {
+        program.states[p] = 1 + r.below(most) as u8;
+        program.initial[p] = if r.below(2) == 0 { 0 } else { r.below(program.states[p] as usize) as u8 };
+    }
+    let (states_of, values_of) = (program.states, program.values);
+    let states = |r: &mut Random| {
+        let mut states = [0; 4];
+        (0..processes).for_each(|p| states[p] = r.below(states_of[p] as usize) as u8);
+        states
+    };
+    let values = |r: &mut Random, any: bool| {
+        let mut values = [0; 4];
+        for v in 0..variables {
+            values[v] = if any && r.below(2) == 0 { contents::ANY } else { r.below(values_of[v] as usize) as u8 };
+        }
+        values
+    };
+    let sorted = r.below(2) == 0;
+    for _ in 0..[0, 1, 5, 20, 256][r.below(5)] {
+        let process = r.below(processes) as u8;
+        let variable = r.below(variables) as u8;
+        let count = values_of[variable as usize] as usize;
+        let (value, new) = (r.below(count) as u8, r.below(count) as u8);
+        let operation = match r.below(if registers { 9 } else { 6 }) {
+            0 => Operation::Nop,
+            1 => Operation::Read { variable, value },
+            2 => Operation::Write { variable, value },
+            3 => Operation::Mfence,
+            4 => Operation::Sfence,
+            5 => Operation::Arw { variable, old: value, new },
+            6 => Operation::Load { variable },
+            7 => Operation::Save { variable },
+            _ => Operation::Test { value },
+        };
+        let count = states_of[process as usize] as usize;
+        program.transitions.push(Transition { process, from: r.below(count) as u8, operation, to: r.below(count) as u8 });
+    }
+    if sorted {
+        program.transitions.sort_by_key(|t| (t.process, t.from));
+    }
+    program.registers &= !program.transitions.is_empty();
+    for _ in 0..1 + r.below(4) {
+        let target = states(r);
+        // Now and then all that differ in one process.
+        let free = r.below(2 * processes);
+        for state in 0..if free < processes { states_of[free] } else { 1 } {
+            let mut target = target;
+            if free < processes {
+                target[free] = state;
+            }
+            if program.targets.len() < 16 {
+                program.targets.push(target);
+            }
+        }
+    }
+    let waiting = |r: &mut Random, counts: &mut [[usize; 4]; 4]| {
+        let (p, v) = (r.below(processes), r.below(variables));
+        counts[p][v] += 1;
+        let value = if r.below(2) == 0 { contents::ANY } else { r.below(values_of[v] as usize) as u8 };
+        (counts[p][v] <= 8).then_some((p as u8, v as u8, value))
+    };
+    let run = |r: &mut Random, machine: Machine, transitions: usize| {
+        let steps = (0..r.below(40)).map(|_| match r.below(if transitions == 0 { 2 } else { 5 }) {
+            0 => Step::Serialise(r.below(processes) as u8, r.below(variables) as u8),
+            1 => Step::Update(r.below(processes) as u8),
+            _ => Step::Transition(r.below(transitions) as u8),
+        });
+        let steps = steps.collect();
+        Evidence::Run(Run { machine, memory: values(r, false), steps })
+    };
+    let list = |r: &mut Random| {
+        let entries = (0..r.below(6)).map(|_| {
+            let mut items = Vec::new();
+            let mut counts = [[0; 4]; 4];
+            let messages = 1 + r.below(16);
+            for _ in 0..messages {
+                items.push(Item::Message(Message { process: r.below(processes) as u8, variable: r.below(variables) as u8, values: values(r, true) }));
+                for _ in 0..r.below(3) {
+                    items.extend(waiting(r, &mut counts).map(|(process, variable, value)| Item::Waiting { process, variable, value }));
+                }
+            }
+            let mut pointers = [0; 4];
+            (0..processes).for_each(|p| pointers[p] = 1 + r.below(messages) as u8);
+            pointers[r.below(processes)] = 1;
+            Entry { states: states(r), pointers, items }
+        });
+        Evidence::List(entries.collect())
+    };
+    let patterns = |r: &mut Random| {
+        let patterns = (0..1 + r.below(6)).map(|_| {
+            let mut clues = Vec::new();
+            let (mut counts, mut reads, mut ends) = ([[0; 4]; 4], [0; 4], [[false; 4]; 4]);
+            for _ in 0..r.below(20) {
+                match r.below(3) {
+                    0 => {
+                        let waits = waiting(r, &mut counts).filter(|(p, v, _)| !ends[*p as usize][*v as usize]);
+                        clues.extend(waits.map(|(process, variable, value)| Clue::Waiting { process, variable, value }));
+                    }
+                    1 => {
+                        let (p, v) = (r.below(processes), r.below(variables));
+                        reads[p] += 1;
+                        let own = reads[p] > 1 && r.below(2) == 0;
+                        if reads[p] <= 16 {
+                            clues.push(Clue::Read { process: p as u8, variable: v as u8, value: r.below(values_of[v] as usize) as u8, own });
+                        }
+                    }
+                    _ => {
+                        let (p, v) = (r.below(processes), r.below(variables));
+                        if !std::mem::replace(&mut ends[p][v], true) {
+                            let has = clues.iter().any(|clue| matches!(clue, Clue::Waiting { process, variable, .. } if (*process as usize, *variable as usize) == (p, v)));
+                            clues.push(Clue::Queue { process: p as u8, variable: v as u8, ends: has });
+                        }
+                    }
+                }
+            }
+            Pattern { states: states(r), newest: values(r, true), clues }
+        });
+        Evidence::Patterns(patterns.collect())
+    };
+    let transitions = program.transitions.len();
+    let mut marks = Vec::new();
+    let mut evidence = Vec::new();
+    match if program.registers { 0 } else { r.below(6) } {
+        0 => {}
+        1 => evidence.push(list(r)),
+        2 => evidence.push(run(r, Machine::Pws, transitions)),
+        3 => evidence.push(run(r, Machine::Pso, transitions)),
+        4 => evidence.push(patterns(r)),
+        _ if transitions > 0 => {
+            marks = (0..1 + r.below(8)).map(|_| r.below(transitions) as u8).collect();
+            evidence.push(list(r));
+            (0..marks.len()).for_each(|_| evidence.push(run(r, Machine::Pws, transitions)));
+        }
+        _ => {}
+    }
+    Contents { program: Some(program), marks, evidence }
 }
 
 fn walk(r: &mut Random, processes: usize, variables: usize, length: usize, machine: Machine) -> Contents {
@@ -182,7 +349,7 @@ fn walk(r: &mut Random, processes: usize, variables: usize, length: usize, machi
 
 fn main() {
     let words: Vec<String> = std::env::args().skip(1).collect();
-    let number = |at: usize| words.get(at).and_then(|word| word.parse::<usize>().ok()).unwrap_or_else(|| fail(String::from("round|fuzz|walk ..")));
+    let number = |at: usize| words.get(at).and_then(|word| word.parse::<usize>().ok()).unwrap_or_else(|| fail(String::from("round|pair|random|fuzz|walk ..")));
     let read = |name: &String| std::fs::read(name).unwrap_or_else(|error| fail(format!("{name}: {error}")));
     match words.first().map(String::as_str) {
         Some("round") => {
@@ -212,11 +379,36 @@ fn main() {
             }
             println!("text: {} damaged files, {taken} of them readable and come back", number(2));
         }
+        Some("random") => {
+            let mut r = Random(number(1) as u64);
+            for count in 0..number(2) {
+                let made = random(&mut r);
+                let bytes = made.bytes();
+                let name = format!("random file {count} of seed {}", words[1]);
+                match contents::read(&bytes, None) {
+                    Ok(contents) if contents == made => bytes_again(&name, &bytes, &contents, None),
+                    Ok(_) => fail(format!("{name}: read as another")),
+                    Err(fault) => fail(format!("{name}: {fault}")),
+                }
+                // Its evidence alone, for its program and for none.
+                if let (Some(program), true) = (&made.program, made.marks.is_empty() && !made.evidence.is_empty()) {
+                    let part = Contents { program: None, ..made.clone() };
+                    let bytes = part.bytes();
+                    for given in [Some(program), None] {
+                        match contents::read(&bytes, given) {
+                            Ok(contents) => bytes_again(&name, &bytes, &contents, given),
+                            Err(fault) => fail(format!("{name}, its evidence: {fault}")),
+                        }
+                    }
+                }
+            }
+            println!("text: {} random files of every kind, and their evidence alone, come back", number(2));
+        }
         Some("walk") => {
             let machine = if words.get(5).is_some_and(|word| word == "pso") { Machine::Pso } else { Machine::Pws };
             let contents = walk(&mut Random(number(1) as u64), number(2), number(3), number(4), machine);
             std::io::stdout().write_all(&contents.bytes()).unwrap_or_else(|error| fail(error.to_string()));
         }
-        _ => fail(String::from("round|fuzz|walk ..")),
+        _ => fail(String::from("round|pair|random|fuzz|walk ..")),
     }
 }

@@ -20,8 +20,8 @@ Draws the run in a combined file, or in an evidence file for a program file, as 
   --              no option follows
 A file may be `-`, standard input. A run that the machine can't take is drawn up to the step that fails, with exit status 1.
 ";
-/// No file that holds a run is longer, and no text of a program.
-const LONGEST: u64 = 1 << 24;
+/// No report is longer, and no other file that holds a run.
+const LONGEST: u64 = 1 << 29;
 
 fn fail(status: i32, words: String) -> ! {
     let _ = writeln!(std::io::stderr(), "hrafnolt-draw: {words}");
@@ -34,7 +34,14 @@ fn shown(name: &str) -> String {
 
 fn input(name: &str) -> Vec<u8> {
     let mut bytes = Vec::new();
-    let read = |source: &mut dyn Read, bytes: &mut Vec<u8>| source.take(LONGEST + 1).read_to_end(bytes);
+    // A first byte that begins no file and no text is enough: /dev/zero has no end.
+    let read = |source: &mut dyn Read, bytes: &mut Vec<u8>| {
+        source.take(1).read_to_end(bytes)?;
+        match bytes.first() {
+            Some(0x00 | 0x02..=0x08 | 0x0e | 0x10..=0x1f) => Ok(0),
+            _ => source.take(LONGEST).read_to_end(bytes),
+        }
+    };
     let result = if name == "-" {
         read(&mut std::io::stdin().lock(), &mut bytes)
     } else {
@@ -44,7 +51,7 @@ fn input(name: &str) -> Vec<u8> {
         fail(2, format!("{}: {error}", shown(name)));
     }
     if bytes.len() as u64 > LONGEST {
-        fail(2, format!("{}: longer than any run, {LONGEST} bytes", shown(name)));
+        fail(2, format!("{}: longer than {LONGEST} bytes", shown(name)));
     }
     bytes
 }
@@ -98,7 +105,8 @@ fn main() {
     let second = files.get(1).map(|name| contents(name, first.program.as_ref()));
     let last = files.last().map_or("", String::as_str);
     let Some(program) = &first.program else { fail(1, format!("{}: has no program; a program file comes before it", shown(&files[0]))) };
-    let Some(run) = second.as_ref().unwrap_or(&first).run() else { fail(1, format!("{}: holds no run", shown(last))) };
+    let runs = second.as_ref().unwrap_or(&first).runs(Some(program));
+    let Some((mark, program, run)) = runs.first() else { fail(1, format!("{}: holds no run", shown(last))) };
     let names = match names {
         None => Names::made_up(Some(program)),
         Some(text) => match assemble(&input(&text), &choices, None) {
@@ -110,7 +118,11 @@ fn main() {
         },
     };
     let base = last.rsplit('/').next().unwrap_or(last);
-    let (svg, accepted) = picture::draw(program, &names, run, title.as_deref().unwrap_or(if base == "-" { "" } else { base }), width);
+    let mut title = title.unwrap_or(String::from(if base == "-" { "" } else { base }));
+    if let Some(mark) = mark {
+        title.push_str(&format!(" with the fence t{mark} as a nop"));
+    }
+    let (svg, accepted) = picture::draw(program, &names, run, &title, width);
     let result = match &output {
         Some(name) => std::fs::write(name, svg),
         None => {
