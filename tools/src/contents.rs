@@ -265,11 +265,22 @@ impl Contents {
         out
     }
 
-    pub fn run(&self) -> Option<&Run> {
-        self.evidence.iter().find_map(|evidence| match evidence {
+    /// The runs, each with the program that it is of. In a report that is the program in which its mark's fence is a nop, and the mark comes too.
+    pub fn runs(&self, given: Option<&Program>) -> Vec<(Option<u8>, Program, &Run)> {
+        let Some(program) = self.program.as_ref().or(given) else { return Vec::new() };
+        let runs = self.evidence.iter().filter_map(|evidence| match evidence {
             Evidence::Run(run) => Some(run),
             _ => None,
-        })
+        });
+        let with = |(number, run)| {
+            let mut program = program.clone();
+            let mark = self.marks.get(number).copied();
+            if let Some(transition) = mark.and_then(|mark| program.transitions.get_mut(mark as usize)) {
+                transition.operation = Operation::Nop;
+            }
+            (mark, program, run)
+        };
+        runs.enumerate().map(with).collect()
     }
 }
 

@@ -13,6 +13,7 @@ pub mod names;
 pub mod options;
 pub mod output;
 pub mod outside;
+pub mod picture;
 pub mod text;
 pub mod timeout;
 pub mod trace;

@@ -40,7 +40,14 @@ fn shown(name: &str) -> String {
 
 fn input(name: &str) -> Vec<u8> {
     let mut bytes = Vec::new();
-    let read = |source: &mut dyn Read, bytes: &mut Vec<u8>| source.take(LONGEST + 1).read_to_end(bytes);
+    // A first byte that begins no file and no text is enough: /dev/zero has no end.
+    let read = |source: &mut dyn Read, bytes: &mut Vec<u8>| {
+        source.take(1).read_to_end(bytes)?;
+        match bytes.first() {
+            Some(0x00 | 0x02..=0x08 | 0x0e | 0x10..=0x1f) => Ok(0),
+            _ => source.take(LONGEST).read_to_end(bytes),
+        }
+    };
     let result = if name == "-" {
         read(&mut std::io::stdin().lock(), &mut bytes)
     } else {
@@ -162,15 +169,24 @@ fn names_for(options: &Options, program: Option<&Program>) -> Names {
 
 fn trace_command(options: &Options, whole: bool) {
     let (contents, given, names) = contents_of(options);
-    let Some(program) = contents.program.as_ref().or(given.as_ref()) else {
+    if contents.program.is_none() && given.is_none() {
         fail(1, format!("{}: has no program, so its steps can't be followed", shown(&options.files[0])))
-    };
-    let Some(run) = contents.run() else { fail(1, format!("{}: holds no run", shown(&options.files[0]))) };
-    let lines = if whole { trace::lines(program, &names, run) } else { trace::steps(program, &names, run) };
-    let mut text = lines.lines.join("\n");
-    text.push('\n');
+    }
+    let runs = contents.runs(given.as_ref());
+    if runs.is_empty() {
+        fail(1, format!("{}: holds no run", shown(options.files.last().map_or("", String::as_str))));
+    }
+    let (mut text, mut accepted) = (String::new(), true);
+    for (mark, program, run) in runs {
+        if let Some(mark) = mark {
+            text.push_str(&format!("with the fence t{mark} as a nop:\n"));
+        }
+        let told = if whole { trace::lines(&program, &names, run) } else { trace::steps(&program, &names, run) };
+        told.lines.iter().for_each(|line| text.extend([line, "\n"]));
+        accepted &= told.accepted;
+    }
     output(options, text.as_bytes());
-    if !lines.accepted {
+    if !accepted {
         exit(1);
     }
 }

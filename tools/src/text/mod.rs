@@ -93,7 +93,7 @@ impl Names {
         self.states.get(p).and_then(|states| states.get(s as usize)).map_or("?", |state| &state.name)
     }
 
-    fn labelled(&self, p: usize, s: u8) -> bool {
+    pub fn labelled(&self, p: usize, s: u8) -> bool {
         self.states.get(p).and_then(|states| states.get(s as usize)).is_some_and(|state| state.labelled)
     }
 
