@@ -1,19 +1,37 @@
-# `make` proves and builds the judge and shows what it says of the examples; `make test` is the gate; `make install PREFIX=..` installs
-# header, library, programs and manual pages.
+# `make` proves and builds the judge and shows what it says of the examples; `make test` is the gate; `make install PREFIX=..` installs header,
+# libraries, programs, manual pages, documents and examples, and proves nothing again if no crate has changed; `make uninstall PREFIX=..` takes them
+# away. DESTDIR stands before PREFIX. CC, CFLAGS, LDFLAGS, RUSTC and RUSTFLAGS are honoured.
 PREFIX ?= /usr/local
-.PHONY: all build test install
+export CFLAGS LDFLAGS RUSTC RUSTFLAGS
+ifneq ($(origin CC),default)
+export CC
+endif
+proved = find crates crates.txt -type f | LC_ALL=C sort | xargs cksum
+.PHONY: all build prove mark test install uninstall
 
 all: build
 	@examples/judge-all
 
 # The program, the library for C, and the crates below them; what neither needs is `make test`'s.
-build:
+build: prove
+	@tools/build
+
+prove:
 	@[ -e target/bin/hrafnolt-files ] || echo 'proving the judge, then building it: some minutes, the first time'
 	@.ci/prove hrafnolt exports.a
-	@c/build
+	@$(MAKE) --no-print-directory mark
+
+# What was proved, so that `make install` knows whether anything has changed since.
+mark:
+	@$(proved) >target/proved
 
 test:
 	@.ci/run
 
-install: build
-	@c/install $(DESTDIR)$(PREFIX)
+install:
+	@$(proved) | cmp -s - target/proved || $(MAKE) --no-print-directory prove
+	@tools/build
+	@tools/install "$(PREFIX)" "$(DESTDIR)"
+
+uninstall:
+	@tools/install --remove "$(PREFIX)" "$(DESTDIR)"

@@ -1,11 +1,17 @@
 /* The judge of Hrafnolt, for C.
  *
- * Link with libhrafnolt.a (target/staticlib/libexports.a, before it is installed). From outside it needs memcpy and memset as the C
+ * Link with -lhrafnolt, which is libhrafnolt.a (target/staticlib/libexports.a, before it is installed) or the same as a shared library. From outside it needs memcpy and memset as the C
  * library has them (a later one may need memmove and memcmp, and nothing else: a test looks), and room on the stack: its calls within
  * calls are as deep as a cube has FFs, at most 224, which comes to less than 512 KiB (by its object code; this is not proved). No
  * function allocates, or keeps state between calls: any number of threads may call it at a time, each with its own work area. */
 #ifndef HRAFNOLT_H
 #define HRAFNOLT_H
+
+/* The version, said by `--version`, the manual pages and hrafnolt.pc too. A program that was compiled with one major number works with every
+ * library of that number: functions and numbers are added, and none is changed or taken away. */
+#define HRAFNOLT_VERSION "1.0"
+#define HRAFNOLT_VERSION_MAJOR 1
+#define HRAFNOLT_VERSION_MINOR 0
 
 #include <stddef.h>
 #include <stdint.h>
@@ -44,7 +50,9 @@ enum { HRAFNOLT_TRANSITION = 0x20, HRAFNOLT_SERIALISE = 0x21, HRAFNOLT_UPDATE = 
 /* The file that a record stands in. A combined file counts as the program file. */
 enum { HRAFNOLT_PROGRAM_FILE = 0, HRAFNOLT_EVIDENCE_FILE = 1 };
 
-/* Bytes of a work area: the least that is not refused with 8, and the most that is ever used (524,288 entries). */
+/* Bytes of a work area: the least that is not refused with 8, and the most that is ever used (524,288 entries).
+ * A large area has its price: each call sets all of it that it may use to 0, whatever the file needs. With the most, a small file takes some 60
+ * microseconds in place of 2; so lend what hrafnolt_work_enough says, and no more, even if the area that it is a part of is larger. */
 #define HRAFNOLT_WORK_LEAST ((size_t)65536)
 #define HRAFNOLT_WORK_MOST ((size_t)(16384 + 12 * 524288))
 
@@ -135,6 +143,61 @@ struct hrafnolt_collected hrafnolt_join(struct hrafnolt_collection a, struct hra
 struct hrafnolt_fraction hrafnolt_mean(struct hrafnolt_collection c);
 struct hrafnolt_fraction hrafnolt_variance(struct hrafnolt_collection c);
 struct hrafnolt_fraction hrafnolt_share(struct hrafnolt_collection c);
+
+/* ---- words
+ *
+ * What a refusal's number says, in the words of README.md's table; null for a number that no refusal has. */
+static inline const char *hrafnolt_reason(uint64_t number)
+{
+    switch (number) {
+    case 1:
+        return "the file ends inside a record";
+    case 2:
+        return "the kind of a record is unknown, or not allowed here";
+    case 3:
+        return "a number of the shape (processes, variables, a present variable's values) or a count of states is outside its range";
+    case 4:
+        return "a field names what does not exist, a value is outside its variable's range, or an absent one is not 0";
+    case 5:
+        return "one record more than a count allows";
+    case 6:
+        return "the file ends before the claim, or before the starting memory of a run; a program file before its first 04";
+    case 7:
+        return "an entry without message, with a pointer outside its messages, or with none at 1";
+    case 8:
+        return "the work area has under 65,536 bytes";
+    case 9:
+        return "a configuration in a target is not above the list";
+    case 10:
+        return "a start, of whatever memory, is above an entry";
+    case 11:
+        return "one step leads above this entry from outside the list";
+    case 12:
+        return "the step's process is not in the transition's first local state";
+    case 13:
+        return "the last local states are no target";
+    case 14:
+        return "the program only: more than 65,536 bytes";
+    case 15:
+        return "the value that is read, or that an arw expects, is not the one there";
+    case 16:
+        return "a queue that must be empty is not: one of the process's for a fence (under claim 2 for an mfence), the variable's own for an arw";
+    case 17:
+        return "the pointer is not at the newest message, for an mfence or an arw; never under claim 2";
+    case 18:
+        return "nothing waits to be serialised, or there is no newer message to update to; under claim 2 no value heads the buffer, or a mark does not head all of them";
+    case 24:
+        return "figures only: no safe result to take the mean or variance of, or no result at all to take the share of";
+    case 25:
+        return "figures only: more than 4,096 results, a safe result of more than 524,288 entries, or a collection that no addition made";
+    case 26:
+        return "drawings only: the output is too short";
+    case 27:
+        return "drawings only: the text is no drawing";
+    default:
+        return NULL;
+    }
+}
 
 #ifdef __cplusplus
 }

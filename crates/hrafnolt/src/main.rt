@@ -12,6 +12,7 @@ ghost use Rattle.drawing.specs.Runs.{StepInRange};
 ghost use Rattle.hrafnolt.specs.Line.{Numbered, LineOf, wordOf, stepIn, StepKnown, said};
 use drawing::step_letters;
 use judge::judge;
+use libc::STDERR_FILENO;
 use libc::STDIN_FILENO;
 use libc::STDOUT_FILENO;
 use machine_pws::Step;
@@ -157,6 +158,14 @@ fn line_for(input: &[u8], line: &mut [u8]) -> usize
 }
 
 fn main() {
+    // whoever names a file would wait for a verdict on it
+    if os::arg_count() > 1 {
+        io::write_all(
+            STDERR_FILENO,
+            b"usage: hrafnolt <FILE (it takes no argument; hrafnolt-files does)\n",
+        );
+        return;
+    }
     let mut input = input_buffer();
     let n = io::read_full(STDIN_FILENO, &mut input);
     // a read that failed is not the input's end, and what was read until then is not judged
