@@ -1,0 +1,2 @@
+pub mod AlmostFull
+pub mod Higman
