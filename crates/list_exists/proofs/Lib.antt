@@ -1,2 +1,4 @@
 pub mod AlmostFull
 pub mod Higman
+pub mod Numbering
+pub mod Order

@@ -1,1 +1,2 @@
 pub mod AlmostFull
+pub mod Order
