@@ -2,7 +2,7 @@
 use Prim.Native.Nat.{ℕ, _<_}
 use mathlib.Core.Path.{_≡_}
 use mathlib.Core.Logic.{_⊎_}
-use mathlib.Core.List.{List, Sublistᴰ}
+use mathlib.Core.List.{List, Sublistᴰ, List·Memᴰ}
 
 -- However one chooses elements in turn, at some time it is certain that an earlier one is related to a later one: all are related; or,
 -- whichever x comes first, it is so when of each later y it is enough that x is related to it.
@@ -39,3 +39,40 @@ Ramsey = (A : Type 0) (R T : A → A → Type 0) → AlmostFull R → AlmostFull
 -- words over a finite alphabet, by subsequence: Higman's lemma
 abbrev pub Higman : Type 1
 Higman = (A : Type 0) → Finite A → AlmostFull {A = List A} (λ xs ys. Sublistᴰ xs ys)
+
+-- ---- what ends
+
+-- a is above none of the list
+abbrev pub AboveNone : {A : Type 0} → (A → A → Type 0) → List A → A → Type 0
+AboveNone {A} R xs a = (x : A) → List·Memᴰ x xs → R x a → ⊥
+
+-- a search that adds to its list only what is above none of it ends
+abbrev pub SearchEnds : Type 1
+SearchEnds =
+    (A : Type 0) (R : A → A → Type 0) → AlmostFull R → (Done : List A → Type 0) → ((xs : List A) → Done xs ⊎ ((a : A) × AboveNone R xs a))
+    → (xs : List A) × Done xs
+
+-- finitely many least elements of the set U: every element of U is above one of them, and what of U is below one of them is also above it
+pub record Basis {A : Type 0} (R : A → A → Type 0) (U : A → Type 0) : Type 0 where
+  pub list : List A
+  pub members : (x : A) → List·Memᴰ x list → U x
+  pub all : (a : A) → U a → (x : A) × List·Memᴰ x list × R x a
+  pub least : (x : A) → List·Memᴰ x list → (a : A) → U a → R a x → R x a
+
+-- a preorder that is decided
+pub record Decided {A : Type 0} (R : A → A → Type 0) : Type 0 where
+  pub reflexive : (x : A) → R x x
+  pub transitive : (x y z : A) → R x y → R y z → R x z
+  pub decided : (x y : A) → Dec (R x y)
+
+-- Every set has them: it cannot be that there are none, and they are found if of every finite list of elements it is decided whether all
+-- of the set is above it, with an element that is not in hand. (That a set has least elements at hand with no such decision is excluded middle:
+-- the set of those x for which a given statement holds.)
+abbrev pub NotWithoutBasis : Type 1
+NotWithoutBasis = (A : Type 0) (R : A → A → Type 0) → AlmostFull R → Decided R → (U : A → Type 0) → (Basis R U → ⊥) → ⊥
+
+abbrev pub BasisFound : Type 1
+BasisFound =
+    (A : Type 0) (R : A → A → Type 0) → AlmostFull R → Decided R → (U : A → Type 0)
+    → ((xs : List A) → ((x : A) → List·Memᴰ x xs → U x) → ((a : A) → U a → (x : A) × List·Memᴰ x xs × R x a) ⊎ ((a : A) × U a × AboveNone R xs a))
+    → Basis R U

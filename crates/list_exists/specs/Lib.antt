@@ -1,2 +1,3 @@
 pub mod AlmostFull
 pub mod Order
+pub mod Evidence
