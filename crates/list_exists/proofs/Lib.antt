@@ -1,7 +1,7 @@
 pub mod AlmostFull
 pub mod Higman
+pub mod Search
 pub mod Numbering
 pub mod Order
-pub mod Search
 pub mod Trimming
 pub mod Evidence

@@ -4,9 +4,9 @@ use mathlib.Core.Path.{_≡_, refl, sym, ap, ap₂, subst, _∙_}
 use mathlib.Core.Logic.{_⊎_, inl, inr, ⊎-elim}
 use mathlib.Core.Bool.{Bool, true, false, cond}
 use mathlib.Core.Option.{Option, none, some}
-use mathlib.Core.List.{List, [], _∷_, Sublistᴰ}
+use mathlib.Core.List.{List, [], _∷_, Sublistᴰ, Sublistᴰ·slnil, Sublistᴰ·cons, Sublistᴰ·cons-cons}
 use native.Mathlib.Omega.{arith}
-use native.Mathlib.Decide.{decLt}
+use native.Mathlib.Decide.{decLt, ℕ-discrete}
 use lib.ListN.{length, getD}
 use lib.Dec.{T, eqb}
 use Rattle.machine_pws.specs.declared.Message.{Message}
@@ -16,12 +16,14 @@ use Rattle.machine_pws.specs.Configurations.{All, ValueOf, MessageIn, MemoryIn,
 use Rattle.machine_pws.specs.Order.{QueueBelow, Below}
 use Rattle.machine_pws.specs.Tagged.{table, roles, isLive, Tagged, taggedFrom, tagged}
 use Rattle.machine_pws.proofs.Facts.{message-old, message-new, proper}
+use Rattle.machine_pws.proofs.Preorder.{below-refl, below-trans}
 use Rattle.machine_pws.proofs.Tagged.{below-tagged}
-use Rattle.list_exists.specs.AlmostFull.{AlmostFull}
-use Rattle.list_exists.specs.Order.{Of, BelowAlmostFull}
+use Rattle.list_exists.specs.AlmostFull.{AlmostFull, Decided}
+use Rattle.list_exists.specs.Order.{Of, BelowOf, BelowAlmostFull, BelowDecided, LeastConfigurations}
 use Rattle.list_exists.proofs.AlmostFull.{of-image, bigger, ramsey, all-below, equal-numbers}
-use Rattle.list_exists.proofs.Higman.{Embedding, higman-numbers}
+use Rattle.list_exists.proofs.Higman.{Embedding, nothing, skip, keep, higman-numbers}
 use Rattle.list_exists.proofs.Numbering.{Numbering, clip, clip-below, clip-same, observed, observed-same, two, two-same, many, many-same, same-list, Each, embedded}
+use Rattle.list_exists.proofs.Search.{not-without-basis}
 
 -- ---- queues
 
@@ -230,3 +232,84 @@ module _ (P : Program) where
 
 pub below-almost-full : BelowAlmostFull
 below-almost-full P = all-numbers P
+
+-- ---- and it is decided
+
+pub decided-as : {A B : Type 0} → (A → B) → (B → A) → Dec A → Dec B
+decided-as f g (yes a) = yes (f a)
+decided-as f g (no n) = no (λ b. n (g b))
+
+pub both-decided : {A B : Type 0} → Dec A → Dec B → Dec (A × B)
+both-decided (yes a) (yes b) = yes (a, b)
+both-decided (yes a) (no n) = no (λ r. n (r .1))
+both-decided (no n) d = no (λ r. n (r .0))
+
+either-decided : {A B : Type 0} → Dec A → Dec B → Dec (A ⊎ B)
+either-decided (yes a) d = yes (inl a)
+either-decided (no n) (yes b) = yes (inr b)
+either-decided (no n) (no m) = no (⊎-elim n m)
+
+pub all-decided : (n : ℕ) (F : ℕ → Type 0) → ((i : ℕ) → i < n → Dec (F i)) → Dec ((i : ℕ) → i < n → F i)
+all-decided zero F d = yes (λ i l. absurd (omega arith))
+all-decided (suc n) F d =
+    decided-as {B = (i : ℕ) → i < suc n → F i} (λ r i l. elim (ℕ-discrete i n) [ yes e ↦ rw e (r .0) | no e ↦ r .1 i (omega arith) ]) (λ f. (f n (omega arith), λ i l. f i (omega arith)))
+    (both-decided (d n (omega arith)) (all-decided n F (λ i l. d i (omega arith))))
+
+module _ {A : Type 0} (f : A → ℕ) where
+  no-embedding : {x : A} {xs : List A} → Embedding f (x ∷ xs) [] → ⊥
+  no-embedding e = elim e [ ]
+
+  empty-embedding : (ys : List A) → Embedding f [] ys
+  empty-embedding [] = nothing
+  empty-embedding (y ∷ ys) = skip (empty-embedding ys)
+
+  embedding-cases : {x y : A} {xs ys : List A} → Embedding f (x ∷ xs) (y ∷ ys) → Embedding f (x ∷ xs) ys ⊎ ((f x ≡ f y) × Embedding f xs ys)
+  embedding-cases (skip e) = inl e
+  embedding-cases (keep q e) = inr (q, e)
+
+  embedding-decided : (ys xs : List A) → Dec (Embedding f xs ys)
+  embedding-decided ys [] = yes (empty-embedding ys)
+  embedding-decided [] (x ∷ xs) = no no-embedding
+  embedding-decided (y ∷ ys) (x ∷ xs) =
+      decided-as (⊎-elim skip (λ r. keep (r .0) (r .1))) embedding-cases
+      (either-decided (embedding-decided ys (x ∷ xs)) (both-decided (ℕ-discrete (f x) (f y)) (embedding-decided ys xs)))
+
+  sublist-embedding : {xs ys : List A} → Sublistᴰ xs ys → Embedding f xs ys
+  sublist-embedding Sublistᴰ·slnil = nothing
+  sublist-embedding (Sublistᴰ·cons s) = skip (sublist-embedding s)
+  sublist-embedding (Sublistᴰ·cons-cons e s) = keep (ap f e) (sublist-embedding s)
+
+module _ (P : Program) where
+  below-numbers : (c d : Of P) → Below (P .shape) (c .0) (d .0) → Numbers P c d
+  below-numbers c d B =
+      let S = P .shape in
+      let t = below-tagged S (c .0) (d .0) (proper (c .1 .fits .memory)) (proper (d .1 .fits .memory)) .0 B in
+      record {
+        states = λ p l. ap (clip (P .states p)) (t .states p l);
+        queues = λ p l v m. (sublist-embedding (clip (S .values v)) (t .queues p v l m .subsequence), ap (lastNumber (S .values v)) (t .queues p v l m .end));
+        channel = sublist-embedding (letter S .code) (t .channel);
+      }
+
+  numbers-decided : (c d : Of P) → Dec (Numbers P c d)
+  numbers-decided c d =
+      let S = P .shape in
+      decided-as (λ r. record { states = r .0; queues = r .1 .0; channel = r .1 .1 }) (λ n. (n .states, (n .queues, n .channel)))
+      (both-decided
+      (all-decided (S .processes) (λ p. clip (P .states p) (c .0 .state p) ≡ clip (P .states p) (d .0 .state p)) (λ p l. ℕ-discrete (clip (P .states p) (c .0 .state p)) (clip (P .states p) (d .0 .state p))))
+      (both-decided
+      (all-decided (S .processes) (λ p. (v : ℕ) → v < S .variables → QueueNumbers (S .values v) (c .0 .queue p v) (d .0 .queue p v))
+      (λ p l. all-decided (S .variables) (λ v. QueueNumbers (S .values v) (c .0 .queue p v) (d .0 .queue p v))
+      (λ v m. both-decided (embedding-decided (clip (S .values v)) (d .0 .queue p v) (c .0 .queue p v))
+      (ℕ-discrete (lastNumber (S .values v) (newestWaiting (c .0 .queue p v))) (lastNumber (S .values v) (newestWaiting (d .0 .queue p v)))))))
+      (embedding-decided (letter S .code) (tagged S (d .0 .memory)) (tagged S (c .0 .memory)))))
+
+pub below-decided : BelowDecided
+below-decided P =
+    record {
+      reflexive = λ c. below-refl (P .shape) (c .0);
+      transitive = λ b c d. below-trans;
+      decided = λ c d. decided-as (numbers-below P c d) (below-numbers P c d) (numbers-decided P c d);
+    }
+
+pub least-configurations : LeastConfigurations
+least-configurations P U = not-without-basis (Of P) (BelowOf P) (below-almost-full P) (below-decided P) U
