@@ -5,3 +5,4 @@ pub mod Numbering
 pub mod Order
 pub mod Trimming
 pub mod Evidence
+pub mod Pso

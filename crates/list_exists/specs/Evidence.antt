@@ -34,3 +34,27 @@ pub record ListFound (P : Program) (ts : List (ℕ → ℕ)) : Type 0 where
 abbrev pub EvidenceExists : Type 0
 EvidenceExists =
     (P : Program) → WellFormed P → NoValueIsFF (P .shape) → (ts : List (ℕ → ℕ)) → TargetsOf P ts → RunFound P ts ⊎ ListFound P ts
+
+-- never both
+abbrev pub NeverBoth : Type 0
+NeverBoth = (P : Program) → WellFormed P → (ts : List (ℕ → ℕ)) → RunFound P ts → ListFound P ts → ⊥
+
+-- ---- of the PSO machine
+
+-- the run is one of the PSO machine too, from the same memory; and where the list is, no run of it from any memory reaches a target
+pub record PsoRunFound (P : Program) (ts : List (ℕ → ℕ)) : Type 0 where
+  pub memory : List ℕ
+  pub number : ℕ
+  pub exists : number < length ts
+  pub reachable : PsoReachable P memory (target ts number)
+
+abbrev pub PsoUnreachable : Program → List (ℕ → ℕ) → Type 0
+PsoUnreachable P ts = (memory : List ℕ) (k : ℕ) → k < length ts → PsoReachable P memory (target ts k) → ⊥
+
+abbrev pub PsoEvidenceExists : Type 0
+PsoEvidenceExists =
+    (P : Program) → WellFormed P → NoValueIsFF (P .shape) → (ts : List (ℕ → ℕ)) → TargetsOf P ts → PsoRunFound P ts ⊎ (ListFound P ts × PsoUnreachable P ts)
+
+-- reachability under partial store order is decided (report, 5.4)
+abbrev pub PsoDecided : Type 0
+PsoDecided = (P : Program) → WellFormed P → NoValueIsFF (P .shape) → (t : ℕ → ℕ) → StatesOf P t → Dec ((memory : List ℕ) × PsoReachable P memory t)
