@@ -6,3 +6,4 @@ pub mod Order
 pub mod Trimming
 pub mod Evidence
 pub mod Pso
+pub mod Enumeration
