@@ -7,3 +7,4 @@ pub mod Trimming
 pub mod Evidence
 pub mod Pso
 pub mod Enumeration
+pub mod Leaving

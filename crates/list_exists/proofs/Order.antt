@@ -88,7 +88,7 @@ bit-same true false e = absurd (omega (arith, e))
 bit-same false true e = absurd (omega (arith, e))
 bit-same false false e = refl
 
-table-length : {A : Type 0} (n : ℕ) (f : ℕ → A) → length (table n f) ≡ n
+pub table-length : {A : Type 0} (n : ℕ) (f : ℕ → A) → length (table n f) ≡ n
 table-length zero f = refl
 table-length (suc n) f = ap suc (table-length n f)
 
