@@ -72,7 +72,7 @@ module _ (S : Shape) (m n : Memory) (o : MemoryIn (ValueOf S) S n) (h : ℕ → 
         upto = ⊎-elim (λ b. omega (arith, b .0, b .1, fewer)) (λ b. omega (arith, b .1, fewer, r .upto)) (down-cases k (h i) (unhit i l));
       }
 
-  maps-left-out : Maps S m (without n k) (λ i. down k (h i))
+  pub maps-left-out : Maps S m (without n k) (λ i. down k (h i))
   maps-left-out =
       let W = without-maps S n o k lo hi norole p pe in
       record {

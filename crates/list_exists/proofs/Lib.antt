@@ -8,3 +8,4 @@ pub mod Evidence
 pub mod Pso
 pub mod Enumeration
 pub mod Leaving
+pub mod Small
