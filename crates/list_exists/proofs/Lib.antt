@@ -9,3 +9,4 @@ pub mod Pso
 pub mod Enumeration
 pub mod Leaving
 pub mod Small
+pub mod Shorter

@@ -223,13 +223,13 @@ module _ (P : Program) (R : WellFormed P) (e : Configuration) (oe : Configuratio
   abbrev pub channelBound : ℕ
   channelBound = (rolesBound S + rolesBound S) + suc (length (e .memory .channel))
 
-  record Fewer (c : Configuration) : Type 0 where
-    configuration : Configuration
-    before : Before configuration
-    below : Below S configuration c
-    small : length (configuration .memory .channel) ≤ channelBound
+  pub record Fewer (c : Configuration) : Type 0 where
+    pub configuration : Configuration
+    pub before : Before configuration
+    pub below : Below S configuration c
+    pub small : length (configuration .memory .channel) ≤ channelBound
 
-  fewer : (n : ℕ) (c : Configuration) → Before c → length (c .memory .channel) ≤ n → Fewer c
+  pub fewer : (n : ℕ) (c : Configuration) → Before c → length (c .memory .channel) ≤ n → Fewer c
   fewer zero c b l = absurd (omega (arith, b .of .fits .memory .some))
   fewer (suc n) c b l = ⊎-elim
       (λ r.
