@@ -1,38 +1,97 @@
--- Evidence exists: the backward search from the targets, which ends because the order is almost full.
+-- Evidence exists: a start is above one of the least configurations that reach a target, and a run is found; or they are a safe list.
 use Prim.Native.Nat.{ℕ, zero, suc, _<_, _≤_}
 use mathlib.Core.Path.{_≡_, refl, sym, ap, ap₂, subst, _∙_}
 use mathlib.Core.Logic.{_⊎_, inl, inr, ⊎-elim, _≢_}
-use mathlib.Core.List.{List, [], _∷_, _++_, List·Memᴰ, List·Memᴰ·not-nil, List·Memᴰ·cases-cons}
+use mathlib.Core.List.{List, [], _∷_, List·Memᴰ, List·Memᴰ·head, List·Memᴰ·tail, List·Memᴰ·not-nil, List·Memᴰ·cases-cons, cons≢nil}
 use native.Mathlib.Omega.{arith}
-use native.Mathlib.Decide.{decLt}
+use native.Mathlib.Decide.{decLt, ℕ-discrete}
 use lib.ListN.{length, getD}
 use lib.Dec.{T}
 use Rattle.machine_pws.specs.declared.Message.{Message}
 use Rattle.machine_pws.specs.declared.Step.{Step}
 use Rattle.machine_pws.specs.Program.{Shape, Program, WellFormed}
-use Rattle.machine_pws.specs.Machine.{Memory, Configuration, message, may, after}
-use Rattle.machine_pws.specs.Configurations.{All, ValueOf, MessageIn, MemoryIn, Fits, ConfigurationOf, StatesOf, startingMemory, Start, InTarget}
+use Rattle.machine_pws.specs.Machine.{Configuration, message, may, after}
+use Rattle.machine_pws.specs.Configurations.{All, ValueOf, MessageIn, Fits, ConfigurationOf, startingMemory, Start}
 use Rattle.machine_pws.specs.Order.{Maps, QueueBelow, Below}
-use Rattle.machine_pws.specs.Entries.{FF, NoValueIsFF, ValueOrFF, EntryOf, Fill, FillValues, values-nil, values-cons, FillMessage, FillChannel, channel-nil, channel-cons, Filling, filled, Above, AboveList, noEntry, entry}
-use Rattle.machine_pws.specs.Sequences.{Takes, done, step}
+use Rattle.machine_pws.specs.Entries.{FF, NoValueIsFF, ValueOrFF, EntryOf, FillValues, values-nil, values-cons, FillMessage, FillChannel, channel-nil, channel-cons, Above, AboveList, entry}
+use Rattle.machine_pws.specs.Sequences.{Takes, done}
 use Rattle.machine_pws.proofs.Facts.{message-old, message-new}
-use Rattle.machine_pws.proofs.Preorder.{below-trans, list-up}
-use Rattle.machine_pws.proofs.Steps.{step-configuration, takes-configuration}
-use Rattle.machine_pws.proofs.Simulation.{simulate}
-use Rattle.machine_equal.specs.Equivalence.{PwsReachable}
+use Rattle.machine_pws.proofs.Preorder.{below-refl, below-trans}
+use Rattle.machine_pws.proofs.Steps.{step-configuration}
 use Rattle.machine_equal.proofs.Reachability.{start-of}
-use Rattle.list_theory.specs.Verdict.{target, SafeList, ListVerdict, safe, unheld, started, entered, ListJudged}
-use Rattle.list_theory.specs.Decision.{verdictOf}
+use Rattle.list_theory.specs.Verdict.{target, SafeList}
 use Rattle.list_theory.proofs.Fillings.{fill-value, fill-length, fill-at}
-use Rattle.list_theory.proofs.Verdict.{verdict-judged}
-use Rattle.list_exists.specs.AlmostFull.{AlmostFull, AboveNone}
-use Rattle.list_exists.specs.Order.{Of}
-use Rattle.list_exists.specs.Evidence.{TargetsOf, RunFound, ListFound, EvidenceExists}
-use Rattle.list_exists.proofs.AlmostFull.{of-image}
+use Rattle.list_exists.specs.AlmostFull.{AboveNone, Basis}
+use Rattle.list_exists.specs.Order.{Of, BelowOf}
+use Rattle.list_exists.specs.Evidence.{Reaches, RunFound, AboveOne, SafeConfigurations, ListFound, ConfigurationsExist, EvidenceExists}
+use Rattle.list_exists.proofs.Search.{above-some, first-or-all}
 use Rattle.list_exists.proofs.Numbering.{same-list}
-use Rattle.list_exists.proofs.Order.{below-almost-full}
-use Rattle.list_exists.proofs.Search.{search-ends}
+use Rattle.list_exists.proofs.Order.{decided-as, both-decided, all-decided, below-decided}
+use Rattle.list_exists.proofs.Enumeration.{Small, configurations}
+use Rattle.list_exists.proofs.Reaching.{reaches-above, reaches-before, least-found}
 use Rattle.list_exists.proofs.Trimming.{First, trimmed}
+
+-- ---- starts are small
+
+empty-decided : (xs : List ℕ) → Dec (xs ≡ [])
+empty-decided [] = yes refl
+empty-decided (x ∷ xs) = no cons≢nil
+
+start-decided : (P : Program) (c : Configuration) → ConfigurationOf P c → Dec (Start P c)
+start-decided P c o =
+    let n = P .shape .processes in
+    let k = P .shape .variables in
+    decided-as
+    (λ r. record { configuration = o; states = r .0; queues = λ p v a b. r .1 p a v b; one = r .2; pointers = r .3 })
+    (λ s. (s .states, λ p a v b. s .queues p v a b, s .one, s .pointers))
+    (four
+    (all-decided n (λ p. c .state p ≡ P .initial p) (λ p a. ℕ-discrete (c .state p) (P .initial p)))
+    (all-decided n (λ p. (v : ℕ) → v < k → c .queue p v ≡ []) (λ p a. all-decided k (λ v. c .queue p v ≡ []) (λ v b. empty-decided (c .queue p v))))
+    (ℕ-discrete (length (c .memory .channel)) 1)
+    (all-decided n (λ p. c .memory .pointer p ≡ 1) (λ p a. ℕ-discrete (c .memory .pointer p) 1)))
+  where
+    four : {A B C D : Type 0} → Dec A → Dec B → Dec C → Dec D → Dec (A × B × C × D)
+    four a b c d = decided-as (λ r. (r .0 .0, r .0 .1, r .1 .0, r .1 .1)) (λ r. ((r .0, r .1), (r .2, r .3))) (both-decided (both-decided a b) (both-decided c d))
+
+-- a start is above the list, or none is
+start-above : (P : Program) → WellFormed P → (xs : List (Of P)) → ((c : Configuration) × Start P c × AboveOne P xs c) ⊎ ((c : Configuration) → Start P c → AboveOne P xs c → ⊥)
+start-above P R xs =
+    let L = configurations P (R .shape) 1 0 in
+    ⊎-elim (λ r. inl (r .0, r .1 .0, r .1 .1))
+    (λ f. inr (λ c s. f c (L .complete c (record { channel = omega (arith, s .one); queues = λ p v a b. rw (s .queues p v a b) (omega arith) }, s .configuration)) s))
+    (first-or-all (λ c. Start P c × AboveOne P xs c) (λ c. Start P c → AboveOne P xs c → ⊥) (L .list) (λ c m. go c (start-decided P c (L .sound c m .1))))
+  where
+    go : (c : Configuration) → Dec (Start P c) → (Start P c × AboveOne P xs c) ⊎ (Start P c → AboveOne P xs c → ⊥)
+    go c (yes s) = ⊎-elim (λ A. inl (s, A)) (λ n. inr (λ t A. n (A .0) (A .1) (A .2))) (above-some (BelowOf P) (below-decided P) xs (c, s .configuration))
+    go c (no n) = inr (λ s. absurd (n s))
+
+-- ---- the theorem
+
+run-found : (P : Program) (ts : List (ℕ → ℕ)) (c : Configuration) → Start P c → Reaches P ts c → RunFound P ts
+run-found P ts c s r =
+    record {
+      memory = startingMemory c;
+      number = r .number;
+      exists = r .exists;
+      reachable = record { first = c; starts = start-of P (startingMemory c) c s refl; steps = r .steps; last = r .last; takes = r .takes; reached = r .reached };
+    }
+
+pub configurations-exist : ConfigurationsExist
+configurations-exist P R ts =
+    let b = least-found P R ts in
+    let reaches : (c : Configuration) → ConfigurationOf P c → AboveOne P (b .list) c → Reaches P ts c =
+    λ c o A. reaches-above P R ts (A .0 .0) c (A .0 .1) o (A .2) (b .members (A .0) (A .1)) in
+    ⊎-elim
+    (λ r. inl (run-found P ts (r .0) (r .1) (reaches (r .0) (r .1 .configuration) (r .2))))
+    (λ n. inr (
+      b .list,
+      record {
+        targets = λ c o k l i. b .all (c, o) (record { number = k; exists = l; steps = []; last = c; takes = done; reached = i });
+        starts = n;
+        before = λ c o s t A. b .all (c, o) (reaches-before P ts c s t (reaches (after P c s) (step-configuration P R c o s t) A));
+      },
+    ))
+    (start-above P R (b .list))
 
 -- ---- a configuration as an entry: it has no FF, and stands for itself alone
 
@@ -122,142 +181,61 @@ configuration-entry P c o =
           };
     }
 
--- ---- what is above a configuration that reaches a target reaches it too
+-- ---- as a list of entries, without the messages older than the lowest pointer
 
-takes-join : {P : Program} {c d e : Configuration} {ss us : List Step} → Takes P c ss d → Takes P d us e → Takes P c (ss ++ us) e
-takes-join done r = r
-takes-join (step s t q) r = step s t (takes-join q r)
-
-pub follows : (P : Program) → WellFormed P → {c e : Configuration} (d : Configuration) {ss : List Step} → ConfigurationOf P c → ConfigurationOf P d
-    → Below (P .shape) c d → Takes P c ss e → (us : List Step) × (f : Configuration) × Takes P d us f × Below (P .shape) e f
-follows P R d oc od B done = ([], d, done, B)
-follows P R d oc od B (step {c = c} s t r) =
-    let f = simulate P R c d oc od B s t in
-    let g = follows P R (f .answer .to) (step-configuration P R c oc s t) (takes-configuration R od (f .answer .takes)) (f .below) r in
-    (f .answer .steps ++ g .0, g .1, takes-join (f .answer .takes) (g .2), g .3)
-
--- steps that lead to one of the targets
-pub record Reaches (P : Program) (ts : List (ℕ → ℕ)) (c : Configuration) : Type 0 where
-  pub number : ℕ
-  pub exists : number < length ts
-  pub steps : List Step
-  pub last : Configuration
-  pub takes : Takes P c steps last
-  pub reached : InTarget (P .shape) (target ts number) last
-
-pub reaches-above : (P : Program) → WellFormed P → (ts : List (ℕ → ℕ)) (c d : Configuration) → ConfigurationOf P c → ConfigurationOf P d
-    → Below (P .shape) c d → Reaches P ts c → Reaches P ts d
-reaches-above P R ts c d oc od B r =
-    let f = follows P R d oc od B (r .takes) in
-    record {
-      number = r .number;
-      exists = r .exists;
-      steps = f .0;
-      last = f .1;
-      takes = f .2;
-      reached = λ p l. sym (f .3 .states p l) ∙ r .reached p l;
-    }
-
-pub reaches-before : (P : Program) (ts : List (ℕ → ℕ)) (c : Configuration) (s : Step) → T (may P c s) → Reaches P ts (after P c s) → Reaches P ts c
-reaches-before P ts c s t r =
-    record { number = r .number; exists = r .exists; steps = s ∷ r .steps; last = r .last; takes = step s t (r .takes); reached = r .reached }
-
--- ---- the search
-
-module _ (P : Program) (R : WellFormed P) (N : NoValueIsFF (P .shape)) (ts : List (ℕ → ℕ)) (ots : TargetsOf P ts) where
+module _ (P : Program) (R : WellFormed P) (N : NoValueIsFF (P .shape)) where
   abbrev S : Shape
   S = P .shape
 
-  -- what the search adds to its list
-  record Added : Type 0 where
-    configuration : Configuration
-    of : ConfigurationOf P configuration
-    first : (p : ℕ) × (p < P .shape .processes) × (configuration .memory .pointer p ≡ 1)
-    reaches : Reaches P ts configuration
+  first : (x : Of P) → First P (x .0)
+  first x = trimmed P (R .shape .someProcess) (x .0) (x .1)
 
-  abbrev Order : Added → Added → Type 0
-  Order a b = Below (P .shape) (a .configuration) (b .configuration)
-
-  order-almost-full : AlmostFull Order
-  order-almost-full = of-image (λ a. (a .configuration, a .of)) Order (λ a b B. B) (below-almost-full P)
-
-  abbrev entries : List Added → List Configuration
+  entries : List (Of P) → List Configuration
   entries [] = []
-  entries (a ∷ added) = a .configuration ∷ entries added
+  entries (x ∷ xs) = first x .configuration ∷ entries xs
 
   -- the entry of number k is one of them
-  at : (added : List Added) (k : ℕ) → k < length (entries added) → (a : Added) × (entry (entries added) k ≡ a .configuration)
+  at : (xs : List (Of P)) (k : ℕ) → k < length (entries xs) → (x : Of P) × List·Memᴰ x xs × (entry (entries xs) k ≡ first x .configuration)
+  unfolding entries
   at [] k l = absurd (omega arith)
-  at (a ∷ added) zero l = (a, refl)
-  at (a ∷ added) (suc k) l = at added k (omega arith)
+  at (x ∷ xs) zero l = (x, List·Memᴰ·head refl, refl)
+  at (x ∷ xs) (suc k) l = let r = at xs k (omega arith) in (r .0, List·Memᴰ·tail (r .1), r .2)
 
-  entries-of : (added : List Added) (k : ℕ) → k < length (entries added) → EntryOf P (entry (entries added) k)
-  entries-of added k l = let r = at added k l in subst (EntryOf P) (sym (r .1)) (configuration-entry P (r .0 .configuration) (r .0 .of))
+  one-above : (xs : List (Of P)) (d : Configuration) → AboveList S (entries xs) d → AboveOne P xs d
+  one-above xs d A =
+      let r = at xs (A .number) (A .exists) in
+      let f = first (r .0) in
+      (r .0, r .1, below-trans (f .above) (above-below S N (f .configuration) d (f .of .fits) (subst (λ (e : Configuration). Above S e d) (r .2) (A .above))))
 
-  entries-first : (added : List Added) (k : ℕ) → k < length (entries added) → (p : ℕ) × (p < P .shape .processes) × (entry (entries added) k .memory .pointer p ≡ 1)
-  entries-first added k l =
-      let r = at added k l in
-      subst (λ (e : Configuration). (p : ℕ) × (p < P .shape .processes) × (e .memory .pointer p ≡ 1)) (sym (r .1)) (r .0 .first)
-
-  -- what is above an entry reaches a target
-  reaches-entry : (added : List Added) (k : ℕ) → k < length (entries added) → (d : Configuration) → ConfigurationOf P d → Above S (entry (entries added) k) d → Reaches P ts d
-  reaches-entry added k l d o A =
-      let r = at added k l in
-      let a = r .0 in
-      reaches-above P R ts (a .configuration) d (a .of) o
-      (above-below S N (a .configuration) d (a .of .fits) (subst (λ (e : Configuration). Above S e d) (r .1) A)) (a .reaches)
-
-  -- one that is above one of them is above the list
-  member-above : (added : List Added) (x : Added) → List·Memᴰ x added → (d : Configuration) → Below S (x .configuration) d → AboveList S (entries added) d
-  member-above [] x m d B = absurd (List·Memᴰ·not-nil m)
-  member-above (a ∷ added) x m d B = ⊎-elim
-      (λ e. record {
+  above-one : (xs : List (Of P)) (x : Of P) → List·Memᴰ x xs → (d : Configuration) → Below S (x .0) d → AboveList S (entries xs) d
+  unfolding entries
+  above-one [] x m d B = absurd (List·Memᴰ·not-nil m)
+  above-one (y ∷ xs) x m d B = ⊎-elim
+      (λ e.
+      let f = first y in
+      record {
         number = 0;
         exists = omega arith;
-        above = below-above S (a .configuration) d (a .of .fits) (subst (λ (y : Added). Below S (y .configuration) d) e B);
+        above = below-above S (f .configuration) d (f .of .fits) (below-trans (f .below) (subst (λ (z : Of P). Below S (z .0) d) e B));
       })
-      (λ t. let A = member-above added x t d B in record { number = suc (A .number); exists = omega (arith, A .exists); above = A .above })
+      (λ t. let A = above-one xs x t d B in record { number = suc (A .number); exists = omega (arith, A .exists); above = A .above })
       (List·Memᴰ·cases-cons m)
 
-  -- a configuration that reaches a target and is not above the list, without the messages older than its lowest pointer
-  add : (added : List Added) (c : Configuration) → ConfigurationOf P c → Reaches P ts c → (AboveList S (entries added) c → ⊥) → (a : Added) × AboveNone Order added a
-  add added c o r out =
-      let t = trimmed P (R .shape .someProcess) c o in (
-        record { configuration = t .configuration; of = t .of; first = t .first; reaches = reaches-above P R ts c (t .configuration) o (t .of) (t .above) r },
-        λ x m B. out (list-up (member-above added x m (t .configuration) B) (t .below)),
-      )
-
-  abbrev Evidence : Type 0
-  Evidence = RunFound P ts ⊎ ListFound P ts
-
-  next : (added : List Added) → Evidence ⊎ ((a : Added) × AboveNone Order added a)
-  next added = go (verdictOf P ts (entries added)) (verdict-judged P R N (entries added) (entries-of added) ts ots (entries-first added))
-    where
-      go : (v : ListVerdict) → ListJudged P ts (entries added) v → Evidence ⊎ ((a : Added) × AboveNone Order added a)
-      go (safe n) j = inl (inr (record { entries = entries added; of = entries-of added; first = entries-first added; safe = j .1 }))
-      go (unheld k) j =
-          let m = j .missed in
-          inr (add added (m .configuration) (m .of)
-          (record { number = k; exists = j .exists; steps = []; last = m .configuration; takes = done; reached = m .inTarget }) (m .outside))
-      go (started k) j =
-          let s = j .start in
-          let c = s .configuration in
-          let r = reaches-entry added k (j .exists) c (s .start .configuration) (s .above) in
-          inl (inl (record {
-            memory = startingMemory c;
-            number = r .number;
-            exists = r .exists;
-            reachable = record { first = c; starts = start-of P (startingMemory c) c (s .start) refl; steps = r .steps; last = r .last; takes = r .takes; reached = r .reached };
-          }))
-      go (entered k s) j =
-          let w = j .way .way in
-          let c = w .configuration in
-          inr (add added c (w .of)
-          (reaches-before P ts c s (w .permitted) (reaches-entry added k (j .exists) (after P c s) (step-configuration P R c (w .of) s (w .permitted)) (w .above)))
-          (w .outside))
-
-  found : Evidence
-  found = search-ends Added Order order-almost-full (λ added. Evidence) next .1
+  list-found : (ts : List (ℕ → ℕ)) (xs : List (Of P)) → SafeConfigurations P ts xs → ListFound P ts
+  list-found ts xs s =
+      record {
+        entries = entries xs;
+        of = λ k l. let r = at xs k l in subst (EntryOf P) (sym (r .2)) (configuration-entry P (first (r .0) .configuration) (first (r .0) .of));
+        first = λ k l.
+            let r = at xs k l in
+            subst (λ (e : Configuration). (p : ℕ) × (p < P .shape .processes) × (e .memory .pointer p ≡ 1)) (sym (r .2)) (first (r .0) .first);
+        safe =
+            record {
+              targets = λ c o k l i. let A = s .targets c o k l i in above-one xs (A .0) (A .1) c (A .2);
+              starts = λ c i A. s .starts c i (one-above xs c A);
+              before = λ c o step t A. let B = s .before c o step t (one-above xs (after P c step) A) in above-one xs (B .0) (B .1) c (B .2);
+            };
+      }
 
 pub evidence-exists : EvidenceExists
-evidence-exists P R N ts o = found P R N ts o
+evidence-exists P R N ts = ⊎-elim inl (λ r. inr (list-found P R N ts (r .0) (r .1))) (configurations-exist P R ts)

@@ -207,7 +207,7 @@ module _ (P : Program) (R : WellFormed P) (c : Configuration) (oc : Configuratio
   leave-after (Update p) t =
       let r = update-yes P c p t in
       let e : suc (down k (m .pointer p)) ≡ down k (suc (m .pointer p)) = ⊎-elim
-          (λ a. ap suc (a .1) ∙ sym (down-low k (suc (m .pointer p)) (omega (arith, a .0))))
-          (λ a. ap suc (a .1) ∙ omega (arith, a .0) ∙ sym (down-high k (suc (m .pointer p)) (omega (arith, a .0))))
-          (down-cases k (m .pointer p) (not-pointer p (r .0))) in
+      (λ a. ap suc (a .1) ∙ sym (down-low k (suc (m .pointer p)) (omega (arith, a .0))))
+      (λ a. ap suc (a .1) ∙ omega (arith, a .0) ∙ sym (down-high k (suc (m .pointer p)) (omega (arith, a .0))))
+      (down-cases k (m .pointer p) (not-pointer p (r .0))) in
       λ i. record { state = c .state; queue = c .queue; memory = point-left-out m k p (suc (m .pointer p)) (suc (down k (m .pointer p))) e i }

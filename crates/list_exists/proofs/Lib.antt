@@ -3,10 +3,11 @@ pub mod Higman
 pub mod Search
 pub mod Numbering
 pub mod Order
-pub mod Trimming
-pub mod Evidence
-pub mod Pso
 pub mod Enumeration
 pub mod Leaving
 pub mod Small
 pub mod Shorter
+pub mod Reaching
+pub mod Trimming
+pub mod Evidence
+pub mod Pso

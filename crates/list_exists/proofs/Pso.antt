@@ -1,18 +1,27 @@
 -- What evidence says of the PSO machine, by `same-reachability`.
-use Prim.Native.Nat.{ℕ, zero, suc, _<_}
-use mathlib.Core.Path.{_≡_, refl, subst}
+use Prim.Native.Nat.{ℕ, _<_}
+use mathlib.Core.Path.{_≡_, subst}
 use mathlib.Core.Logic.{_⊎_, inl, inr, ⊎-elim}
 use mathlib.Core.List.{List, [], _∷_}
 use native.Mathlib.Omega.{arith}
 use lib.ListN.{length}
+use lib.Dec.{T}
+use Rattle.machine_pws.specs.declared.Step.{Step}
 use Rattle.machine_pws.specs.Program.{Program, WellFormed}
+use Rattle.machine_pws.specs.Machine.{Configuration}
+use Rattle.machine_pws.specs.Configurations.{ConfigurationOf, InTarget}
+use Rattle.machine_pws.specs.Sequences.{Takes, done, step}
+use Rattle.machine_pws.proofs.Steps.{step-configuration}
 use Rattle.machine_equal.specs.Equivalence.{PwsReachable}
 use Rattle.machine_equal.proofs.Reachability.{permitted-start, takes-visited, same-reachability}
 use Rattle.machine_pso.specs.Runs.{PsoReachable}
-use Rattle.list_theory.specs.Verdict.{target, SafeList}
+use Rattle.list_theory.specs.Verdict.{target}
 use Rattle.list_theory.proofs.Verdict.{safe-visited}
-use Rattle.list_exists.specs.Evidence.{RunFound, ListFound, NeverBoth, PsoRunFound, PsoUnreachable, PsoEvidenceExists, PsoDecided}
-use Rattle.list_exists.proofs.Evidence.{evidence-exists}
+use Rattle.list_exists.specs.Order.{Of}
+use Rattle.list_exists.specs.Evidence.{RunFound, AboveOne, SafeConfigurations, ListFound, NeverBoth, PsoRunFound, PsoUnreachable, PsoEvidenceExists, PsoDecided}
+use Rattle.list_exists.proofs.Evidence.{configurations-exist, evidence-exists}
+
+-- ---- lists of entries
 
 -- no run reaches a target that a safe list holds
 no-run : (P : Program) → WellFormed P → (ts : List (ℕ → ℕ)) → ListFound P ts → (memory : List ℕ) (k : ℕ) → k < length ts → PwsReachable P memory (target ts k) → ⊥
@@ -22,23 +31,37 @@ no-run P R ts f memory k l r =
 pub never-both : NeverBoth
 never-both P R ts r f = no-run P R ts f (r .memory) (r .number) (r .exists) (r .reachable)
 
-pub pso-evidence-exists : PsoEvidenceExists
-pso-evidence-exists P R N ts o = ⊎-elim
-    (λ r. inl (record {
+pso-run : (P : Program) → WellFormed P → (ts : List (ℕ → ℕ)) → RunFound P ts → PsoRunFound P ts
+pso-run P R ts r =
+    record {
       memory = r .memory;
       number = r .number;
       exists = r .exists;
       reachable = same-reachability P R (r .memory) (target ts (r .number)) .0 (r .reachable);
-    }))
-    (λ f. inr (f, λ memory k l q. no-run P R ts f memory k l (same-reachability P R memory (target ts k) .1 q)))
-    (evidence-exists P R N ts o)
+    }
 
--- the only target of a list of one
-only : (t : ℕ → ℕ) (k : ℕ) → k < 1 → k ≡ 0
-only t k l = omega arith
+pub pso-evidence-exists : PsoEvidenceExists
+pso-evidence-exists P R N ts = ⊎-elim
+    (λ r. inl (pso-run P R ts r))
+    (λ f. inr (f, λ memory k l q. no-run P R ts f memory k l (same-reachability P R memory (target ts k) .1 q)))
+    (evidence-exists P R N ts)
+
+-- ---- lists of configurations
+
+-- what is not above a safe one stays so
+stays-outside : (P : Program) → WellFormed P → (ts : List (ℕ → ℕ)) (xs : List (Of P)) → SafeConfigurations P ts xs → (k : ℕ) → k < length ts → {c d : Configuration} {ss : List Step}
+    → ConfigurationOf P c → (AboveOne P xs c → ⊥) → Takes P c ss d → InTarget (P .shape) (target ts k) d → ⊥
+stays-outside P R ts xs s k l {c} o n done i = n (s .targets c o k l i)
+stays-outside P R ts xs s k l o n (step {c = c} u t r) i = stays-outside P R ts xs s k l (step-configuration P R c o u t) (λ A. n (s .before c o u t A)) r i
 
 pub pso-decided : PsoDecided
-pso-decided P R N t o = ⊎-elim
-    (λ r. yes (r .memory, subst (λ (k : ℕ). PsoReachable P (r .memory) (target (t ∷ []) k)) (only t (r .number) (r .exists)) (r .reachable)))
-    (λ f. no (λ q. f .1 (q .0) 0 (omega arith) (q .1)))
-    (pso-evidence-exists P R N (t ∷ []) (λ k l. rw (only t k l) o))
+pso-decided P R t = ⊎-elim
+    (λ r.
+    let q = pso-run P R (t ∷ []) r in
+    let only : q .number ≡ 0 = omega (arith, q .exists) in
+    yes (q .memory, subst (λ (k : ℕ). PsoReachable P (q .memory) (target (t ∷ []) k)) only (q .reachable)))
+    (λ f. no (λ q.
+    let w = same-reachability P R (q .0) t .1 (q .1) in
+    let s = permitted-start P (q .0) (w .first) (w .starts) in
+    stays-outside P R (t ∷ []) (f .0) (f .1) 0 (omega arith) (s .configuration) (f .1 .starts (w .first) s) (w .takes) (w .reached)))
+    (configurations-exist P R (t ∷ []))

@@ -35,11 +35,19 @@ module _ {A : Type 0} (R : A → A → Type 0) where
 pub search-ends : SearchEnds
 search-ends A R a Done next = search R Done next a [] (λ y z f n. f)
 
+-- one of the list has F, or all have G
+pub first-or-all : {A : Type 0} (F G : A → Type 0) (xs : List A) → ((x : A) → List·Memᴰ x xs → F x ⊎ G x) → ((x : A) × F x) ⊎ ((x : A) → List·Memᴰ x xs → G x)
+first-or-all F G [] d = inr (λ x m. absurd (List·Memᴰ·not-nil m))
+first-or-all F G (x ∷ xs) d = ⊎-elim
+    (λ f. inl (x, f))
+    (λ g. ⊎-elim inl (λ h. inr (λ y m. ⊎-elim (λ e. subst G (sym e) g) (h y) (List·Memᴰ·cases-cons m))) (first-or-all F G xs (λ y m. d y (List·Memᴰ·tail m))))
+    (d x (List·Memᴰ·head refl))
+
 -- ---- least elements of a list
 
 module _ {A : Type 0} (R : A → A → Type 0) (D : Decided R) where
   -- a is above one of the list, or above none
-  above-some : (xs : List A) (a : A) → ((x : A) × List·Memᴰ x xs × R x a) ⊎ AboveNone R xs a
+  pub above-some : (xs : List A) (a : A) → ((x : A) × List·Memᴰ x xs × R x a) ⊎ AboveNone R xs a
   above-some [] a = inr (λ x m r. List·Memᴰ·not-nil m)
   above-some (x ∷ xs) a = elim (D .decided x a) [
     | yes r ↦ inl (x, List·Memᴰ·head refl, r)

@@ -180,7 +180,7 @@ module _ (P : Program) (R : WellFormed P) (e : Configuration) (oe : Configuratio
       let w = R .transitions n (r .0) in
       let a = and-yes (eqb (c .state (q .process)) (q .from)) (mayOperate S c (q .process) (q .operation)) (r .1) in
       let f : (p v : ℕ) → p < S .processes → v < S .variables → QueueBelow (e .queue p v) (c .queue p v) =
-          λ p v x y. subst (λ (Q : ℕ → ℕ → List ℕ). QueueBelow (e .queue p v) (Q p v)) (queue-own c (q .process) (q .operation) k) (b .above .queues p v x y) in
+      λ p v x y. subst (λ (Q : ℕ → ℕ → List ℕ). QueueBelow (e .queue p v) (Q p v)) (queue-own c (q .process) (q .operation) k) (b .above .queues p v x y) in
       with-queues (Take n) c b l (e .queue) (own c f)
       (yes-take P (withQueues c (e .queue)) n (r .0)
       (yes-and (eqb (c .state (q .process)) (q .from)) (mayOperate S (withQueues c (e .queue)) (q .process) (q .operation)) (a .0)
@@ -201,12 +201,12 @@ module _ (P : Program) (R : WellFormed P) (e : Configuration) (oe : Configuratio
       let a = and-yes (eqb (c .state p) (q .from)) (mayOperate S c p (q .operation)) (r .1) in
       let after-is : (d : Configuration) → queueAfter d p (q .operation) ≡ putQueue (d .queue) p v (d .queue p v ++ (x ∷ [])) = λ d. ap (queueAfter d p) eq in
       let old : (r u : ℕ) → r < S .processes → u < S .variables → QueueBelow (e .queue r u) (putQueue (c .queue) p v (c .queue p v ++ (x ∷ [])) r u) =
-          λ r u y z. subst (λ (Q : ℕ → ℕ → List ℕ). QueueBelow (e .queue r u) (Q r u)) (after-is c) (b .above .queues r u y z) in
+      λ r u y z. subst (λ (Q : ℕ → ℕ → List ℕ). QueueBelow (e .queue r u) (Q r u)) (after-is c) (b .above .queues r u y z) in
       let here = subst (QueueBelow (e .queue p v)) (putQueue-same (c .queue) p v (c .queue p v ++ (x ∷ []))) (old p v (w .process) ve) in
       let k = shrink (c .queue p v) x (e .queue p v) (queue-to here) in
       let Q = putQueue (e .queue) p v (k .queue) in
       let o = own-but c p v (w .process) ve (k .queue)
-          (λ r u y z m. subst (QueueBelow (e .queue r u)) (putQueue-other (c .queue) p v (c .queue p v ++ (x ∷ [])) r u m) (old r u y z)) (queue-of (k .below)) (k .short) in
+      (λ r u y z m. subst (QueueBelow (e .queue r u)) (putQueue-other (c .queue) p v (c .queue p v ++ (x ∷ [])) r u m) (old r u y z)) (queue-of (k .below)) (k .short) in
       with-queues (Take n) c b l Q o
       (yes-take P (withQueues c Q) n (r .0)
       (yes-and (eqb (c .state p) (q .from)) (mayOperate S (withQueues c Q) p (q .operation)) (a .0) (subst (λ (o : Operation). T (mayOperate S (withQueues c Q) p o)) (sym eq) tt)))
@@ -231,13 +231,13 @@ module _ (P : Program) (R : WellFormed P) (e : Configuration) (oe : Configuratio
   serialise-with p v c b l x q eq =
       let r = serialise-yes P c p v (b .permitted) in
       let old : (r u : ℕ) → r < S .processes → u < S .variables → QueueBelow (e .queue r u) (putQueue (c .queue) p v q r u) =
-          λ r u y z. subst (λ (w : List ℕ). QueueBelow (e .queue r u) (putQueue (c .queue) p v (withoutOldest w) r u)) eq (b .above .queues r u y z) in
+      λ r u y z. subst (λ (w : List ℕ). QueueBelow (e .queue r u) (putQueue (c .queue) p v (withoutOldest w) r u)) eq (b .above .queues r u y z) in
       let here = subst (QueueBelow (e .queue p v)) (putQueue-same (c .queue) p v q) (old p v (r .0) (r .1)) in
       let xs = x ∷ e .queue p v in
       let Q = putQueue (e .queue) p v xs in
       let is : Q p v ≡ xs = putQueue-same (e .queue) p v xs in
       let o = own-but c p v (r .0) (r .1) xs (λ r u y z m. subst (QueueBelow (e .queue r u)) (putQueue-other (c .queue) p v q r u m) (old r u y z))
-          (subst (QueueBelow xs) (sym eq) (queue-of (keep refl (queue-to here)))) (omega arith) in
+      (subst (QueueBelow xs) (sym eq) (queue-of (keep refl (queue-to here)))) (omega arith) in
       with-queues (Serialise p v) c b l Q o
       (yes-serialise P (withQueues c Q) p v (r .0) (r .1) (subst (λ (w : List ℕ). T (not (isEmpty w))) (sym is) tt))
       (b .above .states)

@@ -2,19 +2,38 @@
 use Prim.Native.Nat.{ℕ, _<_}
 use mathlib.Core.Path.{_≡_}
 use mathlib.Core.Logic.{_⊎_}
-use mathlib.Core.List.{List}
+use mathlib.Core.List.{List, List·Memᴰ}
 use lib.ListN.{length}
+use lib.Dec.{T}
+use Rattle.machine_pws.specs.declared.Step.{Step}
 use Rattle.machine_pws.specs.Program.{Program, WellFormed}
-use Rattle.machine_pws.specs.Machine.{Configuration}
-use Rattle.machine_pws.specs.Configurations.{StatesOf}
+use Rattle.machine_pws.specs.Machine.{Configuration, may, after}
+use Rattle.machine_pws.specs.Configurations.{ConfigurationOf, Start, InTarget}
+use Rattle.machine_pws.specs.Order.{Below}
 use Rattle.machine_pws.specs.Entries.{NoValueIsFF, EntryOf, entry}
+use Rattle.machine_pws.specs.Sequences.{Takes}
 use Rattle.machine_pso.specs.Runs.{PsoReachable}
 use Rattle.machine_equal.specs.Equivalence.{PwsReachable}
 use Rattle.list_theory.specs.Verdict.{target, SafeList}
+use Rattle.list_exists.specs.AlmostFull.{Basis}
+use Rattle.list_exists.specs.Order.{Of, BelowOf}
 
--- the local states of the targets exist
-abbrev pub TargetsOf : Program → List (ℕ → ℕ) → Type 0
-TargetsOf P ts = (k : ℕ) → k < length ts → StatesOf P (target ts k)
+-- ---- backward from the targets
+
+-- steps that lead from c to one of the targets
+pub record Reaches (P : Program) (ts : List (ℕ → ℕ)) (c : Configuration) : Type 0 where
+  pub number : ℕ
+  pub exists : number < length ts
+  pub steps : List Step
+  pub last : Configuration
+  pub takes : Takes P c steps last
+  pub reached : InTarget (P .shape) (target ts number) last
+
+-- the least configurations that reach a target are finitely many, and are found
+abbrev pub LeastFound : Type 0
+LeastFound = (P : Program) → WellFormed P → (ts : List (ℕ → ℕ)) → Basis (BelowOf P) (λ c. Reaches P ts (c .0))
+
+-- ---- evidence of the two kinds
 
 -- a memory and steps that reach a target
 pub record RunFound (P : Program) (ts : List (ℕ → ℕ)) : Type 0 where
@@ -22,6 +41,16 @@ pub record RunFound (P : Program) (ts : List (ℕ → ℕ)) : Type 0 where
   pub number : ℕ
   pub exists : number < length ts
   pub reachable : PwsReachable P memory (target ts number)
+
+-- c is above one of the list
+abbrev pub AboveOne : (P : Program) → List (Of P) → Configuration → Type 0
+AboveOne P xs c = (x : Of P) × List·Memᴰ x xs × Below (P .shape) (x .0) c
+
+-- demand 2's sentences of a list, for a list of configurations: they have no FF
+pub record SafeConfigurations (P : Program) (ts : List (ℕ → ℕ)) (xs : List (Of P)) : Type 0 where
+  pub targets : (c : Configuration) → ConfigurationOf P c → (k : ℕ) → k < length ts → InTarget (P .shape) (target ts k) c → AboveOne P xs c
+  pub starts : (c : Configuration) → Start P c → AboveOne P xs c → ⊥
+  pub before : (c : Configuration) → ConfigurationOf P c → (s : Step) → T (may P c s) → AboveOne P xs (after P c s) → AboveOne P xs c
 
 -- finitely many entries of the program, each with a pointer at its first message as the format asks (document 01, refusal 7), that are safe
 -- in demand 2's words
@@ -31,9 +60,15 @@ pub record ListFound (P : Program) (ts : List (ℕ → ℕ)) : Type 0 where
   pub first : (k : ℕ) → k < length entries → (p : ℕ) × (p < P .shape .processes) × (entry entries k .memory .pointer p ≡ 1)
   pub safe : SafeList P ts entries
 
+-- ---- the theorem: every well-formed program has evidence, for any targets
+
+-- with no bound of any kind
+abbrev pub ConfigurationsExist : Type 0
+ConfigurationsExist = (P : Program) → WellFormed P → (ts : List (ℕ → ℕ)) → RunFound P ts ⊎ ((xs : List (Of P)) × SafeConfigurations P ts xs)
+
+-- as a list of entries, if FF is no value: else an entry cannot have the value 255, and there may be no list
 abbrev pub EvidenceExists : Type 0
-EvidenceExists =
-    (P : Program) → WellFormed P → NoValueIsFF (P .shape) → (ts : List (ℕ → ℕ)) → TargetsOf P ts → RunFound P ts ⊎ ListFound P ts
+EvidenceExists = (P : Program) → WellFormed P → NoValueIsFF (P .shape) → (ts : List (ℕ → ℕ)) → RunFound P ts ⊎ ListFound P ts
 
 -- never both
 abbrev pub NeverBoth : Type 0
@@ -52,9 +87,8 @@ abbrev pub PsoUnreachable : Program → List (ℕ → ℕ) → Type 0
 PsoUnreachable P ts = (memory : List ℕ) (k : ℕ) → k < length ts → PsoReachable P memory (target ts k) → ⊥
 
 abbrev pub PsoEvidenceExists : Type 0
-PsoEvidenceExists =
-    (P : Program) → WellFormed P → NoValueIsFF (P .shape) → (ts : List (ℕ → ℕ)) → TargetsOf P ts → PsoRunFound P ts ⊎ (ListFound P ts × PsoUnreachable P ts)
+PsoEvidenceExists = (P : Program) → WellFormed P → NoValueIsFF (P .shape) → (ts : List (ℕ → ℕ)) → PsoRunFound P ts ⊎ (ListFound P ts × PsoUnreachable P ts)
 
--- reachability under partial store order is decided (report, 5.4)
+-- reachability under partial store order is decided, for every well-formed program
 abbrev pub PsoDecided : Type 0
-PsoDecided = (P : Program) → WellFormed P → NoValueIsFF (P .shape) → (t : ℕ → ℕ) → StatesOf P t → Dec ((memory : List ℕ) × PsoReachable P memory t)
+PsoDecided = (P : Program) → WellFormed P → (t : ℕ → ℕ) → Dec ((memory : List ℕ) × PsoReachable P memory t)
