@@ -7,6 +7,7 @@ pub mod Enumeration
 pub mod Leaving
 pub mod Small
 pub mod Shorter
+pub mod WellStructured
 pub mod Reaching
 pub mod Trimming
 pub mod Evidence

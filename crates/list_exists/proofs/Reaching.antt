@@ -2,12 +2,10 @@
 use Prim.Native.Nat.{ℕ, zero, suc, _<_, _≤_}
 use mathlib.Core.Path.{_≡_, refl, sym, ap, subst, _∙_}
 use mathlib.Core.Logic.{_⊎_, inl, inr, ⊎-elim, _≢_}
-use mathlib.Core.Bool.{not}
 use mathlib.Core.List.{List, [], _∷_, _++_, List·Memᴰ, List·Memᴰ·head, Memᴰ·append-left, Memᴰ·append-right}
 use native.Mathlib.Omega.{arith}
-use native.Mathlib.Decide.{ℕ-discrete}
 use lib.ListN.{length}
-use lib.Dec.{T, T-not}
+use lib.Dec.{T}
 use Rattle.machine_pws.specs.declared.Step.{Step}
 use Rattle.machine_pws.specs.declared.Step.the-variants.{Take, Serialise, Update}
 use Rattle.machine_pws.specs.Program.{Shape, Program, WellFormed}
@@ -15,11 +13,9 @@ use Rattle.machine_pws.specs.Machine.{Configuration, may, after}
 use Rattle.machine_pws.specs.Configurations.{ConfigurationOf, InTarget}
 use Rattle.machine_pws.specs.Order.{Below}
 use Rattle.machine_pws.specs.Sequences.{Takes, done, step}
-use Rattle.machine_pws.proofs.Facts.{T-or-not}
 use Rattle.machine_pws.proofs.Preorder.{below-trans}
 use Rattle.machine_pws.proofs.Steps.{step-configuration, takes-configuration, take-yes, serialise-yes, update-yes}
 use Rattle.machine_pws.proofs.Simulation.{simulate}
-use Rattle.machine_pws.proofs.Dropping.{lastOnly, smaller}
 use Rattle.list_theory.specs.Lists.{forBelow}
 use Rattle.list_theory.specs.Predecessors.{steps}
 use Rattle.list_theory.specs.Verdict.{target}
@@ -28,10 +24,9 @@ use Rattle.list_exists.specs.AlmostFull.{AboveNone, Basis}
 use Rattle.list_exists.specs.Order.{Of, BelowOf}
 use Rattle.list_exists.specs.Evidence.{Reaches, AboveOne, LeastFound}
 use Rattle.list_exists.proofs.Search.{above-some, first-or-all, basis-found}
-use Rattle.list_exists.proofs.Order.{all-decided, below-almost-full, below-decided}
-use Rattle.list_exists.proofs.Enumeration.{Small, numbers, configurations}
-use Rattle.list_exists.proofs.Small.{rolesBound, irreducible-length, channelBound}
-use Rattle.list_exists.proofs.Shorter.{queueBound, small-before}
+use Rattle.list_exists.proofs.Order.{below-almost-full, below-decided}
+use Rattle.list_exists.proofs.Enumeration.{numbers}
+use Rattle.list_exists.proofs.WellStructured.{targets-found, predecessors-found}
 
 -- ---- what is above a configuration that reaches a target reaches it too
 
@@ -88,11 +83,6 @@ step-listed P c s t = go s t
     go (Update p) t =
         Memᴰ·append-right (takes ++ serialises) (in-below (P .shape .processes) (λ p. Update p ∷ []) p (update-yes P c p t .0) (List·Memᴰ·head refl))
 
-last-short : (xs : List ℕ) → length (lastOnly xs) ≤ 1
-last-short [] = omega arith
-last-short (x ∷ []) = omega arith
-last-short (x ∷ y ∷ ys) = last-short (y ∷ ys)
-
 -- ---- one round of the search
 
 module _ (P : Program) (R : WellFormed P) (ts : List (ℕ → ℕ)) (xs : List (Of P)) (all : (x : Of P) → List·Memᴰ x xs → Reaches P ts (x .0)) where
@@ -109,45 +99,28 @@ module _ (P : Program) (R : WellFormed P) (ts : List (ℕ → ℕ)) (xs : List (
   -- the configurations in a target are above the list, or one is not
   target-round : (k : ℕ) → k < length ts → New ⊎ ((c : Configuration) → ConfigurationOf P c → InTarget S (target ts k) c → AboveOne P xs c)
   target-round k l =
-      let L = configurations P (R .shape) (rolesBound S) 1 in
-      let t = target ts k in
+      let b = targets-found P R (target ts k) in
       ⊎-elim (λ r. inl (r .1)) (λ f. inr (λ c o i.
-      let m = smaller S 0 (R .shape .someProcess) c (o .fits) in
-      let d : Configuration = record { state = c .state; queue = λ p v. lastOnly (c .queue p v); memory = m .memory } in
-      let od : ConfigurationOf P d = record { states = o .states; fits = m .fits } in
-      let r = f d (L .complete d (record { channel = irreducible-length S (m .memory) (m .irreducible); queues = λ p v a b. last-short (c .queue p v) }, od)) i in
-      (r .0, r .1, below-trans (r .2) (m .below))))
-      (first-or-all (λ c. New) (λ c. InTarget S t c → AboveOne P xs c) (L .list) (λ c m.
-      let o = L .sound c m .1 in
-      elim (all-decided (S .processes) (λ p. c .state p ≡ t p) (λ p a. ℕ-discrete (c .state p) (t p))) [
-        | yes i ↦ ⊎-elim
-            (λ A. inr (λ j. A))
-            (λ n. inl ((c, o), record { number = k; exists = l; steps = []; last = c; takes = done; reached = i }, n))
-            (above (c, o))
-        | no n ↦ inr (λ i. absurd (n i))
-      ]))
+      let d = b .all (c, o) i in
+      let A = f (d .0) (d .1) in
+      (A .0, A .1, below-trans (A .2) (d .2))))
+      (first-or-all (λ c. New) (λ c. AboveOne P xs (c .0)) (b .list) (λ c m. ⊎-elim inr
+      (λ n. inl (c, record { number = k; exists = l; steps = []; last = c .0; takes = done; reached = b .members c m }, n)) (above c)))
 
   -- what the step leads above one of the list is above the list, or one is not
   step-round : (e : Of P) → List·Memᴰ e xs → (s : Step)
       → New ⊎ ((c : Configuration) → ConfigurationOf P c → T (may P c s) → Below S (e .0) (after P c s) → AboveOne P xs c)
   step-round e i s =
-      let L = configurations P (R .shape) (channelBound P R (e .0) (e .1) s) (queueBound S (e .0)) in
+      let b = predecessors-found P R e s in
       ⊎-elim (λ r. inl (r .1)) (λ f. inr (λ c o t B.
-      let b = small-before P R (e .0) (e .1) s c (record { of = o; permitted = t; above = B }) in
-      let r = f (b .configuration) (L .complete (b .configuration) (b .small, b .before .of)) (b .before .permitted) (b .before .above) in
-      (r .0, r .1, below-trans (r .2) (b .below))))
-      (first-or-all (λ c. New) (λ c. T (may P c s) → Below S (e .0) (after P c s) → AboveOne P xs c) (L .list) (λ c m. small-round c (L .sound c m .1) (T-or-not (may P c s))))
-    where
-      below-round : (c : Configuration) (o : ConfigurationOf P c) (t : T (may P c s)) → Dec (Below S (e .0) (after P c s)) → New ⊎ (T (may P c s) → Below S (e .0) (after P c s) → AboveOne P xs c)
-      below-round c o t (yes B) = ⊎-elim
-          (λ A. inr (λ u C. A))
-          (λ n. inl ((c, o), reaches-before P ts c s t (reaches-above P R ts (e .0) (after P c s) (e .1) (step-configuration P R c o s t) B (all e i)), n))
-          (above (c, o))
-      below-round c o t (no n) = inr (λ u B. absurd (n B))
-
-      small-round : (c : Configuration) (o : ConfigurationOf P c) → T (may P c s) ⊎ T (not (may P c s)) → New ⊎ (T (may P c s) → Below S (e .0) (after P c s) → AboveOne P xs c)
-      small-round c o (inl t) = below-round c o t (below-decided P .decided e (after P c s, step-configuration P R c o s t))
-      small-round c o (inr n) = inr (λ t B. absurd (T-not (may P c s) n t))
+      let d = b .all (c, o) (t, B) in
+      let A = f (d .0) (d .1) in
+      (A .0, A .1, below-trans (A .2) (d .2))))
+      (first-or-all (λ c. New) (λ c. AboveOne P xs (c .0)) (b .list) (λ c m. ⊎-elim inr
+      (λ n.
+      let q = b .members c m in
+      let od = step-configuration P R (c .0) (c .1) s (q .0) in
+      inl (c, reaches-before P ts (c .0) s (q .0) (reaches-above P R ts (e .0) (after P (c .0) s) (e .1) od (q .1) (all e i)), n)) (above c)))
 
   abbrev Closed : Type 0
   Closed = (c : Configuration) → ConfigurationOf P c → (s : Step) → T (may P c s) → AboveOne P xs (after P c s) → AboveOne P xs c

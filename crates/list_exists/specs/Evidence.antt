@@ -1,4 +1,4 @@
--- Evidence exists for every program: a run that reaches a target, or a list that is safe (report, 5.4: reachability is decidable).
+-- Evidence exists for every program: a run that reaches a target, or a list that is safe (report, 6.2: the analysis is exact and ends).
 use Prim.Native.Nat.{ℕ, _<_}
 use mathlib.Core.Path.{_≡_}
 use mathlib.Core.Logic.{_⊎_}
