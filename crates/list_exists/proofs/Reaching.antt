@@ -22,7 +22,7 @@ use Rattle.list_theory.specs.Verdict.{target}
 use Rattle.list_theory.proofs.Lists.{in-below}
 use Rattle.list_exists.specs.AlmostFull.{AboveNone, Basis}
 use Rattle.list_exists.specs.Order.{Of, BelowOf}
-use Rattle.list_exists.specs.Evidence.{Reaches, AboveOne, LeastFound}
+use Rattle.list_exists.specs.Evidence.{Reaches, AboveOne, LeastFound, ReachesDecided}
 use Rattle.list_exists.proofs.Search.{above-some, first-or-all, basis-found}
 use Rattle.list_exists.proofs.Order.{below-almost-full, below-decided}
 use Rattle.list_exists.proofs.Enumeration.{numbers}
@@ -150,3 +150,11 @@ module _ (P : Program) (R : WellFormed P) (ts : List (ℕ → ℕ)) (xs : List (
 
 pub least-found : LeastFound
 least-found P R ts = basis-found (Of P) (BelowOf P) (below-almost-full P) (below-decided P) (λ c. Reaches P ts (c .0)) (round P R ts)
+
+pub reaches-decided : ReachesDecided
+reaches-decided P R ts c o =
+    let b = least-found P R ts in
+    ⊎-elim
+    (λ A. yes (reaches-above P R ts (A .0 .0) c (A .0 .1) o (A .2) (b .members (A .0) (A .1))))
+    (λ n. no (λ r. let A = b .all (c, o) r in n (A .0) (A .1) (A .2)))
+    (above-some (BelowOf P) (below-decided P) (b .list) (c, o))

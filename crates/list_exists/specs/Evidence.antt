@@ -66,9 +66,13 @@ pub record ListFound (P : Program) (ts : List (ℕ → ℕ)) : Type 0 where
 abbrev pub ConfigurationsExist : Type 0
 ConfigurationsExist = (P : Program) → WellFormed P → (ts : List (ℕ → ℕ)) → RunFound P ts ⊎ ((xs : List (Of P)) × SafeConfigurations P ts xs)
 
--- as a list of entries, if FF is no value: else an entry cannot have the value 255, and there may be no list
+-- as a list of entries, if FF is no value
 abbrev pub EvidenceExists : Type 0
 EvidenceExists = (P : Program) → WellFormed P → NoValueIsFF (P .shape) → (ts : List (ℕ → ℕ)) → RunFound P ts ⊎ ListFound P ts
+
+-- else an entry cannot have the value 255 itself, and there may be neither
+abbrev pub WithoutNoValueIsFF : Type 0
+WithoutNoValueIsFF = (P : Program) → WellFormed P → (ts : List (ℕ → ℕ)) → RunFound P ts ⊎ ListFound P ts
 
 -- never both
 abbrev pub NeverBoth : Type 0
@@ -89,6 +93,15 @@ PsoUnreachable P ts = (memory : List ℕ) (k : ℕ) → k < length ts → PsoRea
 abbrev pub PsoEvidenceExists : Type 0
 PsoEvidenceExists = (P : Program) → WellFormed P → NoValueIsFF (P .shape) → (ts : List (ℕ → ℕ)) → PsoRunFound P ts ⊎ (ListFound P ts × PsoUnreachable P ts)
 
--- reachability under partial store order is decided, for every well-formed program
+-- ---- decisions, for every well-formed program
+
+-- from a configuration
+abbrev pub ReachesDecided : Type 0
+ReachesDecided = (P : Program) → WellFormed P → (ts : List (ℕ → ℕ)) (c : Configuration) → ConfigurationOf P c → Dec (Reaches P ts c)
+
+-- under partial store order from a given memory (report, 4.2), and from any
 abbrev pub PsoDecided : Type 0
-PsoDecided = (P : Program) → WellFormed P → (t : ℕ → ℕ) → Dec ((memory : List ℕ) × PsoReachable P memory t)
+PsoDecided = (P : Program) → WellFormed P → (memory : List ℕ) (t : ℕ → ℕ) → Dec (PsoReachable P memory t)
+
+abbrev pub PsoDecidedFromAny : Type 0
+PsoDecidedFromAny = (P : Program) → WellFormed P → (t : ℕ → ℕ) → Dec ((memory : List ℕ) × PsoReachable P memory t)
