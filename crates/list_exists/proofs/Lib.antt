@@ -12,3 +12,4 @@ pub mod Reaching
 pub mod Trimming
 pub mod Evidence
 pub mod Pso
+pub mod FreeValue

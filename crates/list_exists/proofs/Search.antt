@@ -1,10 +1,14 @@
 -- Searches end, and sets have finitely many least elements.
-use Prim.Native.Nat.{ℕ}
+use Prim.Native.Nat.{ℕ, zero, suc, _≤_}
 use mathlib.Core.Path.{_≡_, refl, sym, ap, subst, _∙_}
 use mathlib.Core.Logic.{_⊎_, inl, inr, ⊎-elim}
+use mathlib.Core.Bool.{Bool, true, false}
 use mathlib.Core.List.{List, [], _∷_, List·Memᴰ, List·Memᴰ·head, List·Memᴰ·tail, List·Memᴰ·not-nil, List·Memᴰ·cases-cons}
-use Rattle.list_exists.specs.AlmostFull.{AlmostFull, now, later, AboveNone, SearchEnds, Basis, Decided, NotWithoutBasis, BasisFound}
-use Rattle.list_exists.proofs.AlmostFull.{of-image}
+use native.Mathlib.Omega.{arith}
+use native.Mathlib.Decide.{decLe, ℕ-discrete}
+use lib.Dec.{T}
+use Rattle.list_exists.specs.AlmostFull.{AlmostFull, now, later, AboveNone, SearchEnds, Basis, Decided, NotWithoutBasis, BasisFound, BasisAlwaysFound, NoMore}
+use Rattle.list_exists.proofs.AlmostFull.{of-image, bigger}
 
 module _ {A : Type 0} (R : A → A → Type 0) where
   -- F holds R of what is above none of xs. So if all are in F, then a search at xs ends with the next two.
@@ -188,3 +192,45 @@ basis-found A R a D U decide =
     (λ xs. (a : A) → U a → (x : A) × List·Memᴰ x (elements U xs) × R x a)
     (λ xs. ⊎-elim inl (λ r. inr ((r .0, r .1), λ x m. r .2 (x .0) (is-element U xs x m))) (decide (elements U xs) (elements-of U xs))) in
     basis-of R D U (elements U (s .0)) (elements-of U (s .0)) (s .1)
+
+-- ---- no more than this
+
+below-or : (n : ℕ) → AlmostFull (λ y z. (y ≤ z) ⊎ (n ≤ y))
+below-or zero = now {R = λ y z. (y ≤ z) ⊎ (zero ≤ y)} (λ y z. inr (omega arith))
+below-or (suc n) = later {R = λ y z. (y ≤ z) ⊎ (suc n ≤ y)} (λ y. elim (decLe (suc n) y) [
+  | yes l ↦ now {R = λ z w. ((z ≤ w) ⊎ (suc n ≤ z)) ⊎ ((y ≤ z) ⊎ (suc n ≤ y))} (λ z w. inr (inr l))
+  | no l ↦ bigger (λ z w. ((z ≤ w) ⊎ (suc n ≤ z)) ⊎ ((y ≤ z) ⊎ (suc n ≤ y))) (λ z w. ⊎-elim (λ a. inl (inl a)) (λ a. inr (inl (omega arith)))) (below-or n)
+])
+
+numbers-almost-full : AlmostFull {A = ℕ} (λ x y. x ≤ y)
+numbers-almost-full = later below-or
+
+numbers-decided : Decided {A = ℕ} (λ x y. x ≤ y)
+numbers-decided = record { reflexive = λ x. omega arith; transitive = λ x y z a b. omega arith; decided = decLe }
+
+-- a true one up to n
+abbrev UpTo : (ℕ → Bool) → ℕ → Type 0
+UpTo f n = (m : ℕ) × (m ≤ n) × T (f m)
+
+up-to : (f : ℕ → Bool) (n : ℕ) → Dec (UpTo f n)
+up-to f zero = go (f zero) refl
+  where
+    go : (b : Bool) → f zero ≡ b → Dec (UpTo f zero)
+    go true e = yes (zero, omega arith, subst T (sym e) tt)
+    go false e = no (λ r. let d : r .0 ≡ zero = omega (arith, r .1) in subst T (ap f d ∙ e) (r .2))
+up-to f (suc n) = go (f (suc n)) refl (up-to f n)
+  where
+    go : (b : Bool) → f (suc n) ≡ b → Dec (UpTo f n) → Dec (UpTo f (suc n))
+    go true e d = yes (suc n, omega arith, subst T (sym e) tt)
+    go false e (yes r) = yes (r .0, omega (arith, r .1), r .2)
+    go false e (no k) = no (λ r. elim (ℕ-discrete (r .0) (suc n)) [ yes d ↦ subst T (ap f d ∙ e) (r .2) | no d ↦ k (r .0, omega (arith, r .1), r .2) ])
+
+pub no-more : NoMore
+no-more found f = go (b .list) (b .members) (λ n u. let r = b .all n u in (r .0, r .1))
+  where
+    b : Basis {A = ℕ} (λ x y. x ≤ y) (UpTo f)
+    b = found ℕ (λ x y. x ≤ y) numbers-almost-full numbers-decided (UpTo f) (λ x y l u. (u .0, omega (arith, u .1), u .2)) (up-to f)
+
+    go : (xs : List ℕ) → ((x : ℕ) → List·Memᴰ x xs → UpTo f x) → ((n : ℕ) → UpTo f n → (x : ℕ) × List·Memᴰ x xs) → ((n : ℕ) × T (f n)) ⊎ ((n : ℕ) → T (f n) → ⊥)
+    go [] u all = inr (λ n t. List·Memᴰ·not-nil (all n (n, omega arith, t) .1))
+    go (x ∷ xs) u all = let r = u x (List·Memᴰ·head refl) in inl (r .0, r .2)

@@ -2,7 +2,9 @@
 use Prim.Native.Nat.{ℕ, _<_}
 use mathlib.Core.Path.{_≡_}
 use mathlib.Core.Logic.{_⊎_}
+use mathlib.Core.Bool.{Bool}
 use mathlib.Core.List.{List, Sublistᴰ, List·Memᴰ}
+use lib.Dec.{T}
 
 -- However one chooses elements in turn, at some time it is certain that an earlier one is related to a later one: all are related; or,
 -- whichever x comes first, it is so when of each later y it is enough that x is related to it.
@@ -65,9 +67,8 @@ pub record Decided {A : Type 0} (R : A → A → Type 0) : Type 0 where
   pub transitive : (x y z : A) → R x y → R y z → R x z
   pub decided : (x y : A) → Dec (R x y)
 
--- Every set has them: it cannot be that there are none, and they are found if of every finite list of elements it is decided whether all
--- of the set is above it, with an element that is not in hand. (That a set has least elements at hand with no such decision is excluded middle:
--- the set of those x for which a given statement holds.)
+-- Without an axiom: it cannot be that a set has none; and they are found if of every finite list of its elements it is decided whether all
+-- of the set is above it, with an element that is not in hand.
 abbrev pub NotWithoutBasis : Type 1
 NotWithoutBasis = (A : Type 0) (R : A → A → Type 0) → AlmostFull R → Decided R → (U : A → Type 0) → (Basis R U → ⊥) → ⊥
 
@@ -76,3 +77,12 @@ BasisFound =
     (A : Type 0) (R : A → A → Type 0) → AlmostFull R → Decided R → (U : A → Type 0)
     → ((xs : List A) → ((x : A) → List·Memᴰ x xs → U x) → ((a : A) → U a → (x : A) × List·Memᴰ x xs × R x a) ⊎ ((a : A) × U a × AboveNone R xs a))
     → Basis R U
+
+-- No more can be said: that they are found where only membership is decided, of upward closed sets alone, says of every sequence of truth
+-- values whether it has a true one, which has no proof without an axiom.
+abbrev pub BasisAlwaysFound : Type 1
+BasisAlwaysFound =
+    (A : Type 0) (R : A → A → Type 0) → AlmostFull R → Decided R → (U : A → Type 0) → ((x y : A) → R x y → U x → U y) → ((x : A) → Dec (U x)) → Basis R U
+
+abbrev pub NoMore : Type 1
+NoMore = BasisAlwaysFound → (f : ℕ → Bool) → ((n : ℕ) × T (f n)) ⊎ ((n : ℕ) → T (f n) → ⊥)

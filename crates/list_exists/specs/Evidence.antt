@@ -70,9 +70,9 @@ ConfigurationsExist = (P : Program) → WellFormed P → (ts : List (ℕ → ℕ
 abbrev pub EvidenceExists : Type 0
 EvidenceExists = (P : Program) → WellFormed P → NoValueIsFF (P .shape) → (ts : List (ℕ → ℕ)) → RunFound P ts ⊎ ListFound P ts
 
--- else an entry cannot have the value 255 itself, and there may be neither
-abbrev pub WithoutNoValueIsFF : Type 0
-WithoutNoValueIsFF = (P : Program) → WellFormed P → (ts : List (ℕ → ℕ)) → RunFound P ts ⊎ ListFound P ts
+-- else an entry cannot have the value 255 itself, and it is false
+abbrev pub NoValueIsFFNeeded : Type 0
+NoValueIsFFNeeded = ((P : Program) → WellFormed P → (ts : List (ℕ → ℕ)) → RunFound P ts ⊎ ListFound P ts) → ⊥
 
 -- never both
 abbrev pub NeverBoth : Type 0
