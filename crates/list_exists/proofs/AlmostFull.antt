@@ -1,12 +1,12 @@
 -- Almost full relations: bigger relations, inverse images, intersections, sums, and equality on a finite set.
-use Prim.Native.Nat.{ℕ, zero, suc, _+_, _<_}
-use mathlib.Core.Path.{_≡_, refl, sym, ap, subst, _∙_}
+use Prim.Native.Nat.{ℕ, zero, suc, _<_}
+use mathlib.Core.Path.{_≡_, refl, sym, subst}
 use mathlib.Core.Logic.{_⊎_, inl, inr, ⊎-elim}
 use mathlib.Core.Bool.{Bool, true, false}
 use native.Mathlib.Omega.{arith}
 use native.Mathlib.Decide.{ℕ-discrete}
 use lib.Dec.{T, eqb, eqb→eq, eqb-refl}
-use Rattle.list_exists.specs.AlmostFull.{AlmostFull, now, later, Pair, Sequences, Finite, FiniteEquality, Ramsey}
+use Rattle.list_exists.specs.AlmostFull.{AlmostFull, now, later, Sequences, FiniteEquality, Ramsey}
 
 -- what contains an inverse image
 pub of-image : {A B : Type 0} {R : A → A → Type 0} (f : B → A) (Q : B → B → Type 0) → ((x y : B) → R (f x) (f y) → Q x y) → AlmostFull R → AlmostFull Q

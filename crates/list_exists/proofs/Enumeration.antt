@@ -1,15 +1,15 @@
 -- Finitely many configurations of a program have no more than so many messages and waiting values.
 use Prim.Native.Nat.{ℕ, zero, suc, _<_, _≤_}
-use mathlib.Core.Path.{_≡_, refl, sym, ap, ap₂, subst, _∙_, fun-ext}
-use mathlib.Core.Logic.{_⊎_, inl, inr, ⊎-elim, _≢_}
-use mathlib.Core.List.{List, [], _∷_, List·Memᴰ, List·Memᴰ·head, List·Memᴰ·tail, List·Memᴰ·not-nil, List·Memᴰ·cases-cons, Memᴰ·cast}
+use mathlib.Core.Path.{_≡_, refl, sym, ap, subst, _∙_, fun-ext}
+use mathlib.Core.Logic.{inl, inr, ⊎-elim}
+use mathlib.Core.List.{List, [], _∷_, List·Memᴰ, List·Memᴰ·head, List·Memᴰ·tail, List·Memᴰ·not-nil, List·Memᴰ·cases-cons}
 use native.Mathlib.Omega.{arith}
 use native.Mathlib.Decide.{decLt, ℕ-discrete}
 use lib.ListN.{length, getD, List·getD-eq-default}
 use Rattle.machine_pws.specs.declared.Message.{Message}
 use Rattle.machine_pws.specs.Program.{Shape, WellFormedShape, Program}
 use Rattle.machine_pws.specs.Machine.{Memory, Configuration, put, message}
-use Rattle.machine_pws.specs.Configurations.{All, ValueOf, MessageIn, MemoryIn, QueuesIn, Fits, StatesOf, ConfigurationOf}
+use Rattle.machine_pws.specs.Configurations.{All, ValueOf, MessageIn, MemoryIn, QueuesIn, StatesOf, ConfigurationOf}
 use Rattle.machine_pws.proofs.Facts.{put-same, put-other, message-old, message-new, message-each}
 use Rattle.list_theory.specs.Lists.{forEach}
 use Rattle.list_theory.proofs.Lists.{in-each, each-in}

@@ -1,33 +1,29 @@
 -- Evidence exists: a start is above one of the least configurations that reach a target, and a run is found; or they are a safe list.
 use Prim.Native.Nat.{ℕ, zero, suc, _<_, _≤_}
-use mathlib.Core.Path.{_≡_, refl, sym, ap, ap₂, subst, _∙_}
+use mathlib.Core.Path.{_≡_, refl, sym, ap₂, subst}
 use mathlib.Core.Logic.{_⊎_, inl, inr, ⊎-elim, _≢_}
 use mathlib.Core.List.{List, [], _∷_, List·Memᴰ, List·Memᴰ·head, List·Memᴰ·tail, List·Memᴰ·not-nil, List·Memᴰ·cases-cons, cons≢nil}
 use native.Mathlib.Omega.{arith}
 use native.Mathlib.Decide.{decLt, ℕ-discrete}
 use lib.ListN.{length, getD}
-use lib.Dec.{T}
 use Rattle.machine_pws.specs.declared.Message.{Message}
-use Rattle.machine_pws.specs.declared.Step.{Step}
 use Rattle.machine_pws.specs.Program.{Shape, Program, WellFormed}
-use Rattle.machine_pws.specs.Machine.{Configuration, message, may, after}
+use Rattle.machine_pws.specs.Machine.{Configuration, message, after}
 use Rattle.machine_pws.specs.Configurations.{All, ValueOf, MessageIn, Fits, ConfigurationOf, startingMemory, Start}
 use Rattle.machine_pws.specs.Order.{Maps, QueueBelow, Below}
 use Rattle.machine_pws.specs.Entries.{FF, NoValueIsFF, ValueOrFF, EntryOf, FillValues, values-nil, values-cons, FillMessage, FillChannel, channel-nil, channel-cons, Above, AboveList, entry}
-use Rattle.machine_pws.specs.Sequences.{Takes, done}
+use Rattle.machine_pws.specs.Sequences.{done}
 use Rattle.machine_pws.proofs.Facts.{message-old, message-new}
-use Rattle.machine_pws.proofs.Preorder.{below-refl, below-trans}
+use Rattle.machine_pws.proofs.Preorder.{below-trans}
 use Rattle.machine_pws.proofs.Steps.{step-configuration}
 use Rattle.machine_equal.proofs.Reachability.{start-of}
-use Rattle.list_theory.specs.Verdict.{target, SafeList}
 use Rattle.list_theory.proofs.Fillings.{fill-value, fill-length, fill-at}
-use Rattle.list_exists.specs.AlmostFull.{AboveNone, Basis}
 use Rattle.list_exists.specs.Order.{Of, BelowOf}
 use Rattle.list_exists.specs.Evidence.{Reaches, RunFound, AboveOne, SafeConfigurations, ListFound, ConfigurationsExist, EvidenceExists}
 use Rattle.list_exists.proofs.Search.{above-some, first-or-all}
 use Rattle.list_exists.proofs.Numbering.{same-list}
 use Rattle.list_exists.proofs.Order.{decided-as, both-decided, all-decided, below-decided}
-use Rattle.list_exists.proofs.Enumeration.{Small, configurations}
+use Rattle.list_exists.proofs.Enumeration.{configurations}
 use Rattle.list_exists.proofs.Reaching.{reaches-above, reaches-before, least-found}
 use Rattle.list_exists.proofs.Trimming.{First, trimmed}
 

@@ -2,9 +2,9 @@
 -- needs what reads 255, an entry for that has FF there, and above it is what wrote 1.
 use Prim.Native.Nat.{ℕ, zero, suc, _<_, _≤_}
 use mathlib.Core.Path.{_≡_, refl, sym, ap, subst, _∙_}
-use mathlib.Core.Logic.{_⊎_, inl, inr, ⊎-elim, _≢_}
-use mathlib.Core.Bool.{Bool, _&&_, not}
-use mathlib.Core.Option.{Option, none, some}
+use mathlib.Core.Logic.{_⊎_, inl, inr, ⊎-elim}
+use mathlib.Core.Bool.{not}
+use mathlib.Core.Option.{Option, some}
 use mathlib.Core.List.{List, [], _∷_, _++_}
 use native.Mathlib.Omega.{arith}
 use lib.ListN.{length, getD, set}
@@ -15,17 +15,16 @@ use Rattle.machine_pws.specs.declared.Operation.the-variants.{Read, Write}
 use Rattle.machine_pws.specs.declared.Step.{Step}
 use Rattle.machine_pws.specs.declared.Step.the-variants.{Take, Serialise, Update}
 use Rattle.machine_pws.specs.Program.{Program, WellFormed, TransitionOf, transition}
-use Rattle.machine_pws.specs.Machine.{Configuration, put, putQueue, message, newest, lastWrite, newestOr, newestWaiting, isEmpty, withoutOldest, sees, mayOperate, may, after}
+use Rattle.machine_pws.specs.Machine.{Configuration, put, putQueue, message, newest, lastWrite, newestOr, newestWaiting, isEmpty, withoutOldest, sees, may, after}
 use Rattle.machine_pws.specs.Configurations.{All, ValueOf, QueuesIn, ConfigurationOf, Start, InTarget, startWith}
-use Rattle.machine_pws.specs.Order.{QueueBelow, Below}
-use Rattle.machine_pws.specs.Entries.{FF, FillValues, values-nil, values-cons, Filling, filled, Above, AboveList, entry}
+use Rattle.machine_pws.specs.Entries.{FillValues, values-nil, values-cons, Above, AboveList, entry}
 use Rattle.machine_pws.specs.Sequences.{Takes, done, step}
 use Rattle.machine_pws.proofs.Facts.{putQueue-each, putQueue-other, last-eq, message-new}
 use Rattle.machine_pws.proofs.Preorder.{queue-refl}
 use Rattle.machine_pws.proofs.Queues.{Queued, nothing, keep, skip, queue-to}
 use Rattle.machine_pws.proofs.Starts.{start-exists}
-use Rattle.machine_pws.proofs.Steps.{step-configuration, take-yes, serialise-yes, update-yes}
-use Rattle.list_theory.specs.Verdict.{target, SafeList}
+use Rattle.machine_pws.proofs.Steps.{step-configuration, take-yes, serialise-yes}
+use Rattle.list_theory.specs.Verdict.{target}
 use Rattle.machine_equal.proofs.Reachability.{permitted-start}
 use Rattle.list_exists.specs.Evidence.{RunFound, ListFound, NoValueIsFFNeeded}
 

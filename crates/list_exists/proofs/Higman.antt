@@ -1,12 +1,12 @@
 -- Higman's lemma: words over a finite alphabet are almost full under the subsequence order. By induction on the size of the alphabet: after
 -- a word w, a word that does not hold w as a subsequence is cut into pieces, each without one letter of w, and by ramsey there are related pieces.
 use Prim.Native.Nat.{ℕ, zero, suc, _<_}
-use mathlib.Core.Path.{_≡_, refl, sym, ap, subst, subst₂, _∙_}
+use mathlib.Core.Path.{_≡_, refl, sym, ap, subst₂, _∙_}
 use mathlib.Core.Logic.{_⊎_, inl, inr, ⊎-elim, _≢_}
 use mathlib.Core.List.{List, [], _∷_, _++_, Sublistᴰ, Sublistᴰ·slnil, Sublistᴰ·cons, Sublistᴰ·cons-cons}
 use native.Mathlib.Omega.{arith}
 use native.Mathlib.Decide.{ℕ-discrete}
-use Rattle.list_exists.specs.AlmostFull.{AlmostFull, now, later, Finite, Higman}
+use Rattle.list_exists.specs.AlmostFull.{AlmostFull, now, later, Higman}
 use Rattle.list_exists.proofs.AlmostFull.{of-image, bigger, ramsey, Sum, sum}
 
 -- xs is a subsequence of ys, up to the numbers of the letters

@@ -1,14 +1,14 @@
 -- A message that has no role before a step and after it, is not the newest, and is not needed for an order, may be left out before the step.
-use Prim.Native.Nat.{ℕ, zero, suc, _-_, _<_, _≤_}
-use mathlib.Core.Path.{_≡_, refl, sym, ap, ap₂, subst, _∙_, fun-ext}
+use Prim.Native.Nat.{ℕ, suc, _-_, _<_, _≤_}
+use mathlib.Core.Path.{_≡_, refl, sym, ap, _∙_, fun-ext}
 use mathlib.Core.Logic.{_⊎_, inl, inr, ⊎-elim, _≢_}
-use mathlib.Core.Bool.{Bool, _&&_, not}
-use mathlib.Core.List.{List, [], _∷_, _++_}
+use mathlib.Core.Bool.{_&&_, not}
+use mathlib.Core.List.{List, [], _∷_}
 use native.Mathlib.Omega.{arith}
-use native.Mathlib.Decide.{decLe, decLt, ℕ-discrete}
+use native.Mathlib.Decide.{decLt, ℕ-discrete}
 use lib.ListN.{length, getD, set}
 use lib.Dec.{T, T-not, eqb}
-use borrow.Author.Tests.{eq-eqb, ne-eqb, le-leb, lt-leb}
+use borrow.Author.Tests.{ne-eqb, le-leb, lt-leb}
 use mir.Facts.{and-yes, yes-and, yes-eqb, eqb-yes}
 use Rattle.machine_pws.specs.declared.Message.{Message}
 use Rattle.machine_pws.specs.declared.Operation.{Operation}
@@ -16,12 +16,12 @@ use Rattle.machine_pws.specs.declared.Operation.the-variants.{Nop, Read, Write,
 use Rattle.machine_pws.specs.declared.Step.{Step}
 use Rattle.machine_pws.specs.declared.Step.the-variants.{Take, Serialise, Update}
 use Rattle.machine_pws.specs.Program.{Shape, Program, WellFormed, OperationOf, transition}
-use Rattle.machine_pws.specs.Machine.{Memory, Configuration, put, message, newest, copyWith, append, point, atNewest, newestOr, newestWaiting, noneWaiting, isEmpty, sees, mayOperate, queueAfter, memoryAfter, may, after, lastWrite}
+use Rattle.machine_pws.specs.Machine.{Memory, Configuration, put, message, newest, append, point, atNewest, newestOr, newestWaiting, noneWaiting, isEmpty, sees, mayOperate, queueAfter, memoryAfter, may, after, lastWrite}
 use Rattle.machine_pws.specs.Configurations.{ValueOf, MemoryIn, ConfigurationOf}
 use Rattle.machine_pws.specs.Order.{Live, Maps, Below}
 use Rattle.machine_pws.specs.Tagged.{hasRole}
 use Rattle.machine_pws.specs.Insertion.{up, leaveOut, down, without}
-use Rattle.machine_pws.proofs.Facts.{put-same, put-other, message-new, Proper, proper, live-last}
+use Rattle.machine_pws.proofs.Facts.{put-same, put-other, message-new, proper, live-last}
 use Rattle.machine_pws.proofs.Tagged.{role-pointer}
 use Rattle.machine_pws.proofs.Insertion.{up-low, up-high, up-cases}
 use Rattle.machine_pws.proofs.Dropping.{left-length, without-fits, without-maps, drop-message}

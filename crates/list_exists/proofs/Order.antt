@@ -1,6 +1,6 @@
 -- The order on configurations is almost full: local states are finitely many, queues and the tagged channel are words over finite alphabets.
 use Prim.Native.Nat.{ℕ, zero, suc, _<_, _≤_}
-use mathlib.Core.Path.{_≡_, refl, sym, ap, ap₂, subst, _∙_}
+use mathlib.Core.Path.{_≡_, refl, sym, ap, subst, _∙_}
 use mathlib.Core.Logic.{_⊎_, inl, inr, ⊎-elim}
 use mathlib.Core.Bool.{Bool, true, false, cond}
 use mathlib.Core.Option.{Option, none, some}
@@ -8,17 +8,17 @@ use mathlib.Core.List.{List, [], _∷_, Sublistᴰ, Sublistᴰ·slnil, Sublist�
 use native.Mathlib.Omega.{arith}
 use native.Mathlib.Decide.{decLt, ℕ-discrete}
 use lib.ListN.{length, getD}
-use lib.Dec.{T, eqb}
+use lib.Dec.{eqb}
 use Rattle.machine_pws.specs.declared.Message.{Message}
 use Rattle.machine_pws.specs.Program.{Shape, Program}
-use Rattle.machine_pws.specs.Machine.{Memory, Configuration, message, lastWrite, newestWaiting}
-use Rattle.machine_pws.specs.Configurations.{All, ValueOf, MessageIn, MemoryIn, ConfigurationOf}
+use Rattle.machine_pws.specs.Machine.{Memory, message, lastWrite, newestWaiting}
+use Rattle.machine_pws.specs.Configurations.{All, ValueOf, MessageIn}
 use Rattle.machine_pws.specs.Order.{QueueBelow, Below}
 use Rattle.machine_pws.specs.Tagged.{table, roles, isLive, Tagged, taggedFrom, tagged}
 use Rattle.machine_pws.proofs.Facts.{message-old, message-new, proper}
 use Rattle.machine_pws.proofs.Preorder.{below-refl, below-trans}
 use Rattle.machine_pws.proofs.Tagged.{below-tagged}
-use Rattle.list_exists.specs.AlmostFull.{AlmostFull, Decided}
+use Rattle.list_exists.specs.AlmostFull.{AlmostFull}
 use Rattle.list_exists.specs.Order.{Of, BelowOf, BelowAlmostFull, BelowDecided, LeastConfigurations}
 use Rattle.list_exists.proofs.AlmostFull.{of-image, bigger, ramsey, all-below, equal-numbers}
 use Rattle.list_exists.proofs.Higman.{Embedding, nothing, skip, keep, higman-numbers}

@@ -1,12 +1,11 @@
 -- What evidence says of the PSO machine, by `same-reachability`.
 use Prim.Native.Nat.{ℕ, _<_, _≤_}
 use mathlib.Core.Path.{_≡_, subst, _∙_}
-use mathlib.Core.Logic.{_⊎_, inl, inr, ⊎-elim}
+use mathlib.Core.Logic.{inl, inr, ⊎-elim}
 use mathlib.Core.List.{List, [], _∷_}
 use native.Mathlib.Omega.{arith}
 use native.Mathlib.Decide.{decLt, ℕ-discrete}
 use lib.ListN.{length, getD, List·getD-eq-default}
-use lib.Dec.{T}
 use Rattle.machine_pws.specs.declared.Step.{Step}
 use Rattle.machine_pws.specs.Program.{Shape, Program, WellFormed}
 use Rattle.machine_pws.specs.Machine.{Configuration}
@@ -20,7 +19,7 @@ use Rattle.machine_pso.specs.Runs.{PsoReachable}
 use Rattle.list_theory.specs.Verdict.{target}
 use Rattle.list_theory.proofs.Verdict.{safe-visited}
 use Rattle.list_exists.specs.Order.{Of}
-use Rattle.list_exists.specs.Evidence.{Reaches, RunFound, AboveOne, SafeConfigurations, ListFound, NeverBoth, PsoRunFound, PsoUnreachable, PsoEvidenceExists, PsoDecided, PsoDecidedFromAny}
+use Rattle.list_exists.specs.Evidence.{RunFound, AboveOne, SafeConfigurations, ListFound, NeverBoth, PsoRunFound, PsoEvidenceExists, PsoDecided, PsoDecidedFromAny}
 use Rattle.list_exists.proofs.Evidence.{configurations-exist, evidence-exists}
 use Rattle.list_exists.proofs.Order.{decided-as, both-decided, all-decided}
 use Rattle.list_exists.proofs.Reaching.{reaches-decided}

@@ -1,9 +1,8 @@
 -- The configurations that reach a target have finitely many least ones: the backward search, which ends because the order is almost full.
-use Prim.Native.Nat.{ℕ, zero, suc, _<_, _≤_}
-use mathlib.Core.Path.{_≡_, refl, sym, ap, subst, _∙_}
-use mathlib.Core.Logic.{_⊎_, inl, inr, ⊎-elim, _≢_}
+use Prim.Native.Nat.{ℕ, _<_}
+use mathlib.Core.Path.{refl, sym, _∙_}
+use mathlib.Core.Logic.{_⊎_, inl, inr, ⊎-elim}
 use mathlib.Core.List.{List, [], _∷_, _++_, List·Memᴰ, List·Memᴰ·head, Memᴰ·append-left, Memᴰ·append-right}
-use native.Mathlib.Omega.{arith}
 use lib.ListN.{length}
 use lib.Dec.{T}
 use Rattle.machine_pws.specs.declared.Step.{Step}
@@ -20,7 +19,7 @@ use Rattle.list_theory.specs.Lists.{forBelow}
 use Rattle.list_theory.specs.Predecessors.{steps}
 use Rattle.list_theory.specs.Verdict.{target}
 use Rattle.list_theory.proofs.Lists.{in-below}
-use Rattle.list_exists.specs.AlmostFull.{AboveNone, Basis}
+use Rattle.list_exists.specs.AlmostFull.{AboveNone}
 use Rattle.list_exists.specs.Order.{Of, BelowOf}
 use Rattle.list_exists.specs.Evidence.{Reaches, AboveOne, LeastFound, ReachesDecided}
 use Rattle.list_exists.proofs.Search.{above-some, first-or-all, basis-found}

@@ -7,7 +7,7 @@ use mathlib.Core.List.{List, [], _∷_, List·Memᴰ, List·Memᴰ·head, List·
 use native.Mathlib.Omega.{arith}
 use native.Mathlib.Decide.{decLe, ℕ-discrete}
 use lib.Dec.{T}
-use Rattle.list_exists.specs.AlmostFull.{AlmostFull, now, later, AboveNone, SearchEnds, Basis, Decided, NotWithoutBasis, BasisFound, BasisAlwaysFound, NoMore}
+use Rattle.list_exists.specs.AlmostFull.{AlmostFull, now, later, AboveNone, SearchEnds, Basis, Decided, NotWithoutBasis, BasisFound, NoMore}
 use Rattle.list_exists.proofs.AlmostFull.{of-image, bigger}
 
 module _ {A : Type 0} (R : A → A → Type 0) where

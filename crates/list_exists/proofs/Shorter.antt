@@ -1,11 +1,11 @@
 -- Before a step no more waiting values are needed than one more than the entry has in the queue.
 use Prim.Native.Nat.{ℕ, zero, suc, _+_, _<_, _≤_}
-use mathlib.Core.Path.{_≡_, refl, sym, ap, ap₂, subst, _∙_}
-use mathlib.Core.Logic.{_⊎_, inl, inr, ⊎-elim, _≢_}
-use mathlib.Core.Bool.{Bool, _&&_, not}
+use mathlib.Core.Path.{_≡_, refl, sym, ap, subst, _∙_}
+use mathlib.Core.Logic.{_⊎_, ⊎-elim}
+use mathlib.Core.Bool.{_&&_, not}
 use mathlib.Core.List.{List, [], _∷_, _++_}
 use native.Mathlib.Omega.{arith}
-use native.Mathlib.Decide.{decLt, ℕ-discrete}
+use native.Mathlib.Decide.{ℕ-discrete}
 use lib.ListN.{length, getD}
 use lib.Dec.{T, eqb}
 use mir.Facts.{and-yes, yes-and, yes-eqb, eqb-yes}
@@ -14,8 +14,8 @@ use Rattle.machine_pws.specs.declared.Operation.the-variants.{Nop, Read, Write,
 use Rattle.machine_pws.specs.declared.Step.{Step}
 use Rattle.machine_pws.specs.declared.Step.the-variants.{Take, Serialise, Update}
 use Rattle.machine_pws.specs.Program.{Shape, Program, WellFormed, OperationOf, transition}
-use Rattle.machine_pws.specs.Machine.{Memory, Configuration, putQueue, message, newest, append, atNewest, newestOr, newestWaiting, noneWaiting, isEmpty, withoutOldest, mayOperate, queueAfter, memoryAfter, may, after, lastWrite}
-use Rattle.machine_pws.specs.Configurations.{ValueOf, QueuesIn, ConfigurationOf}
+use Rattle.machine_pws.specs.Machine.{Configuration, putQueue, message, newest, append, atNewest, newestOr, noneWaiting, isEmpty, withoutOldest, mayOperate, queueAfter, may, after, lastWrite}
+use Rattle.machine_pws.specs.Configurations.{ValueOf, ConfigurationOf}
 use Rattle.machine_pws.specs.Order.{QueueBelow, Below}
 use Rattle.machine_pws.proofs.Facts.{putQueue-same, putQueue-other, putQueue-each}
 use Rattle.machine_pws.proofs.Preorder.{below-trans, queue-refl}
@@ -24,7 +24,7 @@ use Rattle.machine_pws.proofs.Dropping.{drop-values}
 use Rattle.machine_pws.proofs.Steps.{take-yes, yes-take, serialise-yes, yes-serialise}
 use Rattle.list_theory.proofs.Lists.{all-same}
 use Rattle.list_exists.proofs.Enumeration.{Small}
-use Rattle.list_exists.proofs.Small.{Before, channelBound, Fewer, fewer}
+use Rattle.list_exists.proofs.Small.{Before, channelBound, fewer}
 
 -- ---- one queue, before a value is written
 

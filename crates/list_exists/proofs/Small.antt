@@ -1,12 +1,12 @@
 -- Small configurations are enough: what is one step before those above e is above one of no more messages and waiting values than e and
 -- the shape bound, that the same step leads above e; and every configuration of a target is above one that the shape bounds.
-use Prim.Native.Nat.{ℕ, zero, suc, _+_, _-_, _<_, _≤_}
+use Prim.Native.Nat.{ℕ, zero, suc, _+_, _<_, _≤_}
 use mathlib.Core.Path.{_≡_, refl, sym, ap, ap₂, subst, _∙_}
 use mathlib.Core.Logic.{_⊎_, inl, inr, ⊎-elim, _≢_}
-use mathlib.Core.Bool.{Bool, not}
+use mathlib.Core.Bool.{not}
 use mathlib.Core.List.{List, [], _∷_, _++_, List·Memᴰ, List·Memᴰ·head, List·Memᴰ·tail, List·Memᴰ·not-nil, List·Memᴰ·cases-cons, Memᴰ·append-left, Memᴰ·append-right}
 use native.Mathlib.Omega.{arith}
-use native.Mathlib.Decide.{decLt, ℕ-discrete}
+use native.Mathlib.Decide.{ℕ-discrete}
 use lib.ListN.{length, length-append}
 use lib.Dec.{T}
 use Rattle.machine_pws.specs.declared.Operation.{Operation}
@@ -16,7 +16,7 @@ use Rattle.machine_pws.specs.declared.Step.the-variants.{Take, Serialise, Updat
 use Rattle.machine_pws.specs.Program.{Shape, Program, WellFormed, transition}
 use Rattle.machine_pws.specs.Machine.{Memory, Configuration, lastWrite, memoryAfter, may, after}
 use Rattle.machine_pws.specs.Configurations.{ConfigurationOf}
-use Rattle.machine_pws.specs.Order.{Live, Maps, Below}
+use Rattle.machine_pws.specs.Order.{Live, Below}
 use Rattle.machine_pws.specs.Tagged.{table, hasRole}
 use Rattle.machine_pws.proofs.Facts.{T-or-not, proper}
 use Rattle.machine_pws.proofs.Preorder.{below-refl, below-trans}

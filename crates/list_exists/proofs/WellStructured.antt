@@ -1,15 +1,14 @@
 -- The machine of a well-formed program is well structured: what is to be found is among finitely many small configurations.
-use Prim.Native.Nat.{ℕ, _<_, _≤_}
+use Prim.Native.Nat.{ℕ, _≤_}
 use mathlib.Core.Path.{_≡_}
 use mathlib.Core.Logic.{_⊎_, inl, inr, ⊎-elim}
-use mathlib.Core.Bool.{not}
 use mathlib.Core.List.{List, [], _∷_, List·Memᴰ}
 use native.Mathlib.Omega.{arith}
 use native.Mathlib.Decide.{ℕ-discrete}
 use lib.ListN.{length}
 use lib.Dec.{T, T-not}
 use Rattle.machine_pws.specs.declared.Step.{Step}
-use Rattle.machine_pws.specs.Program.{Shape, Program, WellFormed}
+use Rattle.machine_pws.specs.Program.{Program, WellFormed}
 use Rattle.machine_pws.specs.Machine.{Configuration, may, after}
 use Rattle.machine_pws.specs.Configurations.{ConfigurationOf, InTarget}
 use Rattle.machine_pws.specs.Order.{Below}
@@ -21,7 +20,7 @@ use Rattle.machine_pws.proofs.Dropping.{lastOnly, smaller}
 use Rattle.list_exists.specs.AlmostFull.{AboveNone, Basis}
 use Rattle.list_exists.specs.Order.{Of, BelowOf, Before, AllWellStructured}
 use Rattle.list_exists.proofs.Search.{above-some, first-or-all, basis-found}
-use Rattle.list_exists.proofs.Order.{both-decided, all-decided, below-almost-full, below-decided}
+use Rattle.list_exists.proofs.Order.{all-decided, below-almost-full, below-decided}
 use Rattle.list_exists.proofs.Enumeration.{Small, configurations}
 use Rattle.list_exists.proofs.Small.{rolesBound, irreducible-length, channelBound}
 use Rattle.list_exists.proofs.Shorter.{queueBound, small-before}
