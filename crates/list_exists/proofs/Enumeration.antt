@@ -189,9 +189,6 @@ module _ (S : Shape) (R : WellFormedShape S) where
   abbrev Channel : ℕ → List Message → Type 0
   Channel n ms = (1 ≤ length ms) × UpTo n (MessageIn (ValueOf S) S) ms
 
-  abbrev Pointers : List Message → (ℕ → ℕ) → Type 0
-  Pointers ms z = Function (S .processes) (λ p i. (1 ≤ i) × (i ≤ length ms)) 0 z
-
   -- the numbers of messages
   places : (n : ℕ) → Listed (λ i. (1 ≤ i) × (i ≤ n))
   places n = made (λ i. (1 ≤ i) × (i ≤ n)) (λ i u. suc i) (λ i u l t. (omega arith, omega arith)) go (numbers n) (λ i. one (λ u. Unit {0}) tt tt (λ u t. refl))

@@ -1,9 +1,10 @@
 -- The machine of a well-formed program is well structured: what is to be found is among finitely many small configurations.
-use Prim.Native.Nat.{ℕ, _≤_}
-use mathlib.Core.Path.{_≡_}
+use Prim.Native.Nat.{ℕ, zero, suc, _+_, _-_, _<_, _≤_}
+use mathlib.Core.Path.{_≡_, subst}
 use mathlib.Core.Logic.{_⊎_, inl, inr, ⊎-elim}
 use mathlib.Core.List.{List, [], _∷_, List·Memᴰ}
 use native.Mathlib.Omega.{arith}
+use native.Mathlib.Nat.{zero-add, suc-add}
 use native.Mathlib.Decide.{ℕ-discrete}
 use lib.ListN.{length}
 use lib.Dec.{T, T-not}
@@ -13,12 +14,13 @@ use Rattle.machine_pws.specs.Machine.{Configuration, may, after}
 use Rattle.machine_pws.specs.Configurations.{ConfigurationOf, InTarget}
 use Rattle.machine_pws.specs.Order.{Below}
 use Rattle.machine_pws.proofs.Facts.{T-or-not}
-use Rattle.machine_pws.proofs.Preorder.{below-trans}
+use Rattle.machine_pws.proofs.Preorder.{below-refl, below-trans}
 use Rattle.machine_pws.proofs.Steps.{step-configuration}
 use Rattle.machine_pws.proofs.Simulation.{simulate}
 use Rattle.machine_pws.proofs.Dropping.{lastOnly, smaller}
 use Rattle.list_exists.specs.AlmostFull.{AboveNone, Basis}
 use Rattle.list_exists.specs.Order.{Of, BelowOf, Before, AllWellStructured}
+use Rattle.list_exists.proofs.AlmostFull.{sequence-pair}
 use Rattle.list_exists.proofs.Search.{above-some, first-or-all, basis-found}
 use Rattle.list_exists.proofs.Order.{all-decided, below-almost-full, below-decided}
 use Rattle.list_exists.proofs.Enumeration.{Small, configurations}
@@ -95,12 +97,30 @@ predecessors-found P R e s = small-basis P R (Before P e s) (channelBound P R (e
     let b = small-before P R (e .0) (e .1) s c (record { of = o; permitted = r .0; above = r .1 }) in
     record { configuration = b .configuration; of = b .before .of; member = (b .before .permitted, b .before .above); small = b .small; below = b .below })
 
+-- ---- Definition 11
+
+descends : (P : Program) (f : ℕ → Of P) → ((i : ℕ) → BelowOf P (f (suc i)) (f i)) → (i n : ℕ) → BelowOf P (f (n + i)) (f i)
+descends P f d i zero = rw (zero-add i) (below-refl (P .shape) (f i .0))
+descends P f d i (suc n) = rw (suc-add n i) (below-trans (d (n + i)) (descends P f d i n))
+
+from-first : (i j : ℕ) → i < j → (j - suc i) + suc i ≡ j
+from-first i j l = omega arith
+
+well-founded : (P : Program) (f : ℕ → Of P) → ((i : ℕ) → BelowOf P (f (suc i)) (f i) × (BelowOf P (f i) (f (suc i)) → ⊥)) → ⊥
+well-founded P f d =
+    let r = sequence-pair (Of P) (BelowOf P) (below-almost-full P) f in
+    let B = subst (λ (k : ℕ). BelowOf P (f k) (f (suc (r .first)))) (from-first (r .first) (r .second) (r .order))
+    (descends P f (λ i. d i .0) (suc (r .first)) (r .second - suc (r .first))) in
+    d (r .first) .1 (below-trans (r .related) B)
+
 pub all-well-structured : AllWellStructured
 all-well-structured P R =
     record {
       order = below-decided P;
       monotonic = λ c d B s t. let f = simulate P R (c .0) (d .0) (c .1) (d .1) B s t in (f .answer, f .below);
       quasi = below-almost-full P;
+      pairs = sequence-pair (Of P) (BelowOf P) (below-almost-full P);
+      wellFounded = well-founded P;
       predecessors = predecessors-found P R;
       targets = targets-found P R;
     }
