@@ -17,9 +17,12 @@ use Rattle.machine_pws.proofs.Facts.{message-old, message-new}
 use Rattle.machine_pws.proofs.Preorder.{below-trans}
 use Rattle.machine_pws.proofs.Steps.{step-configuration}
 use Rattle.machine_equal.proofs.Reachability.{start-of}
+use Rattle.list_theory.specs.Verdict.{safe}
+use Rattle.list_theory.specs.Decision.{verdictOf}
 use Rattle.list_theory.proofs.Fillings.{fill-value, fill-length, fill-at}
+use Rattle.list_theory.proofs.Verdict.{verdict-judged, verdict-unique}
 use Rattle.list_exists.specs.Order.{Of, BelowOf}
-use Rattle.list_exists.specs.Evidence.{Reaches, RunFound, AboveOne, SafeConfigurations, ListFound, ConfigurationsExist, EvidenceExists}
+use Rattle.list_exists.specs.Evidence.{Reaches, RunFound, AboveOne, SafeConfigurations, ListFound, ConfigurationsExist, EvidenceExists, FoundIsSafe}
 use Rattle.list_exists.proofs.Search.{above-some, first-or-all}
 use Rattle.list_exists.proofs.Numbering.{same-list}
 use Rattle.list_exists.proofs.Order.{decided-as, both-decided, all-decided, below-decided}
@@ -235,3 +238,7 @@ module _ (P : Program) (R : WellFormed P) (N : NoValueIsFF (P .shape)) where
 
 pub evidence-exists : EvidenceExists
 evidence-exists P R N ts = ⊎-elim inl (λ r. inr (list-found P R N ts (r .0) (r .1))) (configurations-exist P R ts)
+
+pub found-is-safe : FoundIsSafe
+found-is-safe P R N ts o f =
+    verdict-unique P ts (f .entries) (verdictOf P ts (f .entries)) (safe (length (f .entries))) (verdict-judged P R N (f .entries) (f .of) ts o (f .first)) (refl, f .safe)

@@ -6,13 +6,13 @@ use mathlib.Core.Bool.{Bool}
 use mathlib.Core.List.{List, Sublistᴰ, List·Memᴰ}
 use lib.Dec.{T}
 
--- However one chooses elements in turn, at some time it is certain that an earlier one is related to a later one: all are related; or,
--- whichever x comes first, it is so when of each later y it is enough that x is related to it.
+-- Whichever elements come in turn, at some time one is certain to be related to a later one: all are related; or, whichever x comes first, this
+-- is so of the rest, where it is enough of y and a later z that x is related to y.
 pub data AlmostFull {A : Type 0} : (A → A → Type 0) → Type 1 where
   now : {R : A → A → Type 0} → ((x y : A) → R x y) → AlmostFull R
   later : {R : A → A → Type 0} → ((x : A) → AlmostFull (λ y z. R y z ⊎ R x y)) → AlmostFull R
 
--- in every sequence without end an earlier element is related to a later one (report, 5.3: well-quasi-order)
+-- in every sequence without end an earlier element is related to a later one (report, Definition 11)
 pub record Pair {A : Type 0} (R : A → A → Type 0) (f : ℕ → A) : Type 0 where
   pub first : ℕ
   pub second : ℕ

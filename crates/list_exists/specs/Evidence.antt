@@ -8,13 +8,14 @@ use lib.Dec.{T}
 use Rattle.machine_pws.specs.declared.Step.{Step}
 use Rattle.machine_pws.specs.Program.{Program, WellFormed}
 use Rattle.machine_pws.specs.Machine.{Configuration, may, after}
-use Rattle.machine_pws.specs.Configurations.{ConfigurationOf, Start, InTarget}
+use Rattle.machine_pws.specs.Configurations.{StatesOf, ConfigurationOf, Start, InTarget}
 use Rattle.machine_pws.specs.Order.{Below}
 use Rattle.machine_pws.specs.Entries.{NoValueIsFF, EntryOf, entry}
 use Rattle.machine_pws.specs.Sequences.{Takes}
 use Rattle.machine_pso.specs.Runs.{PsoReachable}
 use Rattle.machine_equal.specs.Equivalence.{PwsReachable}
-use Rattle.list_theory.specs.Verdict.{target, SafeList}
+use Rattle.list_theory.specs.Verdict.{target, SafeList, safe}
+use Rattle.list_theory.specs.Decision.{verdictOf}
 use Rattle.list_exists.specs.AlmostFull.{Basis}
 use Rattle.list_exists.specs.Order.{Of, BelowOf}
 
@@ -73,6 +74,12 @@ EvidenceExists = (P : Program) → WellFormed P → NoValueIsFF (P .shape) → (
 -- else an entry cannot have the value 255 itself, and it is false
 abbrev pub NoValueIsFFNeeded : Type 0
 NoValueIsFFNeeded = ((P : Program) → WellFormed P → (ts : List (ℕ → ℕ)) → RunFound P ts ⊎ ListFound P ts) → ⊥
+
+-- the computed verdict of the list that is found (theory, section 7), if the states of the targets exist
+abbrev pub FoundIsSafe : Type 0
+FoundIsSafe =
+    (P : Program) → WellFormed P → NoValueIsFF (P .shape) → (ts : List (ℕ → ℕ)) → ((k : ℕ) → k < length ts → StatesOf P (target ts k))
+    → (f : ListFound P ts) → verdictOf P ts (f .entries) ≡ safe (length (f .entries))
 
 -- never both
 abbrev pub NeverBoth : Type 0
