@@ -25,7 +25,7 @@ use Rattle.machine_pws.proofs.Insertion.{Ins, ins, up-low, up-high, ins
 
 -- ---- a message left out and put in again
 
-left-length : (ms : List Message) (k : ℕ) → 1 ≤ k → k ≤ length ms → suc (length (leaveOut ms k)) ≡ length ms
+pub left-length : (ms : List Message) (k : ℕ) → 1 ≤ k → k ≤ length ms → suc (length (leaveOut ms k)) ≡ length ms
 left-length [] k a b = absurd (omega arith)
 left-length (x ∷ xs) k a b = elim (ℕ-discrete k (suc (length xs))) [
   | yes e ↦ rw (eq-eqb k (suc (length xs)) e)

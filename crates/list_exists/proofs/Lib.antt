@@ -1,0 +1,15 @@
+pub mod AlmostFull
+pub mod Higman
+pub mod Search
+pub mod Numbering
+pub mod Order
+pub mod Enumeration
+pub mod Leaving
+pub mod Small
+pub mod Shorter
+pub mod WellStructured
+pub mod Reaching
+pub mod Trimming
+pub mod Evidence
+pub mod Pso
+pub mod FreeValue

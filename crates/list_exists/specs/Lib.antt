@@ -1,0 +1,3 @@
+pub mod AlmostFull
+pub mod Order
+pub mod Evidence
