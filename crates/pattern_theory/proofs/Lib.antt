@@ -1,0 +1,9 @@
+pub mod Subsequences
+pub mod Paths
+pub mod Joining
+pub mod Appending
+pub mod NewMessage
+pub mod Storing
+pub mod Clues
+pub mod Reading
+pub mod Entering
