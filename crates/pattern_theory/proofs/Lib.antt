@@ -7,3 +7,7 @@ pub mod Storing
 pub mod Clues
 pub mod Reading
 pub mod Entering
+pub mod Deciding
+pub mod Starts
+pub mod Verdict
+pub mod Safety

@@ -1,7 +1,7 @@
 -- What a list of patterns promises (docs/PATTERNS.md, "What safe means"): statements, for every program in range, with no bound on the steps.
 use Prim.Native.Nat.{ℕ, _<_}
 use mathlib.Core.Path.{_≡_}
-use mathlib.Core.Logic.{_⊎_}
+use mathlib.Core.Logic.{_⊎_, _↔_}
 use mathlib.Core.List.{List, List·Memᴰ}
 use lib.ListN.{length}
 use lib.Dec.{T}
@@ -11,7 +11,7 @@ use Rattle.machine_pws.specs.Machine.{Configuration, may, after}
 use Rattle.machine_pws.specs.Configurations.{ConfigurationOf, Start, InTarget}
 use Rattle.machine_pws.specs.Sequences.{Visited}
 use Rattle.machine_pso.specs.Runs.{PsoReachable}
-use Rattle.list_theory.specs.Verdict.{target, safe}
+use Rattle.list_theory.specs.Verdict.{target, ListVerdict, safe}
 use Rattle.pattern_theory.specs.Patterns.{Pattern}
 use Rattle.pattern_theory.specs.Fitting.{FitsPattern, FitsList}
 use Rattle.pattern_theory.specs.Within.{Within}
@@ -42,11 +42,17 @@ EntersPattern =
     (P : Program) → ProgramInRange P → (a : Pattern) (c : Configuration) → Stored P c → (s : Step) → T (may P c s)
     → FitsPattern (P .shape) a (after P c s) → FitsPattern (P .shape) a c ⊎ FitsBefore P a s c
 
--- when each answer is given
+-- one answer is always judged so
 abbrev pub PatternsDecided : Type 0
 PatternsDecided =
     (P : Program) → ProgramInRange P → (ts : List (ℕ → ℕ)) (ps : List Pattern) → PatternsIn (P .shape) ps
     → PatternsJudged P ts ps (patternVerdict P ts ps)
+
+-- and an answer is given exactly when it is judged so
+abbrev pub AnswerGiven : Type 0
+AnswerGiven =
+    (P : Program) → ProgramInRange P → (ts : List (ℕ → ℕ)) (ps : List Pattern) → PatternsIn (P .shape) ps → (v : ListVerdict)
+    → (patternVerdict P ts ps ≡ v) ↔ PatternsJudged P ts ps v
 
 -- no sequence of steps from any start of any memory visits a target, or a configuration that fits a pattern of a list judged safe
 abbrev pub PatternSafety : Type 0
