@@ -11,3 +11,4 @@ pub mod Deciding
 pub mod Starts
 pub mod Verdict
 pub mod Safety
+pub mod Cases

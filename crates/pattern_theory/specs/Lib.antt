@@ -5,3 +5,4 @@ pub mod Predecessors
 pub mod Storing
 pub mod Verdict
 pub mod Safety
+pub mod Cases
