@@ -37,7 +37,7 @@ use Rattle.pattern_theory.proofs.Safety.{pattern-safety}
 
 pub cases-hold : Each Holds cases
 unfolding Holds
-cases-hold = row refl (row refl (row refl (row refl (row refl (row refl (row refl (row refl (row refl (row refl no-row)))))))))
+cases-hold = row refl (row refl (row refl (row refl (row refl (row refl (row refl (row refl (row refl (row refl (row refl (row refl no-row)))))))))))
 
 -- ---- W
 
@@ -144,4 +144,4 @@ within-examples =
     }
 
 pub predecessor-examples : PredecessorExamples
-predecessor-examples = record { read = refl; readOwn = refl; readOther = refl; cut = refl; cutOwn = refl; unknown = refl; known = refl }
+predecessor-examples = record { read = refl; readOwn = refl; readOther = refl; cut = refl; cutOwn = refl; sfence = refl; sfenceWaits = refl; unknown = refl; known = refl }

@@ -4,9 +4,9 @@ use Prim.Native.Nat.{ℕ}
 use mathlib.Core.Path.{_≡_}
 use mathlib.Core.Bool.{Bool, true, false, cond}
 use mathlib.Core.Option.{Option, none, some}
-use mathlib.Core.List.{List, [], _∷_}
+use mathlib.Core.List.{List, [], _∷_, map}
 use lib.Dec.{eqb}
-use Rattle.machine_pws.specs.declared.Operation.the-variants.{Nop, Read, Write}
+use Rattle.machine_pws.specs.declared.Operation.the-variants.{Nop, Read, Write, Mfence, Sfence}
 use Rattle.machine_pws.specs.declared.Transition.{Transition}
 use Rattle.machine_pws.specs.declared.Operation.{Operation}
 use Rattle.machine_pws.specs.declared.Step.the-variants.{Take}
@@ -19,7 +19,7 @@ use Rattle.machine_equal.specs.Equivalence.{PwsReachable}
 use Rattle.list_theory.specs.Verdict.{ListVerdict, safe, unheld, started, entered}
 use Rattle.pattern_theory.specs.Patterns.{Clue, empty, ends, contains, ending, PathRead, Pattern}
 use Rattle.pattern_theory.specs.Within.{clueWithin, pathWithin}
-use Rattle.pattern_theory.specs.Predecessors.{Cut, cuts, ownCut, beforeRead, inFront, joined}
+use Rattle.pattern_theory.specs.Predecessors.{Cut, cuts, ownCut, beforeRead, inFront, beforeOperation}
 use Rattle.pattern_theory.specs.Verdict.{patternVerdict}
 
 -- ---- one process and one variable x with two values; process 0 starts in local state 0
@@ -50,16 +50,14 @@ readsOwn x v = record { variable = x; value = v; own = true }
 -- ---- the table
 
 pub record Row : Type 0 where
-  pub transitions : List Transition
+  pub program : Program
+  -- the local state of process 0 in the target; that of the others is 0
   pub target : ℕ
   pub patterns : List Pattern
   pub verdict : ListVerdict
 
-abbrev pub targetsOf : Row → List (ℕ → ℕ)
-targetsOf r = one (r .target) 0 ∷ []
-
 unfoldable pub Holds : Row → Type 0
-Holds r = patternVerdict (programOf (r .transitions)) (targetsOf r) (r .patterns) ≡ r .verdict
+Holds r = patternVerdict (r .program) (one (r .target) 0 ∷ []) (r .patterns) ≡ r .verdict
 
 -- W: write x := 1, then read x = 0. Before the read the queue is empty and 0 is still to be read; only a start has that, and no write leads there.
 abbrev pub writeRead : List Transition
@@ -75,32 +73,70 @@ writeTwice = goes 0 (Write 0 0) 1 ∷ goes 1 (Write 0 1) 2 ∷ goes 2 (Read 0 1)
 abbrev pub patternsTwice : List Pattern
 patternsTwice = inState 3 ∷ patternWith 2 none (ends [] 1) [] ∷ patternWith 2 none empty (reads 0 1 ∷ []) ∷ patternWith 1 none (ends [] 1) [] ∷ []
 
+-- W with an mfence before the read
+abbrev pub writeFenceRead : List Transition
+writeFenceRead = goes 0 (Write 0 1) 1 ∷ goes 1 Mfence 2 ∷ goes 2 (Read 0 0) 3 ∷ []
+
+abbrev pub patternsFence : List Pattern
+patternsFence = inState 3 ∷ patternWith 2 none empty (reads 0 0 ∷ []) ∷ patternWith 1 (some 0) empty [] ∷ []
+
+-- W with a second process, which has a write of 0 that it never comes to
+abbrev pub programTwo : Program
+programTwo =
+    record {
+      shape = record { processes = 2; variables = 1; values = λ v. 2 };
+      states = λ p. 4;
+      initial = λ p. 0;
+      transitions = goes 0 (Write 0 1) 1 ∷ goes 1 (Read 0 0) 2 ∷ record { process = 1; from = 1; operation = Write 0 0; to = 1 } ∷ [];
+    }
+
+-- a local state and a path of process 0, and a clue for each process
+abbrev pub patternTwo : ℕ → Clue → List PathRead → Clue → Pattern
+patternTwo q clue path clue′ = record { state = one q 0; clue = one (λ v. clue) (λ v. clue′); newest = λ v. none; path = one path [] }
+
+abbrev pub patternsTwo : List Pattern
+patternsTwo =
+    patternTwo 2 (contains []) [] (contains [])
+    ∷ patternTwo 1 empty (reads 0 0 ∷ []) (contains [])
+    ∷ patternTwo 1 (contains []) [] (contains (some 0 ∷ []))
+    ∷ patternTwo 0 (contains []) [] (contains (some 0 ∷ []))
+    ∷ []
+
 pub data Each (F : Row → Type 0) : List Row → Type 0 where
   no-row : Each F []
   row : {r : Row} {rs : List Row} → F r → Each F rs → Each F (r ∷ rs)
 
 abbrev pub cases : List Row
 cases =
-    record { transitions = []; target = 1; patterns = inState 1 ∷ []; verdict = safe 1 }
-    ∷ record { transitions = []; target = 1; patterns = []; verdict = unheld 0 }
+    record { program = programOf []; target = 1; patterns = inState 1 ∷ []; verdict = safe 1 }
+    ∷ record { program = programOf []; target = 1; patterns = []; verdict = unheld 0 }
     -- several patterns together do not hold what none holds alone
     ∷ record {
-      transitions = [];
+      program = programOf [];
       target = 1;
       patterns = patternWith 1 (some 0) (contains []) [] ∷ patternWith 1 (some 1) (contains []) [] ∷ [];
       verdict = unheld 0;
     }
-    ∷ record { transitions = goes 0 Nop 1 ∷ []; target = 1; patterns = inState 1 ∷ []; verdict = entered 0 (Take 0) }
-    ∷ record { transitions = []; target = 0; patterns = inState 0 ∷ []; verdict = started 0 }
-    ∷ record { transitions = writeRead; target = 2; patterns = patternsW; verdict = safe 2 }
+    ∷ record { program = programOf (goes 0 Nop 1 ∷ []); target = 1; patterns = inState 1 ∷ []; verdict = entered 0 (Take 0) }
+    ∷ record { program = programOf []; target = 0; patterns = inState 0 ∷ []; verdict = started 0 }
+    ∷ record { program = programOf writeRead; target = 2; patterns = patternsW; verdict = safe 2 }
     -- W with a queue that may hold anything
-    ∷ record { transitions = writeRead; target = 2; patterns = inState 2 ∷ patternWith 1 none (contains []) (reads 0 0 ∷ []) ∷ []; verdict = entered 1 (Take 0) }
+    ∷ record { program = programOf writeRead; target = 2; patterns = inState 2 ∷ patternWith 1 none (contains []) (reads 0 0 ∷ []) ∷ []; verdict = entered 1 (Take 0) }
     -- W without its second pattern
-    ∷ record { transitions = writeRead; target = 2; patterns = inState 2 ∷ []; verdict = entered 0 (Take 1) }
+    ∷ record { program = programOf writeRead; target = 2; patterns = inState 2 ∷ []; verdict = entered 0 (Take 1) }
     -- W with x := 0 in local state 2, so that 0 is stored
-    ∷ record { transitions = goes 0 (Write 0 1) 1 ∷ goes 1 (Read 0 0) 2 ∷ goes 2 (Write 0 0) 2 ∷ []; target = 2; patterns = patternsW; verdict = entered 0 (Take 1) }
+    ∷ record {
+      program = programOf (goes 0 (Write 0 1) 1 ∷ goes 1 (Read 0 0) 2 ∷ goes 2 (Write 0 0) 2 ∷ []);
+      target = 2;
+      patterns = patternsW;
+      verdict = entered 0 (Take 1);
+    }
     -- a list that is closed only if a write keeps the end of a word
-    ∷ record { transitions = writeTwice; target = 3; patterns = patternsTwice; verdict = entered 1 (Take 1) }
+    ∷ record { program = programOf writeTwice; target = 3; patterns = patternsTwice; verdict = entered 1 (Take 1) }
+    -- a path before an mfence is read at the newest message
+    ∷ record { program = programOf writeFenceRead; target = 3; patterns = patternsFence; verdict = safe 3 }
+    -- another process stores 0: process 0 does not, so no 0 waits in its queue
+    ∷ record { program = programTwo; target = 2; patterns = patternsTwo; verdict = safe 4 }
     ∷ []
 
 -- W as an instance of the theorems: from no start of no memory is local state 2 visited
@@ -144,6 +180,9 @@ pub record PredecessorExamples : Type 0 where
       ∷ []
   -- its own: all from the first read of x on
   pub cutOwn : ownCut 0 (reads 1 0 ∷ readsOwn 0 1 ∷ reads 1 1 ∷ []) ≡ record { front = reads 1 0 ∷ []; end = reads 0 1 ∷ reads 1 1 ∷ [] }
+  -- before an sfence nothing waits
+  pub sfence : map (λ b. b .clue 0 0) (beforeOperation (programOf [] .shape) (inState 1) 0 Sfence) ≡ empty ∷ []
+  pub sfenceWaits : beforeOperation (programOf [] .shape) (patternWith 1 none (contains (none ∷ [])) []) 0 Sfence ≡ []
   -- *empty* with nothing known of the value that left is *contains* FF
   pub unknown : inFront none empty ≡ contains (none ∷ [])
   pub known : inFront (some 1) empty ≡ ends [] 1
