@@ -1,4 +1,4 @@
--- Paths and a new message: which reads stand at it, and how those that do not, or need not, stood before (docs/PATTERNS.md, "Why it is right").
+-- Paths and a new message: which reads stand at it, and how those that do not, or need not, stood before (docs/THEORY.md, section 10).
 use Prim.Native.Nat.{ℕ, zero, suc, _<_, _≤_, max}
 use mathlib.Core.Path.{_≡_, refl, sym, ap, subst, _∙_}
 use mathlib.Core.Logic.{_⊎_, inl, inr, ⊎-elim, _≢_}

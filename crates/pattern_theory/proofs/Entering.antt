@@ -1,4 +1,4 @@
--- The heart: what steps into a pattern fits it, or a predecessor of it (docs/PATTERNS.md, "Predecessors" and "Why it is right").
+-- The heart: what steps into a pattern fits it, or a predecessor of it (docs/PATTERNS.md, "Predecessors"; docs/THEORY.md, section 10).
 use Prim.Native.Nat.{ℕ, suc, _<_, _≤_}
 use mathlib.Core.Path.{_≡_, refl, sym, ap, subst, _∙_}
 use mathlib.Core.Logic.{_⊎_, inl, inr, ⊎-elim, _≢_}

@@ -1,4 +1,4 @@
--- A read from a message, and the paths before it (docs/PATTERNS.md, "Why it is right").
+-- A read from a message, and the paths before it (docs/THEORY.md, section 10).
 use Prim.Native.Nat.{ℕ, suc, _<_, _≤_}
 use mathlib.Core.Path.{_≡_, refl, sym, ap, subst, _∙_}
 use mathlib.Core.Logic.{_⊎_, inl, inr, ⊎-elim, _≢_}
