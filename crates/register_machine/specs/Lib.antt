@@ -1,0 +1,5 @@
+pub mod Program
+pub mod Machine
+pub mod Runs
+pub mod Written
+pub mod Correspondence
