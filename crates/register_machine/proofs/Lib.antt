@@ -2,3 +2,4 @@ pub mod Lists
 pub mod Numbers
 pub mod Stepping
 pub mod Correspondence
+pub mod Cases

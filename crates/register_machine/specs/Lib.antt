@@ -3,3 +3,4 @@ pub mod Machine
 pub mod Runs
 pub mod Written
 pub mod Correspondence
+pub mod Cases
