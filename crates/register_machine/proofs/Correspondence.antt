@@ -9,10 +9,11 @@ use native.Mathlib.Decide.{decLt, decLe, ℕ-discrete}
 use lib.ListN.{length, getD, take, length-map}
 use lib.Dec.{T, ltb}
 use borrow.Author.Tests.{lt-ltb, le-ltb}
+use Rattle.machine_pws.specs.declared.Message.{Message}
 use Rattle.machine_pws.specs.declared.Step.{Step}
 use Rattle.machine_pws.specs.Program.{noTransition}
-use Rattle.machine_pws.specs.Machine.{Configuration, put, may, after}
-use Rattle.machine_pws.specs.Configurations.{InTarget, ConfigurationOf}
+use Rattle.machine_pws.specs.Machine.{Configuration, message, put, may, after}
+use Rattle.machine_pws.specs.Configurations.{MessageIn, ValueOf, InTarget}
 use Rattle.machine_pws.specs.Sequences.{Takes}
 use Rattle.machine_pws.specs.Sequences as plainRuns
 use Rattle.machine_pws.proofs.Facts.{put-same, put-other, put-each}
@@ -39,6 +40,7 @@ use Rattle.register_machine.specs.Correspondence.{
   StepForStep,
   done,
   step,
+  StartsExist,
   StartsCorrespond,
   RunsCorrespond,
   InWritten,
@@ -59,6 +61,35 @@ use Rattle.register_machine.proofs.Stepping.{pair-eq, pair-below, confi
 pair-zero : (b : Bool) → pairOf b 0 0 ≡ 0
 pair-zero true = refl
 pair-zero false = refl
+
+pub starts-exist : StartsExist
+starts-exist R memory o p v pe ve =
+    let n = R .shape .processes in
+    let first : Message = record { process = p; variable = v; snapshot = memory } in
+    record {
+      fits =
+          record {
+            memory =
+                record {
+                  some = omega arith;
+                  low = λ q e. rw (lt-ltb q n e) (omega arith);
+                  high = λ q e. rw (lt-ltb q n e) (omega arith);
+                  messages = λ i a b.
+                      let e : i ≡ 1 = omega arith in
+                      subst (λ i. MessageIn (ValueOf (R .shape)) (R .shape) (message (first ∷ []) i)) (sym e)
+                      (record { process = pe; variable = ve; room = o .room; values = o .values; absent = o .absent });
+                  absent = λ q l. rw (le-ltb q n l);
+                };
+            queues = record { values = λ q u e f. tt; absent = λ q u l. refl };
+          };
+      states = λ q e. rw (lt-ltb q n e);
+      absent = λ q l. rw (le-ltb q n l);
+      registers = λ q. refl;
+      queues = λ q u e f. refl;
+      one = refl;
+      starts = refl;
+      pointers = λ q e. rw (lt-ltb q n e);
+    }
 
 module _ (R : RegisterProgram) (I : RegisterProgramInRange R) where
   abbrev n : ℕ
@@ -221,30 +252,32 @@ module _ (R : RegisterProgram) where
   abbrev withChoice : (ℕ → ℕ) → (ℕ → ℕ) → ℕ → ℕ
   withChoice target registers p = pairOf (hasRegister R p) (target p) (registers p)
 
-  target-there : (target : ℕ → ℕ) (c : RegisterConfiguration) → ((q : ℕ) → c .register q < 4) → RegisterInTarget (R .shape) target c
-      → InWritten R target (paired R c)
-  target-there target c low h =
-      let cs = choices R 0 (R .shape .processes) in
-      let w = chosen (c .register) low (R .shape .processes) 0 in
-      let e = map-at (withChoice target) cs (w .number) none none (w .exists) in
-      record {
-        number = w .number;
-        exists = omega (arith, w .exists, length-map cs (withChoice target));
-        met = λ p l.
-            pair-ap (hasRegister R p) (c .state p) (c .register p) (target p) (getD cs (w .number) none p) (h p l)
-            (λ i. sym (w .same p (omega arith) (omega arith) i))
-            ∙ ap (λ (t : ℕ → ℕ). t p) (sym e);
-      }
+  module _ (target state register : ℕ → ℕ) (low : (q : ℕ) → register q < 4) where
+    abbrev pairs : ℕ → ℕ
+    pairs p = pairOf (hasRegister R p) (state p) (register p)
 
-  target-back : (target : ℕ → ℕ) (c : RegisterConfiguration) → ((q : ℕ) → c .register q < 4) → InWritten R target (paired R c)
-      → RegisterInTarget (R .shape) target c
-  target-back target c low w p l =
-      let cs = choices R 0 (R .shape .processes) in
-      let k = w .number in
-      let below : k < length cs = omega (arith, w .exists, length-map cs (withChoice target)) in
-      let e = w .met p l ∙ ap (λ (t : ℕ → ℕ). t p) (map-at (withChoice target) cs k none none below) in
-      pair-eq (hasRegister R p) (c .state p) (c .register p) (target p) (getD cs k none p) (λ i. low p)
-      (λ i. choice-low (R .shape .processes) 0 k below p) e .0
+    pub target-there : ((p : ℕ) → p < R .shape .processes → state p ≡ target p) → InWritten R target pairs
+    target-there h =
+        let cs = choices R 0 (R .shape .processes) in
+        let w = chosen register low (R .shape .processes) 0 in
+        let e = map-at (withChoice target) cs (w .number) none none (w .exists) in
+        record {
+          number = w .number;
+          exists = omega (arith, w .exists, length-map cs (withChoice target));
+          met = λ p l.
+              pair-ap (hasRegister R p) (state p) (register p) (target p) (getD cs (w .number) none p) (h p l)
+              (λ i. sym (w .same p (omega arith) (omega arith) i))
+              ∙ ap (λ (t : ℕ → ℕ). t p) (sym e);
+        }
+
+    pub target-back : InWritten R target pairs → (p : ℕ) → p < R .shape .processes → state p ≡ target p
+    target-back w p l =
+        let cs = choices R 0 (R .shape .processes) in
+        let k = w .number in
+        let below : k < length cs = omega (arith, w .exists, length-map cs (withChoice target)) in
+        let e = w .met p l ∙ ap (λ (t : ℕ → ℕ). t p) (map-at (withChoice target) cs k none none below) in
+        pair-eq (hasRegister R p) (state p) (register p) (target p) (getD cs k none p) (λ i. low p)
+        (λ i. choice-low (R .shape .processes) 0 k below p) e .0
 
 -- ---- the theorems
 
@@ -257,7 +290,7 @@ correspondence R I = (
   },
   λ target memory c₀ c ss s v.
       let g = takes-ranged R I (start-ranged R I memory c₀ s) (visited-takes R I v .1) in
-      (target-there R target c (g .registers), target-back R target c (g .registers)),
+      (target-there R target (c .state) (c .register) (g .registers), target-back R target (c .state) (c .register) (g .registers)),
 )
 
 module _ (R : RegisterProgram) (I : RegisterProgramInRange R) where
@@ -268,7 +301,7 @@ module _ (R : RegisterProgram) (I : RegisterProgramInRange R) where
       let t = visited-takes R I v in
       let g = start-ranged R I memory c s in
       let r = runs-there R I g (t .1) in
-      let w = target-there R target e (takes-ranged R I g (t .1) .registers) h in
+      let w = target-there R target (e .state) (e .register) (takes-ranged R I g (t .1) .registers) h in
       record {
         number = w .number;
         exists = w .exists;
@@ -291,8 +324,12 @@ module _ (R : RegisterProgram) (I : RegisterProgramInRange R) where
         steps = r .0;
         last = r .2 .0;
         takes = r .2 .1;
-        reached = target-back R target (r .2 .0) (takes-ranged R I g (r .2 .1) .registers)
-            (record { number = w .number; exists = w .exists; met = subst (InTarget (R .shape) (getD (targetBecomes R target) (w .number) (λ p. 0))) (r .2 .2) (h .reached) });
+        reached = target-back R target (r .2 .0 .state) (r .2 .0 .register) (takes-ranged R I g (r .2 .1) .registers)
+            (record {
+              number = w .number;
+              exists = w .exists;
+              met = subst (InTarget (R .shape) (getD (targetBecomes R target) (w .number) (λ p. 0))) (r .2 .2) (h .reached);
+            });
       }
 
 pub register-reachability : RegisterReachability

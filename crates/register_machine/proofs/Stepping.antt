@@ -73,7 +73,7 @@ use Rattle.register_machine.proofs.Numbers.{uses-none, Can, registerOf,
 
 -- ---- what is seen is a value
 
-newest-is : (F : ℕ → Type 0) (xs : List ℕ) (x : ℕ) → All F xs → F x → F (newestOr (newestWaiting xs) x)
+pub newest-is : (F : ℕ → Type 0) (xs : List ℕ) (x : ℕ) → All F xs → F x → F (newestOr (newestWaiting xs) x)
 newest-is F [] x a h = h
 newest-is F (y ∷ []) x a h = a .0
 newest-is F (y ∷ z ∷ zs) x a h = newest-is F (z ∷ zs) x (a .1) h
@@ -100,7 +100,19 @@ pub pair-below : (b : Bool) (q r n : ℕ) → q < n → (b ≡ true → r < 4) �
 pair-below true q r n l h = let a = h refl in omega arith
 pair-below false q r n l h = l
 
-can-low : (b : Bool) (o : RegisterOperation) (r x : ℕ) → Can b o r x → b ≡ true → r < 4
+-- one state and one register changed, or the pair of them
+pub pair-put : (R : RegisterProgram) (state register after : ℕ → ℕ) (p s r : ℕ) → after p ≡ r → ((q : ℕ) → q ≢ p → after q ≡ register q)
+    → put (λ q. pairOf (hasRegister R q) (state q) (register q)) p (pairOf (hasRegister R p) s r) ≡ (λ q. pairOf (hasRegister R q) (put state p s q) (after q))
+pair-put R state register after p s r here other =
+    let pairs : ℕ → ℕ = λ q. pairOf (hasRegister R q) (state q) (register q) in
+    fun-ext (λ q. elim (ℕ-discrete q p) [
+      | yes e ↦
+          subst (λ q. put pairs p (pairOf (hasRegister R p) s r) q ≡ pairOf (hasRegister R q) (put state p s q) (after q)) (sym e)
+          (rw (put-same pairs p (pairOf (hasRegister R p) s r), put-same state p s, here))
+      | no e ↦ rw (put-other pairs p (pairOf (hasRegister R p) s r) q e, put-other state p s q e, other q e)
+    ])
+
+pub can-low : (b : Bool) (o : RegisterOperation) (r x : ℕ) → Can b o r x → b ≡ true → r < 4
 can-low true o r x can e = can .0
 can-low false o r x can e = absurd (subst T (sym e) tt)
 
@@ -246,18 +258,6 @@ module _ (R : RegisterProgram) (c : RegisterConfiguration) (p : ℕ) where
   kept (StoreRegister v) q n = refl
   kept (TestRegister y) q n = refl
 
-  states-same : (o : RegisterOperation) (s : ℕ)
-      → put (paired R c .state) p (pairOf (hasRegister R p) s (held o (c .register p) (seen o)))
-      ≡ (λ q. pairOf (hasRegister R q) (put (c .state) p s q) (registersAfter c p o q))
-  states-same o s = fun-ext (λ q. elim (ℕ-discrete q p) [
-    | yes e ↦
-        subst (λ q. put (paired R c .state) p (pairOf (hasRegister R p) s (held o (c .register p) (seen o))) q
-        ≡ pairOf (hasRegister R q) (put (c .state) p s q) (registersAfter c p o q)) (sym e)
-        (rw (put-same (paired R c .state) p (pairOf (hasRegister R p) s (held o (c .register p) (seen o))), put-same (c .state) p s, held-is o))
-    | no e ↦
-        rw (put-other (paired R c .state) p (pairOf (hasRegister R p) s (held o (c .register p) (seen o))) q e, put-other (c .state) p s q e, kept o q e)
-  ])
-
 pub configuration-eq : {s s′ : ℕ → ℕ} {q q′ : ℕ → ℕ → List ℕ} {m m′ : Memory} → s ≡ s′ → q ≡ q′ → m ≡ m′
     → _≡_ {A = Configuration} (record { state = s; queue = q; memory = m }) (record { state = s′; queue = q′; memory = m′ })
 configuration-eq e f g = λ i. record { state = e i; queue = f i; memory = g i }
@@ -318,7 +318,7 @@ module _ (R : RegisterProgram) (I : RegisterProgramInRange R) (c : RegisterConfi
             (yes-and (eqb (d .state p) (pairOf (registerOf R n) (q .from) r)) (mayOperate (R .shape) d p (plainOperation o r x))
             (T-eq (d .state p) (pairOf (registerOf R n) (q .from) r) (ap (λ k. pairOf (registerOf R n) k r) (a .1)))
             (may-there R c p o (a .2)))),
-        ap (afterTake d) e ∙ configuration-eq (states-same R c p o (q .to)) (queue-same R c p o) (memory-same R c p o),
+        ap (afterTake d) e ∙ configuration-eq (pair-put R (c .state) (c .register) (registersAfter c p o) p (q .to) (held o r x) (held-is R c p o) (kept R c p o)) (queue-same R c p o) (memory-same R c p o),
       )
   step-there (Serialise p v) t = (t, refl)
   step-there (Update p) t = (t, refl)

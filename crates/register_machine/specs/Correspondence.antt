@@ -9,7 +9,7 @@ use Rattle.machine_pws.specs.declared.Step.{Step}
 use Rattle.machine_pws.specs.declared.Step.the-variants.{Take, Serialise, Update}
 use Rattle.machine_pws.specs.Program.{ProgramInRange}
 use Rattle.machine_pws.specs.Machine.{Configuration, sees, may, after}
-use Rattle.machine_pws.specs.Configurations.{InTarget, Start}
+use Rattle.machine_pws.specs.Configurations.{StartingMemory, InTarget, Start}
 use Rattle.machine_pws.specs.Sequences.{Takes, Visited}
 use Rattle.machine_equal.specs.Equivalence.{PwsStart, PwsReachable}
 use Rattle.register_machine.specs.declared.RegisterOperation.{RegisterOperation}
@@ -26,7 +26,7 @@ use Rattle.register_machine.specs.declared.RegisterOperation.the-variant
 }
 use Rattle.register_machine.specs.Program.{RegisterProgram, RegisterProgramInRange, registerTransition, hasRegister}
 use Rattle.register_machine.specs.Machine.{RegisterConfiguration, plain, registerMay, registerAfter}
-use Rattle.register_machine.specs.Runs.{RegisterStart, RegisterTakes, RegisterVisited, RegisterInTarget, RegisterReachable}
+use Rattle.register_machine.specs.Runs.{RegisterStart, registerStartWith, RegisterTakes, RegisterVisited, RegisterInTarget, RegisterReachable}
 use Rattle.register_machine.specs.Written.{pairOf, written, ComesFrom, numberWritten, targetBecomes, writtenTargets}
 
 -- ---- configurations and steps
@@ -65,6 +65,12 @@ pub data StepForStep (R : RegisterProgram) : RegisterConfiguration → List Step
 abbrev pub WrittenInRange : Type 0
 WrittenInRange = (R : RegisterProgram) → RegisterProgramInRange R → ProgramInRange (written R)
 
+-- every memory has starts, one for each label
+abbrev pub StartsExist : Type 0
+StartsExist =
+    (R : RegisterProgram) (memory : List ℕ) → StartingMemory (R .shape) memory → (p v : ℕ) → p < R .shape .processes → v < R .shape .variables
+    → RegisterStart R memory (registerStartWith R memory p v)
+
 -- the pair of a start is a start with the same memory, and every start of the written program is the pair of one
 pub record StartsCorrespond (R : RegisterProgram) : Type 0 where
   pub there : (memory : List ℕ) (c : RegisterConfiguration) → RegisterStart R memory c → PwsStart (written R) memory (paired R c)
@@ -79,17 +85,17 @@ pub record RunsCorrespond (R : RegisterProgram) : Type 0 where
       → Takes (written R) (paired R c₀) us d
       → (ss : List Step) × StepForStep R c₀ ss (paired R c₀) us × ((c : RegisterConfiguration) × RegisterTakes R c₀ ss c × (d ≡ paired R c))
 
--- the configuration is in a target that this one became
-pub record InWritten (R : RegisterProgram) (target : ℕ → ℕ) (d : Configuration) : Type 0 where
+-- these local states are in a target that this one became
+pub record InWritten (R : RegisterProgram) (target : ℕ → ℕ) (state : ℕ → ℕ) : Type 0 where
   pub number : ℕ
   pub exists : number < length (targetBecomes R target)
-  pub met : InTarget (R .shape) (getD (targetBecomes R target) number (λ p. 0)) d
+  pub met : (p : ℕ) → p < R .shape .processes → state p ≡ getD (targetBecomes R target) number (λ p. 0) p
 
 -- on the way of a run, a configuration is in a target exactly when its pair is in one of those that the target became
 abbrev pub TargetsCorrespond : RegisterProgram → Type 0
 TargetsCorrespond R =
     (target : ℕ → ℕ) (memory : List ℕ) (c₀ c : RegisterConfiguration) (ss : List Step) → RegisterStart R memory c₀ → RegisterVisited R c₀ ss c
-    → RegisterInTarget (R .shape) target c ↔ InWritten R target (paired R c)
+    → RegisterInTarget (R .shape) target c ↔ InWritten R target (paired R c .state)
 
 abbrev pub Correspondence : Type 0
 Correspondence = (R : RegisterProgram) → RegisterProgramInRange R → StartsCorrespond R × RunsCorrespond R × TargetsCorrespond R
