@@ -12,9 +12,9 @@ use Rattle.machine_pws.specs.Machine.{allBelow}
 use Rattle.machine_pws.proofs.Cases.{all-yes}
 use Rattle.register_machine.specs.Program.{RegisterProgram}
 use Rattle.register_machine.specs.Machine.{RegisterConfiguration, registerMay, registerAfter}
-use Rattle.register_machine.specs.Runs.{registerStartWith, RegisterTakes, done, step, RegisterReplay, ended, stopped, registerReplay}
+use Rattle.register_machine.specs.Runs.{registerStartWith, done, step, RegisterReplay, ended, stopped, registerReplay}
 use Rattle.register_machine.specs.Written.{written, numberWritten, targetBecomes}
-use Rattle.register_machine.specs.Cases.{Row, ends, stops, writes, numbers, targets, listed, Ends, Holds, Each, no-row, row, cases}
+use Rattle.register_machine.specs.Cases.{ends, stops, writes, numbers, targets, listed, Ends, Holds, Each, no-row, row, cases}
 
 -- ---- tests of a replay
 

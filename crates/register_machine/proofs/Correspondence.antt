@@ -1,11 +1,10 @@
 -- Starts, runs and targets correspond, and what that says of what is reached.
 use Prim.Native.Nat.{ℕ, zero, suc, _+_, _<_, _≤_}
 use mathlib.Core.Path.{_≡_, refl, sym, ap, subst, _∙_, fun-ext}
-use mathlib.Core.Logic.{_↔_}
 use mathlib.Core.Bool.{Bool, true, false, cond}
 use mathlib.Core.List.{List, [], _∷_, map}
 use native.Mathlib.Omega.{arith}
-use native.Mathlib.Decide.{decLt, decLe, ℕ-discrete}
+use native.Mathlib.Decide.{decLt, ℕ-discrete}
 use lib.ListN.{length, getD, take, length-map}
 use lib.Dec.{T, ltb}
 use borrow.Author.Tests.{lt-ltb, le-ltb}
@@ -23,17 +22,7 @@ use Rattle.register_machine.specs.Program.{RegisterProgram, RegisterProg
 use Rattle.register_machine.specs.Machine.{RegisterConfiguration, registerAfter}
 use Rattle.register_machine.specs.Runs.{RegisterStart, RegisterTakes, RegisterVisited, RegisterInTarget, RegisterReachable}
 use Rattle.register_machine.specs.Runs as runs
-use Rattle.register_machine.specs.Written.{
-  joined,
-  fourValues,
-  pairOf,
-  becomesIn,
-  written,
-  ComesFrom,
-  choices,
-  targetBecomes,
-  writtenTargets,
-}
+use Rattle.register_machine.specs.Written.{joined, fourValues, pairOf, becomesIn, written, choices, targetBecomes, writtenTargets}
 use Rattle.register_machine.specs.Correspondence.{
   paired,
   stepWritten,
@@ -41,10 +30,7 @@ use Rattle.register_machine.specs.Correspondence.{
   done,
   step,
   StartsExist,
-  StartsCorrespond,
-  RunsCorrespond,
   InWritten,
-  TargetsCorrespond,
   Correspondence,
   RegisterSafety,
   ReachedWritten,
@@ -52,7 +38,7 @@ use Rattle.register_machine.specs.Correspondence.{
   ReachedTarget,
   Origins,
 }
-use Rattle.register_machine.proofs.Lists.{joined-at, joined-below, Found, found, map-at, joined-grows, joined-suc}
+use Rattle.register_machine.proofs.Lists.{joined-at, joined-below, found, map-at, joined-grows, joined-suc}
 use Rattle.register_machine.proofs.Numbers.{value-at}
 use Rattle.register_machine.proofs.Stepping.{pair-eq, pair-below, configuration-eq, Ranged, step-there, step-back, step-ranged}
 

@@ -1,7 +1,7 @@
 -- Which written transition stands at which number.
-use Prim.Native.Nat.{ℕ, zero, suc, _+_, _*_, _<_, _≤_}
+use Prim.Native.Nat.{ℕ, zero, suc, _+_, _*_, _<_}
 use mathlib.Core.Path.{_≡_, refl, sym, ap, subst, _∙_}
-use mathlib.Core.Bool.{Bool, true, false, not, _&&_, _||_}
+use mathlib.Core.Bool.{Bool, true, false, not, _&&_}
 use mathlib.Core.List.{List, [], _∷_, map}
 use mathlib.Core.Logic.{_⊎_, ⊎-elim}
 use native.Mathlib.Omega.{arith}
@@ -45,7 +45,7 @@ use Rattle.register_machine.specs.Written.{
   place,
   numberWritten,
 }
-use Rattle.register_machine.proofs.Lists.{joined-at, joined-below, Found, found}
+use Rattle.register_machine.proofs.Lists.{joined-at, joined-below, found}
 
 -- ---- who has a register
 

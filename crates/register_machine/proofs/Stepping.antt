@@ -1,9 +1,9 @@
 -- One step: the machine with registers may take it exactly when the machine of the written program may take the one that is written for it, and
 -- then their configurations are a pair again.
-use Prim.Native.Nat.{ℕ, zero, suc, _+_, _*_, _<_, _≤_}
+use Prim.Native.Nat.{ℕ, _+_, _<_}
 use mathlib.Core.Path.{_≡_, refl, sym, ap, subst, _∙_, fun-ext}
 use mathlib.Core.Logic.{_≢_}
-use mathlib.Core.Bool.{Bool, true, false, _&&_, not}
+use mathlib.Core.Bool.{Bool, true, false, not}
 use mathlib.Core.List.{List, [], _∷_}
 use native.Mathlib.Omega.{arith}
 use native.Mathlib.Decide.{ℕ-discrete}
@@ -12,8 +12,7 @@ use lib.Dec.{T, eqb, ltb, eqb→eq, ltb→lt, lt→ltb}
 use mir.Facts.{and-yes, yes-and}
 use Rattle.machine_pws.specs.declared.Step.{Step}
 use Rattle.machine_pws.specs.declared.Step.the-variants.{Take, Serialise, Update}
-use Rattle.machine_pws.specs.declared.Transition.{Transition}
-use Rattle.machine_pws.specs.Program.{Shape, Program, ProgramInRange, TransitionOf, OperationOf, transition}
+use Rattle.machine_pws.specs.Program.{Shape, Program, TransitionOf, OperationOf, transition}
 use Rattle.machine_pws.specs.Machine.{
   Memory,
   Configuration,
@@ -46,7 +45,6 @@ use Rattle.register_machine.specs.declared.RegisterOperation.the-variant
   StoreRegister,
   TestRegister,
 }
-use Rattle.register_machine.specs.declared.RegisterTransition.{RegisterTransition}
 use Rattle.register_machine.specs.Program.{
   RegisterProgram,
   RegisterProgramInRange,
@@ -63,13 +61,12 @@ use Rattle.register_machine.specs.Machine.{
   registerQueueAfter,
   registerMemoryAfter,
   registerMayTake,
-  registerAfterTake,
   registerMay,
   registerAfter,
 }
-use Rattle.register_machine.specs.Written.{pairOf, statesOf, plainOperation, held, plainTransition, written, place, firstWritten, numberWritten}
+use Rattle.register_machine.specs.Written.{pairOf, statesOf, plainOperation, held, written, place, firstWritten, numberWritten}
 use Rattle.register_machine.specs.Correspondence.{paired, seenBy, stepWritten, WrittenInRange}
-use Rattle.register_machine.proofs.Numbers.{uses-none, Can, registerOf, number-below, number-is, Written, number-of}
+use Rattle.register_machine.proofs.Numbers.{uses-none, Can, registerOf, number-below, number-is, number-of}
 
 -- ---- what is seen is a value
 
@@ -318,7 +315,9 @@ module _ (R : RegisterProgram) (I : RegisterProgramInRange R) (c : RegisterConfi
             (yes-and (eqb (d .state p) (pairOf (registerOf R n) (q .from) r)) (mayOperate (R .shape) d p (plainOperation o r x))
             (T-eq (d .state p) (pairOf (registerOf R n) (q .from) r) (ap (λ k. pairOf (registerOf R n) k r) (a .1)))
             (may-there R c p o (a .2)))),
-        ap (afterTake d) e ∙ configuration-eq (pair-put R (c .state) (c .register) (registersAfter c p o) p (q .to) (held o r x) (held-is R c p o) (kept R c p o)) (queue-same R c p o) (memory-same R c p o),
+        ap (afterTake d) e
+            ∙ configuration-eq (pair-put R (c .state) (c .register) (registersAfter c p o) p (q .to) (held o r x) (held-is R c p o) (kept R c p o))
+            (queue-same R c p o) (memory-same R c p o),
       )
   step-there (Serialise p v) t = (t, refl)
   step-there (Update p) t = (t, refl)

@@ -26,7 +26,14 @@ use Rattle.register_machine.specs.declared.RegisterOperation.the-variant
 }
 use Rattle.register_machine.specs.Program.{RegisterProgram, RegisterProgramInRange, registerTransition, hasRegister}
 use Rattle.register_machine.specs.Machine.{RegisterConfiguration, plain, registerMay, registerAfter}
-use Rattle.register_machine.specs.Runs.{RegisterStart, registerStartWith, RegisterTakes, RegisterVisited, RegisterInTarget, RegisterReachable}
+use Rattle.register_machine.specs.Runs.{
+  RegisterStart,
+  registerStartWith,
+  RegisterTakes,
+  RegisterVisited,
+  RegisterInTarget,
+  RegisterReachable,
+}
 use Rattle.register_machine.specs.Written.{pairOf, written, ComesFrom, numberWritten, targetBecomes, writtenTargets}
 
 -- ---- configurations and steps

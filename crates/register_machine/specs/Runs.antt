@@ -1,10 +1,10 @@
 -- Starts, sequences of steps and targets of the machine with registers (document 02, N8; N3 for the memories).
 use Prim.Native.Nat.{ℕ, suc, _<_, _≤_}
 use mathlib.Core.Path.{_≡_}
-use mathlib.Core.Bool.{Bool, true, false, cond, _&&_}
+use mathlib.Core.Bool.{true, false, cond}
 use mathlib.Core.List.{List, [], _∷_}
 use lib.ListN.{length}
-use lib.Dec.{T, eqb, ltb}
+use lib.Dec.{T, ltb}
 use Rattle.machine_pws.specs.declared.Step.{Step}
 use Rattle.machine_pws.specs.Program.{Shape}
 use Rattle.machine_pws.specs.Configurations.{ValueOf, Fits, startingMemory}
