@@ -2,6 +2,7 @@
 //! for it, side by side, for PWS and PSO: at every configuration the same steps are permitted, each with the number that the request gives it,
 //! the configurations are a pair, and they are in the same targets.
 //! registers limits: files at the limits of the request, and one past them.
+//! registers faults: the faults of each kind of record, with their places.
 //! registers front FILE ROOM [OUT]: what the front part answers for an output slice of that many bytes; what it writes goes to OUT.
 //! Exit status 0 if all is as it should be.
 
@@ -250,6 +251,85 @@ fn limits() -> Result<(), String> {
     Ok(())
 }
 
+// ---- faults
+
+fn faults() -> Result<(), String> {
+    let parts: [&[u8]; 4] = [&[1, 1, 1, 4, 0, 0, 0], &[2, 2, 0], &[5, 0, 0, 6, 0, 0, 0, 1], &[4, 1, 0, 0, 0]];
+    let whole = parts.concat();
+    let mut tried = 0;
+    let mut refused = |what: String, file: &[u8], wanted: Result<usize, (u64, usize)>| {
+        tried += 1;
+        let answer = front(file, usize::MAX).map(|bytes| bytes.len());
+        if answer == wanted {
+            Ok(())
+        } else {
+            Err(format!("{}: {:?}, not {:?}", what, answer, wanted))
+        }
+    };
+    refused("the file".to_string(), &whole, Ok(7 + 3 + 8 * 16 + 5 * 4))?;
+    // a byte of the file, what it becomes, and the answer
+    let bytes: &[(usize, &[u8], u64, usize)] = &[
+        (0, &[0, 2, 3, 4, 5, 6, 15, 16, 31, 32, 48, 255], 2, 0),
+        (1, &[0, 5, 255], 3, 0),
+        (2, &[0, 5, 255], 3, 0),
+        (3, &[0, 1, 2, 3, 5, 255], 3, 0),
+        (4, &[1, 4], 4, 0),
+        (6, &[1, 4], 4, 0),
+        (7, &[0, 1, 3, 4, 5, 15], 2, 7),
+        (8, &[0, 33, 255], 3, 7),
+        (9, &[2, 255], 4, 7),
+        (10, &[0, 1, 2, 3, 6, 15, 48], 2, 10),
+        (11, &[1, 255], 4, 10),
+        (12, &[2, 255], 4, 10),
+        (13, &[9, 255], 4, 10),
+        (14, &[1, 255], 4, 10),
+        (15, &[1, 255], 4, 10),
+        (16, &[1, 255], 4, 10),
+        (17, &[2, 255], 4, 10),
+        (18, &[0, 1, 2, 3, 15, 48], 2, 18),
+        (19, &[2, 255], 4, 18),
+        (20, &[1], 4, 18),
+        (22, &[1], 4, 18),
+    ];
+    for (at, becomes, number, place) in bytes {
+        for byte in *becomes {
+            let mut file = whole.clone();
+            file[*at] = *byte;
+            refused(format!("byte {} is {}", at, byte), &file, Err((*number, *place)))?;
+        }
+    }
+    // 3 comes before 4
+    refused("3 and 4".to_string(), &[&[1, 1, 1, 3, 1, 0, 0][..], &whole[7..]].concat(), Err((3, 0)))?;
+    // number, variable, value, new of an operation that is refused
+    let operations: &[[u8; 4]] = &[
+        [0, 1, 0, 0], [0, 0, 1, 0], [0, 0, 0, 1], [1, 1, 0, 0], [1, 0, 4, 0], [1, 0, 0, 1], [2, 1, 0, 0], [2, 0, 4, 0], [2, 0, 0, 1], [3, 1, 0, 0],
+        [3, 0, 1, 0], [3, 0, 0, 1], [4, 1, 0, 0], [4, 0, 1, 0], [4, 0, 0, 1], [5, 1, 0, 0], [5, 0, 4, 0], [5, 0, 0, 4], [6, 1, 0, 0], [6, 0, 1, 0],
+        [6, 0, 0, 1], [7, 1, 0, 0], [7, 0, 1, 0], [7, 0, 0, 1], [8, 1, 0, 0], [8, 0, 4, 0], [8, 0, 0, 1], [9, 0, 0, 0],
+    ];
+    for operation in operations {
+        let mut file = whole.clone();
+        file[13..17].copy_from_slice(operation);
+        refused(format!("operation {:?}", operation), &file, Err((4, 10)))?;
+    }
+    // cut: 1 within a record, 6 between records before the last
+    let starts = [0, 7, 10, 18];
+    for cut in 0..whole.len() {
+        let begun = starts.iter().filter(|at| **at < cut).max();
+        let wanted = match begun {
+            Some(at) if !starts.contains(&cut) => (1, *at),
+            _ => (6, cut),
+        };
+        refused(format!("cut at {}", cut), &whole[..cut], Err(wanted))?;
+    }
+    // records out of their order, and one too many
+    for (order, place) in [(vec![0, 0], 7), (vec![1], 0), (vec![0, 2], 7), (vec![0, 1, 1], 10), (vec![0, 1, 2, 3, 2], 23), (vec![0, 3], 7), (vec![0, 1, 2, 3, 1], 23)] {
+        let file: Vec<u8> = order.iter().flat_map(|part| parts[*part].to_vec()).collect();
+        refused(format!("{:?}", order), &file, Err((2, place)))?;
+    }
+    println!("faults: {} files", tried);
+    Ok(())
+}
+
 // ---- one file
 
 fn one(file: &str, room: usize, out: Option<&String>) -> Result<(), String> {
@@ -272,8 +352,9 @@ fn main() {
     let result = match (words.first().map(String::as_str), words.len()) {
         (Some("walks"), 3) => walks(number(1).unwrap_or(1), number(2).unwrap_or(1) as usize),
         (Some("limits"), 1) => limits(),
+        (Some("faults"), 1) => faults(),
         (Some("front"), 3 | 4) => one(&words[1], number(2).unwrap_or(0) as usize, words.get(3)),
-        _ => Err("registers walks SEED COUNT | limits | front FILE ROOM [OUT]".to_string()),
+        _ => Err("registers walks SEED COUNT | limits | faults | front FILE ROOM [OUT]".to_string()),
     };
     if let Err(what) = result {
         println!("registers: {}", what);
