@@ -9,14 +9,14 @@ use native.Mathlib.Decide.{decLt, ℕ-discrete}
 use lib.ListN.{getD}
 use lib.Dec.{eqb}
 use Rattle.machine_pws.specs.declared.Step.{Step}
-use Rattle.machine_pws.specs.Program.{Program, ProgramInRange}
+use Rattle.machine_pws.specs.Program.{Program, WellFormed}
 use Rattle.machine_pws.specs.Configurations.{StartingMemory}
 use Rattle.machine_pws.specs.Ranges.{CountsOf, KeepsRanges}
-use Rattle.machine_pws.proofs.Simulation.{simulation}
+use Rattle.machine_pws.proofs.Simulation as machine
 use Rattle.machine_pws.proofs.Ranges.{keeps-ranges}
 use Rattle.list_theory.specs.Verdict as lists
 use Rattle.list_theory.specs.Decision as decision
-use Rattle.list_theory.proofs.Verdict.{verdict-unique, safe-visited}
+use Rattle.list_theory.proofs.Verdict.{verdict-unique, list-safety}
 use Rattle.file_contents.specs.declared.evidence.Part.{Part}
 use Rattle.file_contents.specs.Reading as reading
 use Rattle.file_again.proofs.Contents.{run-read, pso-run-read}
@@ -28,6 +28,8 @@ use Rattle.run_last_test.specs.declared.RunAnswer.the-variants.{Reachable, Stop
 use Rattle.run_causes.specs.Causes.{causeNumber}
 use Rattle.run_replay.specs.Answers.{runAnswer}
 use Rattle.machine_pso.specs.declared.PsoStep.the-variants.{RemoveMark}
+use Rattle.machine_pso.specs.Ranges.{PsoKeepsRanges}
+use Rattle.machine_pso.proofs.Ranges.{pso-keeps-ranges}
 use Rattle.pso_replay.specs.Answers.{psoSteps, PsoAnswered, psoRunAnswer}
 use Rattle.pso_replay.proofs.Accepted.{pso-answered, pso-only}
 use Rattle.verdict.specs.Judge.{Verdict, safe, reachable, pso, refused, entered, ofList, ofRun, ofPsoRun, judged}
@@ -57,10 +59,10 @@ use Rattle.demands.specs.Demands.{
   AcceptedRun,
   AcceptedPsoRun,
   Safety,
-  Simulated,
   Simulation,
   countsIn,
   ValuesInRange,
+  PsoValuesInRange,
 }
 use Rattle.verdict.proofs.Verdicts.{kind, code, toList, list-back, run-is, pso-is, never-both, run-high, list-code, isRun, short-file, judged-as, list-range, file-list-judged, judged-one}
 use Rattle.demands.proofs.Numbers.{refused-low, refused-large}
@@ -135,15 +137,15 @@ module _ (u : reading.Input) (area : ℕ) where
   abbrev Reads : reading.FileRead → Type 0
   Reads r = reading.readFile u area ≡ r
 
-  pub run-range : (P : Program) (ts : List (ℕ → ℕ)) (m : List ℕ) (ss : List Step) → Reads (reading.run P ts m ss) → ProgramInRange P
-  run-range P ts m ss q = run-read u area q .part .program
+  pub run-formed : (P : Program) (ts : List (ℕ → ℕ)) (m : List ℕ) (ss : List Step) → Reads (reading.run P ts m ss) → WellFormed P
+  run-formed P ts m ss q = run-read u area q .part .program .wellFormed
 
   run-memory : (P : Program) (ts : List (ℕ → ℕ)) (m : List ℕ) (ss : List Step) → Reads (reading.run P ts m ss) → StartingMemory (P .shape) m
   run-memory P ts m ss q = run-read u area q .permitted
 
   module _ (P : Program) (ts : List (ℕ → ℕ)) (m : List ℕ) (ss : List Step) (q : Reads (reading.psoRun P ts m ss)) where
-    pub pso-run-range : ProgramInRange P
-    pso-run-range = pso-run-read u area q .part .program
+    pub pso-run-formed : WellFormed P
+    pso-run-formed = pso-run-read u area q .part .program .wellFormed
 
     pso-run-memory : StartingMemory (P .shape) m
     pso-run-memory = pso-run-read u area q .permitted
@@ -174,12 +176,12 @@ module _ (u : reading.Input) (area : ℕ) where
 
   said-run : (v : RunAnswer) → Run v → judged u area ≡ ofRun v
   said-run v x =
-      judged-as u area _ (x .reads) ∙ ap ofRun (run-only (x .program) (run-range _ _ _ _ (x .reads)) (x .targets) (x .memory) (run-memory _ _ _ _ (x .reads)) (x .steps) v (x .holds))
+      judged-as u area _ (x .reads) ∙ ap ofRun (run-only (x .program) (run-formed _ _ _ _ (x .reads)) (x .targets) (x .memory) (run-memory _ _ _ _ (x .reads)) (x .steps) v (x .holds))
 
   said-pso : (v : RunAnswer) → PsoRun v → judged u area ≡ ofPsoRun v
   said-pso v x =
       judged-as u area _ (x .reads)
-      ∙ ap ofPsoRun (sym (pso-only (x .program) (pso-run-range _ _ _ _ (x .reads)) (x .memory) (x .targets) (psoSteps (x .records)) v (x .holds)))
+      ∙ ap ofPsoRun (sym (pso-only (x .program) (pso-run-formed _ _ _ _ (x .reads)) (x .memory) (x .targets) (psoSteps (x .records)) v (x .holds)))
 
   -- w is the verdict of a run with the answer v, in one of the machines
   one-of-runs : (v : RunAnswer) (w : Verdict) → isRun w ≡ true → toRun w ≡ v → judged u area ≡ w → (Run v × (w ≡ ofRun v)) ⊎ (PsoRun v × (w ≡ ofPsoRun v))
@@ -198,7 +200,7 @@ module _ (u : reading.Input) (area : ℕ) where
               memory = m;
               steps = ss;
               reads = q;
-              holds = subst (RunJudged P ts m ss) z (run-judged P (run-range P ts m ss q) ts m (run-memory P ts m ss q) ss);
+              holds = subst (RunJudged P ts m ss) z (run-judged P (run-formed P ts m ss q) ts m (run-memory P ts m ss q) ss);
             },
             sym d ∙ ap ofRun z,
           )
@@ -213,7 +215,7 @@ module _ (u : reading.Input) (area : ℕ) where
               records = ss;
               reads = q;
               holds =
-                  subst (PsoAnswered P m ts (psoSteps ss)) z (pso-answered P (pso-run-range P ts m ss q) m ts (psoSteps ss) (pso-run-memory P ts m ss q));
+                  subst (PsoAnswered P m ts (psoSteps ss)) z (pso-answered P (pso-run-formed P ts m ss q) m ts (psoSteps ss) (pso-run-memory P ts m ss q));
             },
             sym d ∙ ap ofPsoRun z,
           )
@@ -313,7 +315,7 @@ refused-step u area k = (
       (either-said u area (Stopped k (c .0)) (refused (causeNumber (c .0)) k) refl refl .0 (w .2 ∙ ap (λ (m : ℕ). refused m k) (sym (c .1)))),
   ⊎-elim
       (λ x.
-      let w = cannot-stopped (x .program) (run-range u area _ _ _ _ (x .reads)) (x .targets) (x .memory) (run-memory u area _ _ _ _ (x .reads)) (x .steps) k (x .holds) in
+      let w = cannot-stopped (x .program) (run-formed u area _ _ _ _ (x .reads)) (x .targets) (x .memory) (run-memory u area _ _ _ _ (x .reads)) (x .steps) k (x .holds) in
       (causeNumber (w .0), step-number (w .0), judged-as u area _ (x .reads) ∙ ap ofRun (w .1)))
       (λ x.
       let w = halts-stopped (x .program) (x .memory) (psoSteps (x .records)) k (x .holds) in (
@@ -338,7 +340,7 @@ refused-step u area k = (
           memory = x .memory;
           steps = x .steps;
           reads = x .reads;
-          holds = stopped-cannot (x .program) (run-range u area _ _ _ _ (x .reads)) (x .targets) (x .memory) (run-memory u area _ _ _ _ (x .reads)) (x .steps) k cause (x .holds);
+          holds = stopped-cannot (x .program) (run-formed u area _ _ _ _ (x .reads)) (x .targets) (x .memory) (run-memory u area _ _ _ _ (x .reads)) (x .steps) k cause (x .holds);
         }
 
     pso-cannot : (cause : Cause) → OfPsoRun u area (λ P ts m us. PsoAnswered P m ts us (Stopped k cause)) → OfPsoRun u area (λ P ts m us. PsoHalts P m us k)
@@ -413,26 +415,32 @@ safety u area n e =
       targets = x .targets;
       entries = x .entries;
       reads = x .reads;
-      holds = λ c i ss d v.
-          safe-visited (x .program) (list-range u area (x .program) (x .targets) (x .entries) (x .reads)) (x .targets) (x .entries) (x .holds .1) i ss v;
+      holds = list-safety (x .program) (list-range u area (x .program) (x .targets) (x .entries) (x .reads) .wellFormed) (x .targets) (x .entries) (x .holds .1);
     }
 
-simulated : (P : Program) → ProgramInRange P → Simulated P
-simulated P R c d e oc od B ss t = simulation P R d oc od B t
-
-pub simulation-holds : Simulation
-simulation-holds u area P ts = (
-  λ es q. simulated P (list-range u area P ts es q),
-  λ m ss q. simulated P (run-range u area P ts m ss q),
-  λ m ss q. simulated P (pso-run-range u area P ts m ss q),
+pub simulation : Simulation
+simulation u area P ts = (
+  λ es q. machine.simulation P (list-range u area P ts es q .wellFormed),
+  λ m ss q. machine.simulation P (run-formed u area P ts m ss q),
+  λ m ss q. machine.simulation P (pso-run-formed u area P ts m ss q),
 )
 
-in-range : (f : List ℕ) (P : Program) → ProgramInRange P → CountsOf (P .shape) (countsIn f) → CountsOf (P .shape) (countsIn f) × KeepsRanges P (countsIn f)
+in-range : (f : List ℕ) (P : Program) → WellFormed P → CountsOf (P .shape) (countsIn f) → CountsOf (P .shape) (countsIn f) × KeepsRanges P (countsIn f)
 in-range f P R C = (C, keeps-ranges P R (countsIn f) C)
 
 pub values-in-range : ValuesInRange
 values-in-range u area P ts = (
-  λ es q. in-range (u .code) P (list-range u area P ts es q) (subst (HasCounts (u .code)) q (file-counts u area)),
-  λ m ss q. in-range (u .code) P (run-range u area P ts m ss q) (subst (HasCounts (u .code)) q (file-counts u area)),
-  λ m ss q. in-range (u .code) P (pso-run-range u area P ts m ss q) (subst (HasCounts (u .code)) q (file-counts u area)),
+  λ es q. in-range (u .code) P (list-range u area P ts es q .wellFormed) (subst (HasCounts (u .code)) q (file-counts u area)),
+  λ m ss q. in-range (u .code) P (run-formed u area P ts m ss q) (subst (HasCounts (u .code)) q (file-counts u area)),
+  λ m ss q. in-range (u .code) P (pso-run-formed u area P ts m ss q) (subst (HasCounts (u .code)) q (file-counts u area)),
+)
+
+pso-in-range : (f : List ℕ) (P : Program) → WellFormed P → CountsOf (P .shape) (countsIn f) → CountsOf (P .shape) (countsIn f) × PsoKeepsRanges P (countsIn f)
+pso-in-range f P R C = (C, pso-keeps-ranges P R (countsIn f) C)
+
+pub pso-values-in-range : PsoValuesInRange
+pso-values-in-range u area P ts = (
+  λ es q. pso-in-range (u .code) P (list-range u area P ts es q .wellFormed) (subst (HasCounts (u .code)) q (file-counts u area)),
+  λ m ss q. pso-in-range (u .code) P (run-formed u area P ts m ss q) (subst (HasCounts (u .code)) q (file-counts u area)),
+  λ m ss q. pso-in-range (u .code) P (pso-run-formed u area P ts m ss q) (subst (HasCounts (u .code)) q (file-counts u area)),
 )

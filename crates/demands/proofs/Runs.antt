@@ -10,7 +10,7 @@ use lib.ListN.{length, getD, take}
 use lib.Dec.{T}
 use Rattle.machine_pws.specs.declared.Step.{Step}
 use Rattle.machine_pws.specs.declared.Step.the-variants.{Update}
-use Rattle.machine_pws.specs.Program.{Shape, Program, ProgramInRange}
+use Rattle.machine_pws.specs.Program.{Shape, Program, WellFormed}
 use Rattle.machine_pws.specs.Machine.{Configuration, may, after}
 use Rattle.machine_pws.specs.Configurations.{StartingMemory, startingMemory, Start, startWith, InTarget, inTarget}
 use Rattle.machine_pws.specs.Sequences.{Takes, done, step}
@@ -166,7 +166,7 @@ module _ (S : Shape) (c : Configuration) where
 
 -- ---- verdicts
 
-module _ (P : Program) (R : ProgramInRange P) (ts : List (ℕ → ℕ)) (m : List ℕ) (M : StartingMemory (P .shape) m) (ss : List Step) where
+module _ (P : Program) (R : WellFormed P) (ts : List (ℕ → ℕ)) (m : List ℕ) (M : StartingMemory (P .shape) m) (ss : List Step) where
   abbrev S : Shape
   S = P .shape
 

@@ -14,11 +14,11 @@ use Rattle.machine_pws.specs.declared.Operation.{Operation}
 use Rattle.machine_pws.specs.declared.Operation.the-variants.{Nop, Read, Write, Mfence, Sfence, Arw}
 use Rattle.machine_pws.specs.Program.{Shape, Program, transition}
 use Rattle.machine_pws.specs.Machine.{Configuration, newest, sees, may}
-use Rattle.machine_pws.specs.Configurations.{ConfigurationOf, startingMemory, Start, InTarget}
-use Rattle.machine_pws.specs.Order.{Below}
+use Rattle.machine_pws.specs.Configurations.{startingMemory, Start, InTarget}
 use Rattle.machine_pws.specs.Entries.{AboveList}
-use Rattle.machine_pws.specs.Sequences.{Takes, Visited, Answers}
+use Rattle.machine_pws.specs.Sequences.{Takes, Visited, Simulated}
 use Rattle.machine_pws.specs.Ranges.{CountsOf, KeepsRanges}
+use Rattle.machine_pso.specs.Ranges.{PsoKeepsRanges}
 use Rattle.list_theory.specs.Verdict.{target, SafeList, Unheld, Started, Entered}
 use Rattle.file_records.specs.Bytes.{byte}
 use Rattle.file_contents.specs.declared.evidence.Part.{Part}
@@ -253,11 +253,8 @@ Safety = (x : reading.Input) (area n : ℕ) → judged x area ≡ safe n → OfL
     (c : Configuration) → Start P c → (ss : List Step) (d : Configuration) → Visited P c ss d
     → ((k : ℕ) → k < length ts → InTarget (P .shape) (target ts k) d → ⊥) × (AboveList (P .shape) es d → ⊥))
 
--- Of two configurations, one above the other, the upper answers each of any number of steps that the lower takes, in turn, with one or more
--- of its own, and is above it again after each. So for the program of every file that is read as a list, accepted or not, and as a run of either machine.
-abbrev pub Simulated : Program → Type 0
-Simulated P = (c d e : Configuration) → ConfigurationOf P c → ConfigurationOf P d → Below (P .shape) c d → (ss : List Step) → Takes P c ss e → Answers P c d ss
-
+-- Of two configurations, one above the other, the upper answers each of any number of steps of the lower (`Simulated`). So for the program of
+-- every file that is read as a list, accepted or not, and as a run of either machine.
 abbrev pub Simulation : Type 0
 Simulation =
     (x : reading.Input) (area : ℕ) (P : Program) (ts : List (ℕ → ℕ))
@@ -280,3 +277,11 @@ ValuesInRange =
     → ((es : List Configuration) → reading.readFile x area ≡ reading.list P ts es → CountsOf (P .shape) (countsIn (x .code)) × KeepsRanges P (countsIn (x .code)))
     × ((m : List ℕ) (ss : List Step) → reading.readFile x area ≡ reading.run P ts m ss → CountsOf (P .shape) (countsIn (x .code)) × KeepsRanges P (countsIn (x .code)))
     × ((m : List ℕ) (ss : List Step) → reading.readFile x area ≡ reading.psoRun P ts m ss → CountsOf (P .shape) (countsIn (x .code)) × KeepsRanges P (countsIn (x .code)))
+
+-- The same of memory and of every buffer of the PSO machine, on whose run claim 2 is judged.
+abbrev pub PsoValuesInRange : Type 0
+PsoValuesInRange =
+    (x : reading.Input) (area : ℕ) (P : Program) (ts : List (ℕ → ℕ))
+    → ((es : List Configuration) → reading.readFile x area ≡ reading.list P ts es → CountsOf (P .shape) (countsIn (x .code)) × PsoKeepsRanges P (countsIn (x .code)))
+    × ((m : List ℕ) (ss : List Step) → reading.readFile x area ≡ reading.run P ts m ss → CountsOf (P .shape) (countsIn (x .code)) × PsoKeepsRanges P (countsIn (x .code)))
+    × ((m : List ℕ) (ss : List Step) → reading.readFile x area ≡ reading.psoRun P ts m ss → CountsOf (P .shape) (countsIn (x .code)) × PsoKeepsRanges P (countsIn (x .code)))

@@ -17,6 +17,7 @@ use Rattle.drawing.specs.declared.read.NodesRead.the-variants.{Nodes, No
 use Rattle.drawing.specs.Text.{letters, name, arrow, labelOpening, line, opening, nodeLine, nodeLines, edgeLine, edgeLines, text}
 use Rattle.drawing.specs.Runs.{Run}
 use Rattle.drawing.specs.Accepted.{Accepted, Begins, Place, Reading, run, place, Means}
+use Rattle.drawing.specs.Directions.{ReadingMeans, MeansOnce}
 use Rattle.drawing.specs.Reading.{hasByte, expectAt, edgesAt, nodesThen, nodesAt, moreAt, nodesRead, edgesFrom, readingOf}
 use Rattle.drawing.proofs.NumberLaws.{decimal-zero}
 use Rattle.drawing.proofs.LineLaws.{node-parts}
@@ -397,7 +398,7 @@ means-place t p e =
     }
 
 -- every reading means what Accepted.antt says
-pub reading-means : (t : List ℕ) → Means t (readingOf t)
+pub reading-means : ReadingMeans
 reading-means t = go (readingOf t) refl
   where
     go : (r : Reading) → readingOf t ≡ r → Means t r
@@ -420,7 +421,7 @@ shorter t j k l b =
 place-once : (t : List ℕ) (j k : ℕ) → Place t j → Place t k → j < k → ⊥
 place-once t j k p q l = p .byte (omega (arith, q .within)) (shorter t (suc j) k l (q .before))
 
-pub means-once : (t : List ℕ) (r s : Reading) → Means t r → Means t s → r ≡ s
+pub means-once : MeansOnce
 means-once t (run ss) (run rs) p q = sym (reading-on ss (p .0)) ∙ ap readingOf (sym (p .1) ∙ q .1) ∙ reading-on rs (q .0)
 means-once t (run ss) (place k) p q = absurd (q .outside (record { steps = ss; run = p .0; same = p .1 }))
 means-once t (place j) (run rs) p q = absurd (p .outside (record { steps = rs; run = q .0; same = q .1 }))

@@ -22,6 +22,7 @@ use Rattle.drawing.specs.Runs.{fullShape, StepInRange, AllInRange, Run, 
 use Rattle.drawing.specs.Writing.{Made, made, refused, ofCount, drawingOf}
 use Rattle.drawing.specs.Accepted.{Reading, run, place}
 use Rattle.drawing.specs.Reading.{readingOf, ofReading, recordsIn}
+use Rattle.drawing.specs.Directions.{RunDrawn, RunRead, Drawn, WriterDraws, ReaderAccepts, ComesBack, WouldMake}
 use Rattle.drawing.specs.Parts.{FineFrom}
 use Rattle.drawing.proofs.LineLaws.{steps-length}
 use Rattle.drawing.proofs.WordLaws.{head-here, stands-from}
@@ -113,8 +114,7 @@ counts f (s ∷ ss) at k l m e =
       steps = ap (λ (x : Step). x ∷ stepsOf f (at + (1 + stepBody f at)) (length ss)) (g .step) ∙ ap (λ (x : List Step). s ∷ x) (h .steps);
     }
 
--- the writer draws a run's records as the run's text
-pub run-drawn : (ss : List Step) → Run ss → drawingOf (recordsOf ss) ≡ made (text ss)
+pub run-drawn : RunDrawn
 unfolding drawingOf stepsFrom
 run-drawn ss r =
     let f : List ℕ = recordsOf ss in
@@ -122,8 +122,7 @@ run-drawn ss r =
     let z : 0 + length ss ≡ length ss = omega arith in
     ap (ofCount f) (c .counted ∙ ap Records z) ∙ ap (λ (x : List Step). made (text x)) (c .steps)
 
--- the reader reads a run's text as the run's records
-pub run-read : (ss : List Step) → Run ss → recordsIn (text ss) ≡ made (recordsOf ss)
+pub run-read : RunRead
 unfolding recordsIn
 run-read ss r = ap ofReading (reading-on ss r)
 
@@ -135,19 +134,12 @@ made-same e = cc
 refused-made : {n p : ℕ} {w : List ℕ} → _≡_ {A = Made} (refused n p) (made w) → ⊥
 refused-made e = let z : _≡_ {A = ℕ} 0 1 = cc in omega arith
 
--- f is the records of a run, and w its text
-pub record Drawn (f w : List ℕ) : Type 0 where
-  pub steps : List Step
-  pub run : Run steps
-  pub records : f ≡ recordsOf steps
-  pub drawing : w ≡ text steps
-
 fine-range : (f : List ℕ) (n at : ℕ) → FineFrom f at n → AllInRange (stepsOf f at n)
 unfolding stepsOf
 fine-range f zero at h = tt
 fine-range f (suc n) at h = (h .1, fine-range f n (at + (1 + stepBody f at)) (h .2))
 
-pub writer-draws : (f w : List ℕ) → drawingOf f ≡ made w → Drawn f w
+pub writer-draws : WriterDraws
 unfolding drawingOf
 writer-draws f w e = go (stepsFrom fullShape 256 f 0) refl e
   where
@@ -162,7 +154,7 @@ writer-draws f w e = go (stepsFrom fullShape 256 f 0) refl e
         }
     go (Stopped r) d e = absurd (refused-made e)
 
-pub reader-accepts : (f t : List ℕ) → recordsIn t ≡ made f → Drawn f t
+pub reader-accepts : ReaderAccepts
 unfolding recordsIn
 reader-accepts f t e = go (readingOf t) refl e
   where
@@ -172,12 +164,10 @@ reader-accepts f t e = go (readingOf t) refl e
         record { steps = ss; run = h .0; records = sym (made-same e); drawing = h .1 }
     go (place p) d e = absurd (refused-made e)
 
--- what was drawn is read back as itself
-pub comes-back : (f w : List ℕ) → drawingOf f ≡ made w → recordsIn w ≡ made f
+pub comes-back : ComesBack
 comes-back f w e =
     let d = writer-draws f w e in ap recordsIn (d .drawing) ∙ run-read (d .steps) (d .run) ∙ ap made (sym (d .records))
 
--- what is accepted is what the writer would make
-pub would-make : (f t : List ℕ) → recordsIn t ≡ made f → drawingOf f ≡ made t
+pub would-make : WouldMake
 would-make f t e =
     let d = reader-accepts f t e in ap drawingOf (d .records) ∙ run-drawn (d .steps) (d .run) ∙ ap made (sym (d .drawing))

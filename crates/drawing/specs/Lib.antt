@@ -4,3 +4,4 @@ pub mod Writing
 pub mod Parts
 pub mod Accepted
 pub mod Reading
+pub mod Directions

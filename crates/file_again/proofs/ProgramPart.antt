@@ -77,7 +77,7 @@ shape-in f at e =
 shape-counts : (f : List ℕ) (at : ℕ) → ShapeRange (shapeAt f at) → CountsOf (shapeOf (shapeAt f at)) (shapeAt f at .values)
 shape-counts f at r =
     record {
-      four = refl;
+      room = refl;
       present = λ v l. refl;
       absent = λ v l. elim (decLt v 4) [
         | yes i ↦ r .absent v i l
@@ -175,22 +175,34 @@ module _ (alone : Bool) (f : List ℕ) (at : ℕ) (F : ProgramFine alone f at) w
   few-rows : (F .transitions ≤ 256) × (F .targets ≤ 16)
   few-rows = (transitions-most s states f first (F .transitions) (F .rows), targets-most s states f (first + 8 * F .transitions) alone (F .targets) (F .aims))
 
+  well-formed-shape : pws.WellFormedShape (shapeOf s)
+  well-formed-shape =
+      record {
+        someProcess = range .processes .0;
+        someVariable = range .variables .0;
+        someValue = λ v l. range .values v l .0;
+        variables = range .variables .1;
+      }
+
   whole-part : ProgramPartRead (programOf f p) (targetsOf f p)
   whole-part =
       record {
         program =
             record {
+              wellFormed =
+                  record {
+                    shape = well-formed-shape;
+                    initial = λ q l. initial-below f (at + 7) (s .processes) (range .processes .1) (F .states) q l;
+                    transitions = λ i l. taken i (omega (arith, count₁));
+                  };
               shape =
                   record {
-                    someProcess = range .processes .0;
+                    wellFormed = well-formed-shape;
                     processes = range .processes .1;
-                    someVariable = range .variables .0;
                     variables = range .variables .1;
-                    someValue = λ v l. range .values v l .0;
                     values = λ v l. range .values v l .1;
+                    room = refl;
                   };
-              initial = λ q l. initial-below f (at + 7) (s .processes) (range .processes .1) (F .states) q l;
-              transitions = λ i l. taken i (omega (arith, count₁));
             };
         states = λ q l. states-most f (at + 7) (s .processes) (range .processes .1) (F .states) q l;
         transitions = omega (arith, count₁, few-rows .0);

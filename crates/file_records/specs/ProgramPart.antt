@@ -136,7 +136,7 @@ tableFrom g i (suc n) = g i ∷ tableFrom g (suc i) n
 
 -- the shape, the program and the targets of the machine's definitions
 abbrev pub shapeOf : Shape → pws.Shape
-shapeOf s = record { processes = s .processes; variables = s .variables; values = valueCount s }
+shapeOf s = record { processes = s .processes; variables = s .variables; values = valueCount s; room = 4 }
 
 abbrev pub programOf : List ℕ → Program → pws.Program
 programOf f p =

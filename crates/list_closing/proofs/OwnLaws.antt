@@ -17,6 +17,7 @@ use Rattle.machine_pws.specs.Configurations.{Fits}
 use Rattle.machine_pws.specs.Order.{Maps, QueueBelow}
 use Rattle.machine_pws.specs.Insertion.{putMessage, up}
 use Rattle.machine_pws.specs.Entries.{entry, noEntry, FF, ValueOrFF, FillValues, FillChannel, channel-cons, filled, Filling, Above}
+use Rattle.machine_pws.proofs.Ranges.{format-no-ff}
 use Rattle.machine_pws.proofs.Facts.{T-or-not, message-new, message-old, proper, put-each, putQueue-same, putQueue-each}
 use Rattle.machine_pws.proofs.Queues.{skip, queue-to, queue-of}
 use Rattle.machine_pws.proofs.Insertion.{insert-top, up-low, up-high, maps-right}
@@ -87,7 +88,7 @@ module _ (S : Shape) (R : ShapeInRange S) (e : Configuration) (oe : Fits (ValueO
 
   pub repeated-above : (qs : ℕ → ℕ → List ℕ) (ms : List Message) → Filling S before qs ms → Above S e (filled before qs ms)
   repeated-above qs ms F =
-      above-over S R e (filled before qs ms) oe (F .fits) (λ q l. refl)
+      above-over S (R .wellFormed) e (filled before qs ms) oe (F .fits) (λ q l. refl)
       (record { queues = qs; fill = F .queues; below = λ q v a b. queue-refl (qs q v); memory = repeated-memory ms (F .channel) })
 
 -- ---- a serialise
@@ -114,7 +115,7 @@ module _ (S : Shape) (R : ShapeInRange S) (e : Configuration) (oe : Fits (ValueO
       let ys = withoutOldest (qs p v) in
       let x = getD (topmost (e .memory .channel) .snapshot) v 0 in
       let rest = fill-uncons (rw (putQueue-same (e .queue) p v (x ∷ e .queue p v)) at (F .queues p v pe ve)) .2 in
-      above-over S R e (filled top qs ms) oe (F .fits) (λ q l. refl)
+      above-over S (R .wellFormed) e (filled top qs ms) oe (F .fits) (λ q l. refl)
       (record {
         queues = putQueue qs p v ys;
         fill = λ q u a b. unput FillValues (e .queue) qs p v (x ∷ e .queue p v) ys rest q u (F .queues q u a b);
@@ -127,7 +128,7 @@ pub above-held : (S : Shape) (R : ShapeInRange S) (es : List Configuration) → 
     → Fits (ValueOrFF S) S c → ((qs : ℕ → ℕ → List ℕ) (ms : List Message) → Filling S c qs ms → Above S (entry es k) (filled c qs ms)) → held S es c ≡ true
 above-held S R es oes k l c o f =
     ⊎-elim (T-true (held S es c))
-    (λ t. let x = decided-no (held-decided S R es oes c o) t in absurd (x .outside (record { number = k; exists = l; above = f (x .queues) (x .channel) (x .filling) })))
+    (λ t. let x = decided-no (held-decided S (R .wellFormed) es oes (format-no-ff R) c o) t in absurd (x .outside (record { number = k; exists = l; above = f (x .queues) (x .channel) (x .filling) })))
     (T-or-not (held S es c))
 
 -- so is a predecessor cube of an entry, if all its fillings are above that entry
@@ -150,5 +151,5 @@ module _ (g f list sum : List ℕ) (n : ℕ) (p : Program) (c : Cube) (W : Walka
   own-held s k h above =
       let own : configurationOf c ≡ entry es (W .number) = sym (entry-at (W .number) (W .listed) ∙ ap configurationOf (W .is)) in
       above-held S (W .stepping .program .shape) es (λ i l. subst (Fits (ValueOrFF S) S) (sym (entry-at i (omega (arith, l, size)))) (W .entries i (omega (arith, l, size))))
-      (W .number) (omega (arith, W .listed, size)) (cube (programOf g p) (configurationOf c) s k) (entry-cube (programOf g p) (W .stepping .program) (configurationOf c) (W .own) s k (is-yes h) .fits)
+      (W .number) (omega (arith, W .listed, size)) (cube (programOf g p) (configurationOf c) s k) (entry-cube (programOf g p) (W .stepping .program .wellFormed) (configurationOf c) (W .own) s k (is-yes h) .fits)
       (λ qs ms F. subst (λ (e : Configuration). Above S e (filled (cube (programOf g p) (configurationOf c) s k) qs ms)) own (above qs ms F))

@@ -143,7 +143,7 @@ module _ (g f list sum : List ℕ) (n : ℕ) (p : Program) (c : Cube) (W : Walka
               shape = W .stepping .program .shape;
               entries = W .entries;
               fits = subst (Fits (ValueOrFF (shapeOf (p .shape))) (shapeOf (p .shape))) (sym (d .configuration))
-                  (entry-cube (programOf g p) (W .stepping .program) (configurationOf c) (W .own) s k (is-yes i) .fits);
+                  (entry-cube (programOf g p) (W .stepping .program .wellFormed) (configurationOf c) (W .own) s k (is-yes i) .fits);
               messages = d .count;
               waiting = short r (d .queues);
             };

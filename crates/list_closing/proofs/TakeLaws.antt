@@ -61,10 +61,10 @@ module _ (g f list sum : List ℕ) (n : ℕ) (p : Program) (c : Cube) (W : Walka
   take-cube k = ap (λ (t : Transition). takeBefore (configurationOf c) (t .process) (t .from) (t .operation) k) (A .is)
 
   pub process-exists : q < p .shape .processes
-  process-exists = subst (λ (t : Transition). t .process < p .shape .processes) (A .is) (W .stepping .program .transitions j (A .exists) .process)
+  process-exists = subst (λ (t : Transition). t .process < p .shape .processes) (A .is) (W .stepping .program .wellFormed .transitions j (A .exists) .process)
 
   pub operation-exists : OperationOf (shapeOf (p .shape)) o
-  operation-exists = subst (λ (t : Transition). OperationOf (shapeOf (p .shape)) (t .operation)) (A .is) (W .stepping .program .transitions j (A .exists) .operation)
+  operation-exists = subst (λ (t : Transition). OperationOf (shapeOf (p .shape)) (t .operation)) (A .is) (W .stepping .program .wellFormed .transitions j (A .exists) .operation)
 
   -- the search's answer h for the cube r
   abbrev Answer : Cube → Bool → Type 0

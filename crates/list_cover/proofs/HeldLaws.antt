@@ -13,6 +13,7 @@ use Rattle.machine_pws.specs.Machine.{Configuration, allBelow, message, noMessa
 use Rattle.machine_pws.specs.declared.Message.{Message}
 use Rattle.machine_pws.specs.Configurations.{Fits}
 use Rattle.machine_pws.specs.Entries.{FF, ValueOrFF, entry, noEntry}
+use Rattle.machine_pws.proofs.Ranges.{format-no-ff}
 use Rattle.machine_pws.proofs.Facts.{putQueue-each}
 use Rattle.list_theory.specs.Lists.{anyOf}
 use Rattle.list_theory.specs.Values.{fills, alike}
@@ -51,22 +52,22 @@ module _ (S : pws.Shape) (R : pws.ShapeInRange S) (es : List Configuration) (oes
   outside-by u false d = refl
 
   held-is : Held S es c → held S es c ≡ true
-  held-is H = held-by H (held S es c) (held-decided S R es oes c o)
+  held-is H = held-by H (held S es c) (held-decided S (R .wellFormed) es oes (format-no-ff R) c o)
 
   outside-is : Outside S es c → held S es c ≡ false
-  outside-is u = outside-by u (held S es c) (held-decided S R es oes c o)
+  outside-is u = outside-by u (held S es c) (held-decided S (R .wellFormed) es oes (format-no-ff R) c o)
 
   is-held : held S es c ≡ true → Held S es c
-  is-held e = decided-yes (held-decided S R es oes c o) (subst T (sym e) tt)
+  is-held e = decided-yes (held-decided S (R .wellFormed) es oes (format-no-ff R) c o) (subst T (sym e) tt)
 
   is-outside : held S es c ≡ false → Outside S es c
-  is-outside e = decided-no (held-decided S R es oes c o) (subst (λ (b : Bool). T (not b)) (sym e) tt)
+  is-outside e = decided-no (held-decided S (R .wellFormed) es oes (format-no-ff R) c o) (subst (λ (b : Bool). T (not b)) (sym e) tt)
 
   covered : (k : ℕ) → k < length es → matches S fills (entry es k) c ≡ true → held S es c ≡ true
-  covered k l e = held-is (covered-held S R es oes c (number-any (λ d. matches S fills d c) noEntry es k l (subst T (sym e) tt)))
+  covered k l e = held-is (covered-held S (R .wellFormed) es oes c (number-any (λ d. matches S fills d c) noEntry es k l (subst T (sym e) tt)))
 
   unmet : ((k : ℕ) → k < length es → matches S alike (entry es k) c ≡ false) → held S es c ≡ false
-  unmet f = outside-is (unmet-outside S R es oes c o (λ t. let r = any-number (λ d. matches S alike d c) noEntry es t in subst T (f (r .0) (r .1)) (r .2)))
+  unmet f = outside-is (unmet-outside S (R .wellFormed) es oes c o (λ t. let r = any-number (λ d. matches S alike d c) noEntry es t in subst T (f (r .0) (r .1)) (r .2)))
 
   -- no value is free
   three : (a b d x y : Bool) → a ≡ false → d ≡ false → y ≡ false → elim a [ true ↦ true | false ↦ elim b [ true ↦ elim d [ true ↦ x | false ↦ y ] | false ↦ false ] ] ≡ false
@@ -90,7 +91,7 @@ module _ (S : pws.Shape) (R : pws.ShapeInRange S) (es : List Configuration) (oes
 
   module _ (a : lists.Place) (w : Valid S c a) (e : at c a ≡ FF) where
     part-fits : (x : ℕ) → x < S .values (variableOf a) → Fits (ValueOrFF S) S (split c a x)
-    part-fits x l = split-fits S c (R .variables) o a w x l
+    part-fits x l = split-fits S c (R .wellFormed .variables) o a w x l
 
 -- held of parts, and of the whole
 module _ (S : pws.Shape) (R : pws.ShapeInRange S) (es : List Configuration) (oes : (k : ℕ) → k < length es → Fits (ValueOrFF S) S (entry es k))

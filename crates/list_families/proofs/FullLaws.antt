@@ -9,11 +9,11 @@ use lib.ListN.{length}
 use lib.Dec.{T}
 use Rattle.machine_pws.specs.declared.Message.{Message}
 use Rattle.machine_pws.specs.declared.Step.the-variants.{Update}
-use Rattle.machine_pws.specs.Program.{Shape, ShapeInRange, Program, ProgramInRange}
+use Rattle.machine_pws.specs.Program.{Shape, WellFormedShape, Program, WellFormed}
 use Rattle.machine_pws.specs.Machine.{Memory, Configuration, message, point, after}
 use Rattle.machine_pws.specs.Configurations.{MessageIn, MemoryIn, Fits, ValueOf}
 use Rattle.machine_pws.specs.Order.{Maps}
-use Rattle.machine_pws.specs.Entries.{EntryOf, entry, ValueOrFF, FillValues, values-nil, FillChannel, channel-nil, channel-cons, filled, AboveList, Above}
+use Rattle.machine_pws.specs.Entries.{NoValueIsFF, EntryOf, entry, ValueOrFF, FillValues, values-nil, FillChannel, channel-nil, channel-cons, filled, AboveList, Above}
 use Rattle.machine_pws.proofs.Facts.{T-or-not, put-each, message-each, message-new, message-old, proper}
 use Rattle.machine_pws.proofs.Moves.{maps-newest}
 use Rattle.machine_pws.proofs.Preorder.{list-up, queue-refl}
@@ -35,14 +35,14 @@ use Rattle.list_families.specs.Family.{Clue, newest, sees, Clued, InFami
 use Rattle.list_families.proofs.Steps.{shut-step}
 use Rattle.list_families.proofs.InLaws.{pairwise-values, family-fill, top-newest, family-up}
 
-module _ (S : Shape) (R : ShapeInRange S) (es : List Configuration) (oes : (k : ℕ) → k < length es → Fits (ValueOrFF S) S (entry es k)) where
+module _ (S : Shape) (R : WellFormedShape S) (N : NoValueIsFF S) (es : List Configuration) (oes : (k : ℕ) → k < length es → Fits (ValueOrFF S) S (entry es k)) where
   -- ---- what a full family says
 
   -- a cube in it is held
   pub family-held : (q : Clue) (e c : Configuration) → FamilyHeld S es q e → InFamily S q e c → Fits (ValueOrFF S) S c → held S es c ≡ true
   family-held q e c H i o =
       ⊎-elim (T-true (held S es c))
-      (λ t. let x = decided-no (held-decided S R es oes c o) t in absurd (x .outside (H (filled c (x .queues) (x .channel)) (x .filling .fits) (family-fill S q e c (x .queues) (x .channel) (x .filling) i))))
+      (λ t. let x = decided-no (held-decided S R es oes N c o) t in absurd (x .outside (H (filled c (x .queues) (x .channel)) (x .filling .fits) (family-fill S q e c (x .queues) (x .channel) (x .filling) i))))
       (T-or-not (held S es c))
 
   -- ---- how it is tested, if it is one of newest values
@@ -145,7 +145,7 @@ module _ (S : Shape) (R : ShapeInRange S) (es : List Configuration) (oes : (k : 
     pub family-full : every (held S es) (familyCubes S e) ≡ true → FamilyHeld S es newest e
     family-full y = family-shapes (λ m j.
         let k = Memᴰ·map (familyCube e) j in
-        decided-yes (held-decided S R es oes (familyCube e m) (cubes-fit (familyCube e m) k)) (every-yes (held S es) (familyCubes S e) (subst T (sym y) tt) (familyCube e m) k))
+        decided-yes (held-decided S R es oes N (familyCube e m) (cubes-fit (familyCube e m) k)) (every-yes (held S es) (familyCubes S e) (subst T (sym y) tt) (familyCube e m) k))
 
 -- An update leaves local states, queues and the channel as they are, and takes no LastWrite down: none leads in from outside.
 clued-update : (S : Shape) (q : Clue) (e m : Memory) (p : ℕ) → Clued S q e (point m p (suc (m .pointer p))) → Clued S q e m
@@ -161,11 +161,11 @@ clued-update S (sees r v x) e m p y =
       is = y .is;
     }
 
-module _ (P : Program) (R : ProgramInRange P) (es : List Configuration) (oes : (k : ℕ) → k < length es → Fits (ValueOrFF (P .shape)) (P .shape) (entry es k)) where
+module _ (P : Program) (R : WellFormed P) (N : NoValueIsFF (P .shape)) (es : List Configuration) (oes : (k : ℕ) → k < length es → Fits (ValueOrFF (P .shape)) (P .shape) (entry es k)) where
   abbrev S : Shape
   S = P .shape
 
   pub family-update : (q : Clue) (e c : Configuration) → FamilyHeld S es q e → InFamily S q e c → EntryOf P c → (p : ℕ) → every (held S es) (predecessors P c (Update p)) ≡ true
-  family-update q e c H i o p = shut-step P R es oes c o (Update p) (λ d w m A.
+  family-update q e c H i o p = shut-step P R N es oes c o (Update p) (λ d w m A.
       let j = family-up S (R .shape) c (after P d (Update p)) (o .fits) (step-configuration P R d w (Update p) m .fits) A q e i in
       H d (w .fits) (record { states = j .states; queues = j .queues; clue = clued-update S q (e .memory) (d .memory) p (j .clue) }))

@@ -9,7 +9,7 @@ use lib.ListN.{length, getD}
 use lib.Dec.{T}
 use mir.Facts.{and-yes, yes-and}
 use Rattle.machine_pws.specs.declared.Message.{Message}
-use Rattle.machine_pws.specs.Program.{Shape, ShapeInRange}
+use Rattle.machine_pws.specs.Program.{Shape, WellFormedShape}
 use Rattle.machine_pws.specs.Machine.{Memory, Configuration, message, lastWrite, newestWaiting, newest}
 use Rattle.machine_pws.specs.Configurations.{Fits, ValueOf}
 use Rattle.machine_pws.specs.Order.{Live, Maps}
@@ -153,7 +153,7 @@ module _ (S : Shape) (m n : Memory) (gm : Proper S m) (gn : Proper S n) (h : ℕ
   clued-maps a b c family.newest e y = subst (λ (z : Message). T (pairwise fills (topmost (e .channel) .snapshot) (z .snapshot))) (newest-mapped a b c) y
   clued-maps a b c (family.sees p v x) e y = sees-maps p v x y
 
-module _ (S : Shape) (R : ShapeInRange S) (c d : Configuration) (oc : Fits (ValueOrFF S) S c) (od : Fits (ValueOf S) S d) (A : Above S c d) where
+module _ (S : Shape) (R : WellFormedShape S) (c d : Configuration) (oc : Fits (ValueOrFF S) S c) (od : Fits (ValueOf S) S d) (A : Above S c d) where
   clued-above : (q : Clue) (e : Memory) → Clued S q e (c .memory) → Clued S q e (d .memory)
   clued-above q e y =
       clued-maps S (memoryOf (A .channel) (c .memory .pointer)) (d .memory) (proper (A .filling .fits .memory)) (proper (od .memory)) (A .below .h) (A .below .maps)

@@ -10,12 +10,12 @@ use lib.ListN.{length, getD}
 use lib.Dec.{T, leb, ltb}
 use borrow.Author.Tests.{le-leb, lt-ltb}
 use Rattle.machine_pws.specs.declared.Message.{Message}
-use Rattle.machine_pws.specs.Program.{Shape, ShapeInRange}
+use Rattle.machine_pws.specs.Program.{Shape, WellFormedShape}
 use Rattle.machine_pws.specs.Machine.{Memory, Configuration, message, lastWrite}
 use Rattle.machine_pws.specs.Configurations.{MessageIn, MemoryIn, Fits, ValueOf}
 use Rattle.machine_pws.specs.Order.{Live, Maps}
 use Rattle.machine_pws.specs.Insertion.{putMessage, up, insertInto}
-use Rattle.machine_pws.specs.Entries.{entry, ValueOrFF, values-nil, FillMessage, FillChannel, AboveList, Above}
+use Rattle.machine_pws.specs.Entries.{NoValueIsFF, entry, ValueOrFF, values-nil, FillMessage, FillChannel, AboveList, Above}
 use Rattle.machine_pws.proofs.Facts.{labelled-self, Proper, proper, is-last, live-last}
 use Rattle.machine_pws.proofs.Preorder.{list-up, queue-refl}
 use Rattle.machine_pws.proofs.Steps.{message-set}
@@ -65,7 +65,7 @@ module _ (S : Shape) (p v x : ℕ) (s : Memory) where
 
 -- ---- each is in order, and so is its cube
 
-module _ (S : Shape) (R : ShapeInRange S) (p v x : ℕ) (ve : v < S .variables) (xe : x < S .values v) where
+module _ (S : Shape) (R : WellFormedShape S) (p v x : ℕ) (ve : v < S .variables) (xe : x < S .values v) where
   message-with : (r u : ℕ) → r < S .processes → u < S .variables → MessageIn (ValueOrFF S) S (messageWith S r u v x)
   message-with r u re ue = relabel (message-set r v x (R .variables) (message-any S (R .variables) r u re ue) re ve (inr xe)) r u re ue
 
@@ -105,7 +105,7 @@ module _ (S : Shape) (R : ShapeInRange S) (p v x : ℕ) (ve : v < S .variables) 
 
 -- ---- a memory in which p can come to see x in v is above one of them
 
-module _ (S : Shape) (R : ShapeInRange S) (p v x : ℕ) (n : Memory) (on : MemoryIn (ValueOf S) S n) (w : Sees S p v x n)
+module _ (S : Shape) (R : WellFormedShape S) (p v x : ℕ) (n : Memory) (on : MemoryIn (ValueOf S) S n) (w : Sees S p v x n)
     (s : Memory) (os : MemoryIn (ValueOrFF S) S s) {ms : List Message} (f : FillChannel (s .channel) ms) (h : ℕ → ℕ) (M : Maps S (memoryOf ms (s .pointer)) n h) where
   record Seen : Type 0 where
     memory : Memory
@@ -206,7 +206,7 @@ module _ (S : Shape) (R : ShapeInRange S) (p v x : ℕ) (n : Memory) (on : Memor
 
 -- ---- states and queues are the entry's
 
-module _ (S : Shape) (R : ShapeInRange S) (e d : Configuration) (od : Fits (ValueOf S) S d) (states : (q : ℕ) → q < S .processes → e .state q ≡ d .state q)
+module _ (S : Shape) (R : WellFormedShape S) (e d : Configuration) (od : Fits (ValueOf S) S d) (states : (q : ℕ) → q < S .processes → e .state q ≡ d .state q)
     (queues : (q u : ℕ) → q < S .processes → u < S .variables → QueueMatch fills (e .queue q u) (d .queue q u)) where
   abbrev bare : Memory → Configuration
   bare m = record { state = d .state; queue = λ q u. []; memory = m }
@@ -222,7 +222,7 @@ module _ (S : Shape) (R : ShapeInRange S) (e d : Configuration) (od : Fits (Valu
       let C = above-match S R (bare m) (bare (d .memory)) (bare-fits m (o .memory)) (bare-fits (d .memory) (od .memory)) .0 A in
       above-match S R (withMemory e m) d o od .1 (record { states = states; queues = queues; channel = C .channel })
 
-module _ (S : Shape) (R : ShapeInRange S) (es : List Configuration) (oes : (k : ℕ) → k < length es → Fits (ValueOrFF S) S (entry es k))
+module _ (S : Shape) (R : WellFormedShape S) (N : NoValueIsFF S) (es : List Configuration) (oes : (k : ℕ) → k < length es → Fits (ValueOrFF S) S (entry es k))
     (e : Configuration) (oe : Fits (ValueOrFF S) S e) (p v x : ℕ) (ve : v < S .variables) (xe : x < S .values v) where
   -- one of the cubes has a memory below n, but for its free values
   record Found (n : Memory) : Type 0 where
@@ -254,6 +254,6 @@ module _ (S : Shape) (R : ShapeInRange S) (es : List Configuration) (oes : (k : 
       go s =
           let c = withMemory e (s .memory) in
           let o = seen-fits S R p v x ve xe e oe c (s .in-cubes) in
-          let H = decided-yes (held-decided S R es oes c o) (every-yes (held S es) (seenCubes S p v x e) (subst T (sym y) tt) c (s .in-cubes)) in
+          let H = decided-yes (held-decided S R es oes N c o) (every-yes (held S es) (seenCubes S p v x e) (subst T (sym y) tt) c (s .in-cubes)) in
           let A = above-memory S R e d od states queues (s .memory) o (s .filled) in
           list-up (H (A .queues) (A .channel) (A .filling)) (A .below)

@@ -13,11 +13,11 @@ use mir.Facts.{and-yes, yes-and}
 use borrow.Author.Tests.{ltb-true}
 use Rattle.machine_pws.specs.declared.Message.{Message}
 use Rattle.machine_pws.specs.declared.Step.the-variants.{Serialise}
-use Rattle.machine_pws.specs.Program.{Shape, ShapeInRange, Program, ProgramInRange}
+use Rattle.machine_pws.specs.Program.{Shape, WellFormedShape, Program, WellFormed}
 use Rattle.machine_pws.specs.Machine.{Memory, Configuration, message, newest, labelled, lastLabelled, lastWrite, copyWith, append, isEmpty, newestWaiting, withoutOldest, putQueue, after}
 use Rattle.machine_pws.specs.Configurations.{MemoryIn, Fits, ValueOf, ConfigurationOf}
 use Rattle.machine_pws.specs.Order.{Live, Maps}
-use Rattle.machine_pws.specs.Entries.{EntryOf, entry, FF, ValueOrFF, FillMessage, FillChannel, Above}
+use Rattle.machine_pws.specs.Entries.{NoValueIsFF, EntryOf, entry, FF, ValueOrFF, FillMessage, FillChannel, Above}
 use Rattle.machine_pws.proofs.Facts.{putQueue-same, putQueue-other, message-old, message-new, proper, is-last, live-last}
 use Rattle.machine_pws.proofs.Moves.{maps-le, maps-top, maps-newest}
 use Rattle.machine_pws.proofs.Steps.{step-configuration}
@@ -102,7 +102,7 @@ last-grown m x r t l = go (labelled x r t)
     go false = omega arith
 
 -- m with one message more is above c, of which ms is a filling in: what can be seen in c with FF in v of its newest message can be seen in m
-module _ (S : Shape) (R : ShapeInRange S) (c m : Memory) (p v y : ℕ) (oc : MemoryIn (ValueOrFF S) S c) (om : MemoryIn (ValueOf S) S m) (u : v < S .variables) (on : MemoryIn (ValueOf S) S (append m p v y))
+module _ (S : Shape) (R : WellFormedShape S) (c m : Memory) (p v y : ℕ) (oc : MemoryIn (ValueOrFF S) S c) (om : MemoryIn (ValueOf S) S m) (u : v < S .variables) (on : MemoryIn (ValueOf S) S (append m p v y))
     (ms : List Message) (F : FillChannel (c .channel) ms) (of : MemoryIn (ValueOf S) S (memoryOf ms (c .pointer))) (h : ℕ → ℕ) (M : Maps S (memoryOf ms (c .pointer)) (append m p v y) h) where
   abbrev next : Memory
   next = append m p v y
@@ -125,8 +125,8 @@ module _ (S : Shape) (R : ShapeInRange S) (c m : Memory) (p v y : ℕ) (oc : Mem
   seen-newest r t x a b l e =
       record { process = a; variable = b; small = l; at = length (m .channel); from = is-last S m (proper om) r t a .high; upto = omega arith; is = shown (ℕ-discrete t v) }
     where
-      room : length (own .snapshot) ≡ 4
-      room = subst (λ (z : Message). length (z .snapshot) ≡ 4) (sym (top-newest (c .channel) (oc .some))) (oc .messages (length (c .channel)) (oc .some) (omega arith) .room)
+      room : length (own .snapshot) ≡ S .room
+      room = subst (λ (z : Message). length (z .snapshot) ≡ S .room) (sym (top-newest (c .channel) (oc .some))) (oc .messages (length (c .channel)) (oc .some) (omega arith) .room)
 
       shown : Dec (t ≡ v) → getD (newest (m .channel) .snapshot) t 0 ≡ x
       shown (yes d) = absurd (omega (arith, e, ap (λ (i : ℕ). getD (set (own .snapshot) v FF) i 0) d, getD-set-same (own .snapshot) v FF 0 (omega (arith, room, R .variables))))
@@ -173,7 +173,7 @@ module _ (S : Shape) (R : ShapeInRange S) (c m : Memory) (p v y : ℕ) (oc : Mem
         ∙ message-new (messageOf p v (set (own .snapshot) v FF)) (older (c .channel)))) ∙ s .is)
   ]
 
-module _ (P : Program) (R : ProgramInRange P) (es : List Configuration) (oes : (k : ℕ) → k < length es → Fits (ValueOrFF (P .shape)) (P .shape) (entry es k)) where
+module _ (P : Program) (R : WellFormed P) (N : NoValueIsFF (P .shape)) (es : List Configuration) (oes : (k : ℕ) → k < length es → Fits (ValueOrFF (P .shape)) (P .shape) (entry es k)) where
   abbrev S : Shape
   S = P .shape
 
@@ -187,8 +187,8 @@ module _ (P : Program) (R : ProgramInRange P) (es : List Configuration) (oes : (
     fitted : T (pairwise fills values (set (topmost (d .memory .channel) .snapshot) v y))
     fitted = subst (λ (n : Message). T (pairwise fills values (set (n .snapshot) v y))) (sym (top-newest (d .memory .channel) (o .fits .memory .some))) (J .clue)
 
-    room : length (topmost (d .memory .channel) .snapshot) ≡ 4
-    room = subst (λ (n : Message). length (n .snapshot) ≡ 4) (sym (top-newest (d .memory .channel) (o .fits .memory .some))) (o .fits .memory .messages (length (d .memory .channel)) (o .fits .memory .some) (omega arith) .room)
+    room : length (topmost (d .memory .channel) .snapshot) ≡ S .room
+    room = subst (λ (n : Message). length (n .snapshot) ≡ S .room) (sym (top-newest (d .memory .channel) (o .fits .memory .some))) (o .fits .memory .messages (length (d .memory .channel)) (o .fits .memory .some) (omega arith) .room)
 
     first : T (fills (getD values v 0) y)
     first =
@@ -234,7 +234,7 @@ module _ (P : Program) (R : ProgramInRange P) (es : List Configuration) (oes : (
         (A .below .maps) r t x y
 
   pub family-serialise : (q : Clue) (e c : Configuration) (p v : ℕ) → FamilyHeld S es q e → InFamily S q e (cube P c (Serialise p v) (onTop v)) → EntryOf P c → every (held S es) (predecessors P c (Serialise p v)) ≡ true
-  family-serialise q e c p v H i o = shut-step P R es oes c o (Serialise p v) (λ d w m A.
+  family-serialise q e c p v H i o = shut-step P R N es oes c o (Serialise p v) (λ d w m A.
       let x = and-yes (ltb p (S .processes) && ltb v (S .variables)) (not (isEmpty (d .queue p v))) m in
       let z = and-yes (ltb p (S .processes)) (ltb v (S .variables)) (x .0) in
       let f = step-configuration P R d w (Serialise p v) m .fits in

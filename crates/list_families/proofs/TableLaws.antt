@@ -15,6 +15,7 @@ use Rattle.machine_pws.specs.Program as pws
 use Rattle.machine_pws.specs.Machine.{Memory, Configuration, noMessage, allBelow}
 use Rattle.machine_pws.specs.Configurations.{Fits}
 use Rattle.machine_pws.specs.Entries.{EntryOf, ValueOrFF, noEntry, entry}
+use Rattle.machine_pws.proofs.Ranges.{format-no-ff}
 use Rattle.machine_pws.proofs.Cases.{all-yes}
 use Rattle.list_theory.specs.Lists.{every}
 use Rattle.list_theory.specs.Values.{fills, pairwise}
@@ -209,7 +210,7 @@ module _ (s : Shape) (R : pws.ShapeInRange (shapeOf s)) (f list : List ℕ) (n :
 
   pub recorded-held : ((k : ℕ) → k < n → Fits (ValueOrFF (shapeOf s)) (shapeOf s) (configurationOf (cubeAt f list k))) → Fits (ValueOrFF (shapeOf s)) (shapeOf s) (configurationOf c)
       → held (shapeOf s) es (configurationOf c) ≡ true
-  recorded-held oes o = family-held (shapeOf s) R es (listed (shapeOf s) f list n oes) asked (configurationOf (cubeAt f list number)) (configurationOf c) found-full found-in o
+  recorded-held oes o = family-held (shapeOf s) (R .wellFormed) (format-no-ff R) es (listed (shapeOf s) f list n oes) asked (configurationOf (cubeAt f list number)) (configurationOf c) found-full found-in o
 
   module _ (P : pws.Program) (RP : pws.ProgramInRange P) (same : P .shape ≡ shapeOf s) (oes : (k : ℕ) → k < n → Fits (ValueOrFF (shapeOf s)) (shapeOf s) (configurationOf (cubeAt f list k))) where
     fitting : (k : ℕ) → k < length es → Fits (ValueOrFF (P .shape)) (P .shape) (entry es k)
@@ -222,9 +223,9 @@ module _ (s : Shape) (R : pws.ShapeInRange (shapeOf s)) (f list : List ℕ) (n :
     in-here = subst (λ (S : pws.Shape). InFamily S asked (configurationOf (cubeAt f list number)) (configurationOf c)) (sym same) found-in
 
     pub recorded-update : EntryOf P (configurationOf c) → (p : ℕ) → every (held (P .shape) es) (predecessors P (configurationOf c) (Update p)) ≡ true
-    recorded-update o p = family-update P RP es fitting asked (configurationOf (cubeAt f list number)) (configurationOf c) full-here in-here o p
+    recorded-update o p = family-update P (RP .wellFormed) (format-no-ff (RP .shape)) es fitting asked (configurationOf (cubeAt f list number)) (configurationOf c) full-here in-here o p
 
     -- the cube is what a serialise to d may lead from, with another newest message
     pub recorded-serialise : (d : Configuration) → EntryOf P d → (p v : ℕ) → configurationOf c ≡ cube P d (Serialise p v) (onTop v) → every (held (P .shape) es) (predecessors P d (Serialise p v)) ≡ true
     recorded-serialise d o p v e =
-        family-serialise P RP es fitting asked (configurationOf (cubeAt f list number)) d p v full-here (subst (InFamily (P .shape) asked (configurationOf (cubeAt f list number))) e in-here) o
+        family-serialise P (RP .wellFormed) (format-no-ff (RP .shape)) es fitting asked (configurationOf (cubeAt f list number)) d p v full-here (subst (InFamily (P .shape) asked (configurationOf (cubeAt f list number))) e in-here) o

@@ -10,9 +10,9 @@ use mir.Facts.{and-yes}
 use borrow.Author.Tests.{eqb-true}
 use Rattle.machine_pws.specs.declared.Step.{Step}
 use Rattle.machine_pws.specs.declared.Step.the-variants.{Take, Serialise, Update}
-use Rattle.machine_pws.specs.Program.{Program, ProgramInRange, transition}
+use Rattle.machine_pws.specs.Program.{Program, WellFormed, transition}
 use Rattle.machine_pws.specs.Machine.{Configuration, put, mayOperate}
-use Rattle.machine_pws.specs.Entries.{EntryOf, entry}
+use Rattle.machine_pws.specs.Entries.{NoValueIsFF, EntryOf, entry}
 use Rattle.machine_pws.proofs.Facts.{T-or-not}
 use Rattle.list_theory.specs.Lists.{every}
 use Rattle.list_theory.specs.Verdict.{TargetHeld, WayIn}
@@ -27,7 +27,7 @@ statesBefore P e (Take n) = put (e .state) (transition P n .process) (transition
 statesBefore P e (Serialise p v) = e .state
 statesBefore P e (Update p) = e .state
 
-module _ (P : Program) (R : ProgramInRange P) (es : List Configuration) (oes : (k : ℕ) → k < length es → EntryOf P (entry es k)) where
+module _ (P : Program) (R : WellFormed P) (N : NoValueIsFF (P .shape)) (es : List Configuration) (oes : (k : ℕ) → k < length es → EntryOf P (entry es k)) where
   -- what a way in has for local states
   way-states : (e : Configuration) (s : Step) → (w : WayIn P es e s) → (p : ℕ) → p < P .shape .processes → w .configuration .state p ≡ statesBefore P e s p
   way-states e (Take n) w p l = go (eqb p (transition P n .process)) refl
@@ -44,5 +44,5 @@ module _ (P : Program) (R : ProgramInRange P) (es : List Configuration) (oes : (
 
   pub full-step : (e : Configuration) → EntryOf P e → (s : Step) → TargetHeld P es (statesBefore P e s) → every (held (P .shape) es) (predecessors P e s) ≡ true
   full-step e o s H =
-      ⊎-elim (T-true _) (λ t. let w = step-no P R es oes e o s t in absurd (w .outside (H (w .configuration) (w .of) (way-states e s w))))
+      ⊎-elim (T-true _) (λ t. let w = step-no P R N es oes e o s t in absurd (w .outside (H (w .configuration) (w .of) (way-states e s w))))
       (T-or-not (every (held (P .shape) es) (predecessors P e s)))

@@ -16,6 +16,7 @@ use Rattle.machine_pws.specs.Program.{Program, ProgramInRange, transition}
 use Rattle.machine_pws.specs.Machine.{Configuration, put, allBelow}
 use Rattle.machine_pws.specs.Configurations.{InTarget}
 use Rattle.machine_pws.specs.Entries.{EntryOf, entry}
+use Rattle.machine_pws.proofs.Ranges.{format-no-ff}
 use Rattle.machine_pws.proofs.Cases.{all-yes}
 use Rattle.list_theory.specs.Lists.{every}
 use Rattle.list_theory.specs.Verdict.{TargetHeld}
@@ -174,16 +175,16 @@ module _ (P : Program) (R : ProgramInRange P) (es : List Configuration) where
     module _ (d : Configuration) (o : EntryOf P d) (own : d .state ≡ (λ q. getD states q 0)) where
       -- serialise and update leave local states as they are
       pub full-serialise : isFull table s states ≡ true → (p v : ℕ) → every (held (P .shape) es) (predecessors P d (Serialise p v)) ≡ true
-      full-serialise i p v = full-step P R es (F .entries) d o (Serialise p v) (subst (TargetHeld P es) (sym own) (full-held i))
+      full-serialise i p v = full-step P (R .wellFormed) (format-no-ff (R .shape)) es (F .entries) d o (Serialise p v) (subst (TargetHeld P es) (sym own) (full-held i))
 
       pub full-update : isFull table s states ≡ true → (p : ℕ) → every (held (P .shape) es) (predecessors P d (Update p)) ≡ true
-      full-update i p = full-step P R es (F .entries) d o (Update p) (subst (TargetHeld P es) (sym own) (full-held i))
+      full-update i p = full-step P (R .wellFormed) (format-no-ff (R .shape)) es (F .entries) d o (Update p) (subst (TargetHeld P es) (sym own) (full-held i))
 
 module _ (P : Program) (R : ProgramInRange P) (es : List Configuration) (table states : List ℕ) (s : Shape) (e : P .shape .processes ≡ s .processes) (F : Full P es table)
     (d : Configuration) (o : EntryOf P d) (own : d .state ≡ (λ q. getD states q 0)) where
   pub full-take : (n : ℕ) → isFull table s (statesFrom states (transition P n .process) (transition P n .from)) ≡ true → every (held (P .shape) es) (predecessors P d (Take n)) ≡ true
   full-take n i =
-      full-step P R es (F .entries) d o (Take n)
+      full-step P (R .wellFormed) (format-no-ff (R .shape)) es (F .entries) d o (Take n)
       (held-as P R es (statesBefore P d (Take n)) (λ q. getD (statesFrom states (transition P n .process) (transition P n .from)) q 0) (λ q l.
       ap (λ (f : ℕ → ℕ). put f (transition P n .process) (transition P n .from) q) own
       ∙ sym (from-is states (transition P n .process) (transition P n .from) q (omega (arith, R .shape .processes))))

@@ -246,4 +246,4 @@ pub shapes-fit : (S : pws.Shape) → pws.ShapeInRange S → (t : ℕ → ℕ) (c
 shapes-fit S R t c i =
     let r = each-in (memoryShapes S) (λ m. map (λ q. record { state = t; queue = q; memory = m }) (queueShapes (S .processes) (S .variables))) i in
     let q = Memᴰ·of-map (λ (q : ℕ → ℕ → List ℕ). record { state = t; queue = q; memory = r .0 }) (queueShapes (S .processes) (S .variables)) (r .2) in
-    subst (Fits (ValueOrFF S) S) (q .2) (record { memory = memory-shape S R (r .0) (r .1); queues = queues-shape S (S .processes) (q .0) (omega arith) (q .1) })
+    subst (Fits (ValueOrFF S) S) (q .2) (record { memory = memory-shape S (R .wellFormed) (r .0) (r .1); queues = queues-shape S (S .processes) (q .0) (omega arith) (q .1) })

@@ -10,7 +10,7 @@ use lib.Dec.{T, eqb, ltb, ltb→lt, eqb→eq}
 use borrow.Author.Tests.{ne-eqb}
 use mir.Facts.{and-yes, or-yes}
 use Rattle.machine_pws.specs.declared.Transition.{Transition}
-use Rattle.machine_pws.specs.Program.{Program, ProgramInRange, TransitionOf, transition}
+use Rattle.machine_pws.specs.Program.{Program, WellFormed, TransitionOf, transition}
 use Rattle.machine_pws.specs.Machine.{Configuration, message}
 use Rattle.machine_pws.specs.Configurations.{All, MessageIn, StatesOf}
 use Rattle.machine_pws.specs.Entries.{FF, ValueOrFF, EntryOf, entry}
@@ -98,17 +98,15 @@ by-number F f (d ∷ ds) a (suc k) l = by-number F f ds (λ e i. a e (List·Mem�
 
 -- ---- rows
 
-program-of : (ts : List Transition) → ((n : ℕ) → n < length ts → TransitionOf (programWith ts) (transition (programWith ts) n)) → ProgramInRange (programWith ts)
+program-of : (ts : List Transition) → ((n : ℕ) → n < length ts → TransitionOf (programWith ts) (transition (programWith ts) n)) → WellFormed (programWith ts)
 program-of ts f =
     record {
       shape =
           record {
             someProcess = omega arith;
-            processes = omega arith;
             someVariable = omega arith;
-            variables = omega arith;
             someValue = λ v e. omega arith;
-            values = λ v e. omega arith;
+            variables = omega arith;
           };
       initial = λ p e. omega arith;
       transitions = f;
@@ -117,7 +115,7 @@ program-of ts f =
 abbrev inRange : Row → Bool
 inRange r = ltb (r .state) 2 && every fine (r .entries)
 
-holds : (r : Row) → ProgramInRange (programOf r) → T (inRange r) → computed r ≡ r .verdict → Holds r
+holds : (r : Row) → WellFormed (programOf r) → T (inRange r) → computed r ≡ r .verdict → Holds r
 unfolding Holds
 holds r R t e =
     let w = and-yes (ltb (r .state) 2) (every fine (r .entries)) t in
@@ -127,23 +125,23 @@ holds r R t e =
     let q = r .state in
     let f : ℕ × List ℕ → Configuration = λ d. entryWith q (d .0) (d .1) in
     subst (ListJudged P (targetsOf r) (entriesOf r)) e
-    (verdict-judged P R (entriesOf r) (by-number (EntryOf P) f (r .entries) (λ d i. entry-of ts q d l (every-yes fine (r .entries) (w .1) d i))) (targetsOf r)
+    (verdict-judged P R (λ v l. omega arith) (entriesOf r) (by-number (EntryOf P) f (r .entries) (λ d i. entry-of ts q d l (every-yes fine (r .entries) (w .1) d i))) (targetsOf r)
     (elim [ zero ↦ λ a. states-of ts q l | suc k ↦ λ a. absurd (omega arith) ])
     (by-number (λ c. (p : ℕ) × (p < 1) × (c .memory .pointer p ≡ 1)) f (r .entries) (λ d i. (0, omega arith, refl))))
 
 -- what is computed of each row holds of it
 data InRange : List Row → Type 0 where
   no-more : InRange []
-  one-more : {r : Row} {rs : List Row} → ProgramInRange (programOf r) → T (inRange r) → InRange rs → InRange (r ∷ rs)
+  one-more : {r : Row} {rs : List Row} → WellFormed (programOf r) → T (inRange r) → InRange rs → InRange (r ∷ rs)
 
 hold : {rs : List Row} → InRange rs → map computed rs ≡ map (λ (r : Row). r .verdict) rs → Each Holds rs
 hold no-more e = no-row
 hold (one-more {r = r} R t i) e = row (holds r R t (head-eq-of-cons-eq e)) (hold i (tail-eq-of-cons-eq e))
 
-none-taken : ProgramInRange (programWith [])
+none-taken : WellFormed (programWith [])
 none-taken = program-of [] (λ n l. absurd (omega arith))
 
-one-taken : ProgramInRange (programWith (goes ∷ []))
+one-taken : WellFormed (programWith (goes ∷ []))
 one-taken = program-of (goes ∷ []) (elim [
   | zero ↦ λ l. record { process = omega arith; from = omega arith; to = omega arith; operation = tt }
   | suc n ↦ λ l. absurd (omega arith)

@@ -13,10 +13,10 @@ use Rattle.machine_pws.specs.declared.Operation.{Operation}
 use Rattle.machine_pws.specs.declared.Operation.the-variants.{Nop, Read, Write, Mfence, Sfence, Arw}
 use Rattle.machine_pws.specs.declared.Step.{Step}
 use Rattle.machine_pws.specs.declared.Step.the-variants.{Take, Serialise, Update}
-use Rattle.machine_pws.specs.Program.{Shape, Program, ProgramInRange, transition}
+use Rattle.machine_pws.specs.Program.{Shape, Program, WellFormed, transition}
 use Rattle.machine_pws.specs.Machine.{Configuration, may, after, lastWrite, isEmpty, sees, mayOperate, newestWaiting}
 use Rattle.machine_pws.specs.Configurations.{ConfigurationOf}
-use Rattle.machine_pws.specs.Entries.{EntryOf, Above, AboveList, filled}
+use Rattle.machine_pws.specs.Entries.{NoValueIsFF, EntryOf, Above, AboveList, filled}
 use Rattle.machine_pws.proofs.Preorder.{list-up}
 use Rattle.list_theory.specs.Lists.{forBelow}
 use Rattle.list_theory.specs.Values.{alike}
@@ -34,19 +34,19 @@ abbrev pub StepClosed : Program → List Configuration → Configuration → Ste
 StepClosed P es e s = (c : Configuration) → ConfigurationOf P c → T (may P c s) → Above (P .shape) e (after P c s) → AboveList (P .shape) es c
 
 -- by kind
-pub step-kinds : (P : Program) → ProgramInRange P → (es : List Configuration) (e : Configuration) → EntryOf P e → (s : Step)
+pub step-kinds : (P : Program) → WellFormed P → NoValueIsFF (P .shape) → (es : List Configuration) (e : Configuration) → EntryOf P e → (s : Step)
     → StepClosed P es e s ↔ ((k : Kind) → T (has P e s k) → Held (P .shape) es (cube P e s k))
-step-kinds P R es e oe s = (
-  λ C k t qs ms F. let a = none-extra P R e oe s k t qs ms F in C (filled (cube P e s k) qs ms) (filling-configuration P R e oe s k t qs ms F) (a .may) (a .above),
+step-kinds P R N es e oe s = (
+  λ C k t qs ms F. let a = none-extra P R e oe N s k t qs ms F in C (filled (cube P e s k) qs ms) (filling-configuration P R e oe s k t qs ms F) (a .may) (a .above),
   λ H c oc t A. let b = none-missing P R e c oe oc s t A in list-up (H (b .kind) (b .has) (b .above .queues) (b .above .channel) (b .above .filling)) (b .above .below),
 )
 
 -- by step and kind
-pub closed-kinds : (P : Program) → ProgramInRange P → (es : List Configuration) (e : Configuration) → EntryOf P e
+pub closed-kinds : (P : Program) → WellFormed P → NoValueIsFF (P .shape) → (es : List Configuration) (e : Configuration) → EntryOf P e
     → Closed P es e ↔ ((s : Step) (k : Kind) → T (has P e s k) → Held (P .shape) es (cube P e s k))
-closed-kinds P R es e oe = (
-  λ C s. step-kinds P R es e oe s .0 (λ c oc. C c oc s),
-  λ H c oc s. step-kinds P R es e oe s .1 (H s) c oc,
+closed-kinds P R N es e oe = (
+  λ C s. step-kinds P R N es e oe s .0 (λ c oc. C c oc s),
+  λ H c oc s. step-kinds P R N es e oe s .1 (H s) c oc,
 )
 
 -- ---- the lists of steps and kinds are complete
@@ -157,17 +157,17 @@ module _ (P : Program) (e : Configuration) where
   predecessor-of s d m = in-cubes s (kinds P e s) d m
 
 -- by the list of its cubes
-pub step-cubes : (P : Program) → ProgramInRange P → (es : List Configuration) (e : Configuration) → EntryOf P e → (s : Step)
+pub step-cubes : (P : Program) → WellFormed P → NoValueIsFF (P .shape) → (es : List Configuration) (e : Configuration) → EntryOf P e → (s : Step)
     → StepClosed P es e s ↔ ((d : Configuration) → List·Memᴰ d (predecessors P e s) → Held (P .shape) es d)
-step-cubes P R es e oe s = (
-  λ C d m. let r = predecessor-of P e s d m in subst (Held (P .shape) es) (sym (r .2)) (step-kinds P R es e oe s .0 C (r .0) (r .1)),
-  λ H. step-kinds P R es e oe s .1 (λ k t. H (cube P e s k) (cube-in P e s (kinds P e s) k (kind-in P e s k t) t)),
+step-cubes P R N es e oe s = (
+  λ C d m. let r = predecessor-of P e s d m in subst (Held (P .shape) es) (sym (r .2)) (step-kinds P R N es e oe s .0 C (r .0) (r .1)),
+  λ H. step-kinds P R N es e oe s .1 (λ k t. H (cube P e s k) (cube-in P e s (kinds P e s) k (kind-in P e s k t) t)),
 )
 
 -- by the lists
-pub closed-cubes : (P : Program) → ProgramInRange P → (es : List Configuration) (e : Configuration) → EntryOf P e
+pub closed-cubes : (P : Program) → WellFormed P → NoValueIsFF (P .shape) → (es : List Configuration) (e : Configuration) → EntryOf P e
     → Closed P es e ↔ ((s : Step) → List·Memᴰ s (steps P) → (d : Configuration) → List·Memᴰ d (predecessors P e s) → Held (P .shape) es d)
-closed-cubes P R es e oe = (
-  λ C s i d m. let r = predecessor-of P e s d m in subst (Held (P .shape) es) (sym (r .2)) (closed-kinds P R es e oe .0 C s (r .0) (r .1)),
-  λ H. closed-kinds P R es e oe .1 (λ s k t. H s (step-in P e s k t) (cube P e s k) (cube-in P e s (kinds P e s) k (kind-in P e s k t) t)),
+closed-cubes P R N es e oe = (
+  λ C s i d m. let r = predecessor-of P e s d m in subst (Held (P .shape) es) (sym (r .2)) (closed-kinds P R N es e oe .0 C s (r .0) (r .1)),
+  λ H. closed-kinds P R N es e oe .1 (λ s k t. H s (step-in P e s k t) (cube P e s k) (cube-in P e s (kinds P e s) k (kind-in P e s k t) t)),
 )

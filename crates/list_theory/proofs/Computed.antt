@@ -61,7 +61,7 @@ seventeen-messages = refl
 
 -- two processes and one variable; the newest message is process 0's, those before are process 1's, and both point at the oldest
 abbrev two : Program
-two = record { shape = record { processes = 2; variables = 1; values = λ v. 2 }; states = λ p. 1; initial = λ p. 0; transitions = [] }
+two = record { shape = record { processes = 2; variables = 1; values = λ v. 2; room = 4 }; states = λ p. 1; initial = λ p. 0; transitions = [] }
 
 abbrev by : ℕ → Message
 by p = record { process = p; variable = 0; snapshot = FF ∷ 0 ∷ 0 ∷ 0 ∷ [] }
@@ -81,7 +81,7 @@ waited-value = refl
 -- ---- shapes: how many there are for so many processes and variables (theory, section 3)
 
 abbrev shapes : ℕ → ℕ → ℕ
-shapes p v = length (shapeCubes (record { processes = p; variables = v; values = λ v. 2 }) (λ p. 0))
+shapes p v = length (shapeCubes (record { processes = p; variables = v; values = λ v. 2; room = v }) (λ p. 0))
 
 pub shapes-counted : (shapes 1 1 ≡ 4) × (shapes 1 2 ≡ 40) × (shapes 2 1 ≡ 232) × (shapes 1 3 ≡ 384)
 shapes-counted = (refl, refl, refl, refl)

@@ -11,7 +11,7 @@ use native.Mathlib.Decide.{decLe, decLt}
 use lib.ListN.{length, length-map}
 use lib.Dec.{T, eqb, not-T}
 use Rattle.machine_pws.specs.declared.Message.{Message}
-use Rattle.machine_pws.specs.Program.{Shape, ShapeInRange}
+use Rattle.machine_pws.specs.Program.{Shape, WellFormedShape}
 use Rattle.machine_pws.specs.Machine.{Memory, Configuration, message, lastLabelled, newestWaiting}
 use Rattle.machine_pws.specs.Configurations.{MessageIn, Fits, ValueOf}
 use Rattle.machine_pws.specs.Order.{Live, Maps, QueueBelow}
@@ -148,7 +148,7 @@ picked nothing = ([], none-left, Sublistᴰ·slnil)
 picked (skip s) = let r = picked s in (r .0, r .1, Sublistᴰ·cons (r .2))
 picked (keep {y = y} t s) = let r = picked s in (y ∷ r .0, one-more t (r .1), Sublistᴰ·cons-cons refl (r .2))
 
-module _ (S : Shape) (R : ShapeInRange S) (m : Memory) where
+module _ (S : Shape) (R : WellFormedShape S) (m : Memory) where
   -- a filling whose tagged messages are these; messages older than the lowest pointer are filled with 0
   record FilledChannel (es : List Message) (ys : List Tagged) : Type 0 where
     channel : List Message
@@ -186,7 +186,7 @@ module _ (S : Shape) (R : ShapeInRange S) (m : Memory) where
   filled-channel (x ∷ es) ys o q =
       filled-cons x es o (λ zs. filled-channel es zs (λ i a b. rw (← (message-old x es i b)) (o i a (omega arith)))) (isLive S m (suc (length es))) refl q
 
-module _ (S : Shape) (R : ShapeInRange S) (e d : Configuration) (oe : Fits (ValueOrFF S) S e) (od : Fits (ValueOf S) S d) where
+module _ (S : Shape) (R : WellFormedShape S) (e d : Configuration) (oe : Fits (ValueOrFF S) S e) (od : Fits (ValueOf S) S d) where
   over-match : ((p : ℕ) → p < S .processes → e .state p ≡ d .state p) → Over S (e .queue) (e .memory) (d .queue) (d .memory) → Match S fills e d
   over-match s O =
       let M = O .memory in
@@ -270,7 +270,7 @@ module _ (S : Shape) (R : ShapeInRange S) (e d : Configuration) (oe : Fits (Valu
 
 -- ---- section 6
 
-module _ (S : Shape) (R : ShapeInRange S) (e c : Configuration) (oe : Fits (ValueOrFF S) S e) (qs : ℕ → ℕ → List ℕ) (ms : List Message) (F : Filling S c qs ms) where
+module _ (S : Shape) (R : WellFormedShape S) (e c : Configuration) (oe : Fits (ValueOrFF S) S e) (qs : ℕ → ℕ → List ℕ) (ms : List Message) (F : Filling S c qs ms) where
   -- where the entry covers the cube, each filling of the cube is above it
   pub covers : Match S fills e c → Above S e (filled c qs ms)
   covers M = above-match S R e (filled c qs ms) oe (F .fits) .1

@@ -1,12 +1,12 @@
 -- The predecessor cubes of an entry are entries again.
-use Prim.Native.Nat.{ℕ, zero, suc, _-_, _<_, _≤_}
+use Prim.Native.Nat.{ℕ, zero, suc, _+_, _-_, _<_, _≤_}
 use mathlib.Core.Path.{_≡_, refl, sym, ap, _∙_}
 use mathlib.Core.Logic.{inl, inr, ⊎-elim, _≢_}
 use mathlib.Core.Bool.{Bool, true, false, cond, _&&_, _||_, not}
 use mathlib.Core.List.{List, [], _∷_}
 use native.Mathlib.Omega.{arith}
-use native.Mathlib.Decide.{ℕ-discrete}
-use lib.ListN.{length, getD, set, length-set}
+use native.Mathlib.Decide.{decLt, ℕ-discrete}
+use lib.ListN.{length, getD, set, length-set, List·getD-eq-default}
 use lib.Seq.{getD-set-same}
 use lib.Dec.{T, eqb, ltb, leb, ltb→lt, leb→le, eqb→eq}
 use borrow.Author.Tests.{eq-eqb, ne-eqb, lt-ltb, le-ltb}
@@ -16,7 +16,7 @@ use Rattle.machine_pws.specs.declared.Operation.{Operation}
 use Rattle.machine_pws.specs.declared.Operation.the-variants.{Nop, Read, Write, Mfence, Sfence, Arw}
 use Rattle.machine_pws.specs.declared.Step.{Step}
 use Rattle.machine_pws.specs.declared.Step.the-variants.{Take, Serialise, Update}
-use Rattle.machine_pws.specs.Program.{Shape, ShapeInRange, Program, ProgramInRange, transition, OperationOf}
+use Rattle.machine_pws.specs.Program.{Shape, WellFormedShape, Program, WellFormed, transition, OperationOf}
 use Rattle.machine_pws.specs.Machine.{point, Memory, Configuration, putQueue, message, labelled, lastWrite, isEmpty, allBelow, atNewest}
 use Rattle.machine_pws.specs.Configurations.{All, MessageIn, MemoryIn, QueuesIn, Fits}
 use Rattle.machine_pws.specs.Entries.{FF, ValueOrFF, EntryOf, Fill, FillMessage, FillChannel}
@@ -26,7 +26,7 @@ use Rattle.machine_pws.proofs.Insertion.{ins, memory-insert}
 use Rattle.machine_pws.proofs.Cases.{all-yes}
 use Rattle.list_theory.proofs.Fillings.{older-length, fill-at, fill-put, fill-unput, fill-length, fill-value, channel-length, channel-at, channel-each}
 use Rattle.list_theory.specs.Values.{alike, meet, meetAll}
-use Rattle.list_theory.specs.Cubes.{memoryOf, messageOf, withValues, older, anyMessage, setValue, withoutLast, withLast, topmost, alikeNewest, meetNewest}
+use Rattle.list_theory.specs.Cubes.{memoryOf, messageOf, withValues, older, anyValue, anyValues, anyMessage, setValue, withoutLast, withLast, topmost, alikeNewest, meetNewest}
 use Rattle.list_theory.specs.Predecessors.{joined, replaced, before, withoutNewest, Kind, undone, waited, inside, onTop, pointed, serialiseMemory, arwMemory, updateMemory, serialised, serialiseKind, swapped, arwKind, updateKind, hasOperation, queueBefore, readMemory, memoryBefore, has, cube}
 
 -- ---- messages
@@ -62,23 +62,33 @@ message-meet {S} {m} {n} a b =
     one : (v x y : ℕ) → ValueOrFF S v x → ValueOrFF S v y → ValueOrFF S v (meet x y)
     one v x y f g = elim (ℕ-discrete x FF) [ yes d ↦ rw (eq-eqb x FF d) g | no d ↦ rw (ne-eqb x FF d) f ]
 
-pub any-exists : (S : Shape) (p u v : ℕ) → S .variables ≤ 4 → v < S .variables → getD (anyMessage S p u .snapshot) v 0 ≡ FF
-any-exists S p u zero r l = rw (lt-ltb 0 (S .variables) l)
-any-exists S p u (suc zero) r l = rw (lt-ltb 1 (S .variables) l)
-any-exists S p u (suc (suc zero)) r l = rw (lt-ltb 2 (S .variables) l)
-any-exists S p u (suc (suc (suc zero))) r l = rw (lt-ltb 3 (S .variables) l)
-any-exists S p u (suc (suc (suc (suc v)))) r l = absurd (omega arith)
+pub any-length : (S : Shape) (v n : ℕ) → length (anyValues S v n) ≡ n
+any-length S v zero = refl
+any-length S v (suc n) = ap suc (any-length S (suc v) n)
+
+any-at : (S : Shape) (v n i j : ℕ) → i < n → j ≡ v + i → getD (anyValues S v n) i 0 ≡ anyValue S j
+any-at S v zero i j l e = absurd (omega arith)
+any-at S v (suc n) zero j l e = ap (anyValue S) (omega arith)
+any-at S v (suc n) (suc i) j l e = any-at S (suc v) n i j (omega arith) (omega arith)
+
+pub any-exists : (S : Shape) (p u v : ℕ) → S .variables ≤ S .room → v < S .variables → getD (anyMessage S p u .snapshot) v 0 ≡ FF
+any-exists S p u v r l = any-at S 0 (S .room) v v (omega arith) (omega arith) ∙ present
+  where
+    present : anyValue S v ≡ FF
+    present = rw (lt-ltb v (S .variables) l)
 
 pub any-absent : (S : Shape) (p u v : ℕ) → S .variables ≤ v → getD (anyMessage S p u .snapshot) v 0 ≡ 0
-any-absent S p u zero l = rw (le-ltb 0 (S .variables) l)
-any-absent S p u (suc zero) l = rw (le-ltb 1 (S .variables) l)
-any-absent S p u (suc (suc zero)) l = rw (le-ltb 2 (S .variables) l)
-any-absent S p u (suc (suc (suc zero))) l = rw (le-ltb 3 (S .variables) l)
-any-absent S p u (suc (suc (suc (suc v)))) l = refl
+any-absent S p u v l = elim (decLt v (S .room)) [
+  | yes i ↦ any-at S 0 (S .room) v v i (omega arith) ∙ absent
+  | no i ↦ List·getD-eq-default (anyValues S 0 (S .room)) 0 (omega (arith, any-length S 0 (S .room)))
+]
+  where
+    absent : anyValue S v ≡ 0
+    absent = rw (le-ltb v (S .variables) l)
 
-pub message-any : (S : Shape) → S .variables ≤ 4 → (p v : ℕ) → p < S .processes → v < S .variables → MessageIn (ValueOrFF S) S (anyMessage S p v)
+pub message-any : (S : Shape) → S .variables ≤ S .room → (p v : ℕ) → p < S .processes → v < S .variables → MessageIn (ValueOrFF S) S (anyMessage S p v)
 message-any S four p v pe ve =
-    record { process = pe; variable = ve; room = refl; values = λ u ue. inl (any-exists S p v u four ue); absent = λ u l. any-absent S p v u l }
+    record { process = pe; variable = ve; room = any-length S 0 (S .room); values = λ u ue. inl (any-exists S p v u four ue); absent = λ u l. any-absent S p v u l }
 
 -- ---- memories
 
@@ -170,7 +180,7 @@ set-value es {ms} i v x n a b l r =
     let k : v < length (message es i .snapshot) = omega (arith, fill-length (f .snapshot), length-set (message es i .snapshot) v x) in
     fill-value x (getD (message ms i .snapshot) v 0) n (rw (getD-set-same (message es i .snapshot) v x 0 k) at (fill-at (f .snapshot) v))
 
-module _ (S : Shape) (four : S .variables ≤ 4) where
+module _ (S : Shape) (four : S .variables ≤ S .room) where
   pub memory-set : (m : Memory) → MemoryIn (ValueOrFF S) S m → (i v x : ℕ) → v < S .variables → ValueOrFF S v x
       → MemoryIn (ValueOrFF S) S (memoryOf (setValue (m .channel) i v x) (m .pointer))
   memory-set m o i v x ve w =
@@ -233,7 +243,7 @@ label-exists S r u b t =
 
 -- ---- the memories of cubes
 
-module _ (S : Shape) (R : ShapeInRange S) where
+module _ (S : Shape) (R : WellFormedShape S) where
   -- the newest values with x in v
   before-in : (m : Memory) → MemoryIn (ValueOrFF S) S m → (p u v x : ℕ) → p < S .processes → u < S .variables → v < S .variables → ValueOrFF S v x
       → MessageIn (ValueOrFF S) S (messageOf p u (before m v x))
@@ -306,7 +316,7 @@ all-without F (y ∷ z ∷ zs) a = (a .0, all-without F (z ∷ zs) (a .1))
 
 -- ---- entries
 
-module _ (S : Shape) (R : ShapeInRange S) (e : Configuration) (o : Fits (ValueOrFF S) S e) (p : ℕ) (pe : p < S .processes) where
+module _ (S : Shape) (R : WellFormedShape S) (e : Configuration) (o : Fits (ValueOrFF S) S e) (p : ℕ) (pe : p < S .processes) where
   abbrev Before : Operation → Kind → Type 0
   Before x k = MemoryIn (ValueOrFF S) S (memoryBefore e p x k) × QueuesIn (ValueOrFF S) S (queueBefore e p x k)
 
@@ -355,7 +365,7 @@ take-has P e n k t =
     let b = and-yes (ltb n (length (P .transitions))) (eqb (e .state (q .process)) (q .to)) (a .0) in
     record { exists = ltb-yes (b .0); state = eqb-yes (b .1); operation = a .1 }
 
-pub entry-cube : (P : Program) → ProgramInRange P → (e : Configuration) → EntryOf P e → (s : Step) (k : Kind) → T (has P e s k) → EntryOf P (cube P e s k)
+pub entry-cube : (P : Program) → WellFormed P → (e : Configuration) → EntryOf P e → (s : Step) (k : Kind) → T (has P e s k) → EntryOf P (cube P e s k)
 entry-cube P R e o (Take n) k t =
     let q = transition P n in
     let h = take-has P e n k t in

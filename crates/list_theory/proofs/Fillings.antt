@@ -12,7 +12,7 @@ use lib.Dec.{T, eqb, eqb→eq}
 use borrow.Author.Tests.{eq-eqb, ne-eqb, le-leb, lt-leb}
 use mir.Facts.{and-yes, yes-and, or-yes, yes-eqb}
 use Rattle.machine_pws.specs.declared.Message.{Message}
-use Rattle.machine_pws.specs.Program.{Shape, ShapeInRange}
+use Rattle.machine_pws.specs.Program.{Shape, WellFormedShape}
 use Rattle.machine_pws.specs.Machine.{Memory, Configuration, message, newest, labelled, lastLabelled}
 use Rattle.machine_pws.specs.Configurations.{All, MessageIn, MemoryIn, Fits, ValueOf}
 use Rattle.machine_pws.specs.Entries.{FF, ValueOrFF, Fill, FillValues, values-nil, values-cons, FillMessage, FillChannel, channel-nil, channel-cons, Filling}
@@ -258,7 +258,7 @@ zero-message (m ∷ ms) i = elim (ℕ-discrete i (suc (length ms))) [
   | no e ↦ rw (length-map ms zeroMessage, ne-eqb i (suc (length ms)) e) (zero-message ms i)
 ]
 
-module _ (S : Shape) (R : ShapeInRange S) where
+module _ (S : Shape) (R : WellFormedShape S) where
   value-zero : (v x : ℕ) → v < S .variables → ValueOrFF S v x → zeroed x < S .values v
   value-zero v x ve o = elim (ℕ-discrete x FF) [
     | yes e ↦ rw (eq-eqb x FF e) (R .someValue v ve)

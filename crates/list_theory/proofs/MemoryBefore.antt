@@ -12,7 +12,7 @@ use lib.Dec.{T, eqb, ltb, leb, lt→ltb, le→leb}
 use borrow.Author.Tests.{le-leb}
 use mir.Facts.{yes-and, yes-eqb, no-eqb}
 use Rattle.machine_pws.specs.declared.Message.{Message}
-use Rattle.machine_pws.specs.Program.{Shape, ShapeInRange}
+use Rattle.machine_pws.specs.Program.{Shape, WellFormedShape}
 use Rattle.machine_pws.specs.Machine.{Memory, put, message, labelled, lastWrite, newest, copyWith, append, point, allBelow, atNewest}
 use Rattle.machine_pws.specs.Configurations.{MessageIn, MemoryIn, ValueOf}
 use Rattle.machine_pws.specs.Order.{Live, Maps}
@@ -29,15 +29,15 @@ use Rattle.list_theory.proofs.Fillings.{fill-alike, fill-at, fill-each,
 use Rattle.list_theory.proofs.Covering.{FilledMemory}
 use Rattle.list_theory.proofs.Gaps.{Gap, labelled-is, via}
 use Rattle.list_theory.proofs.Undoing.{proper-point, proper-cons, UpdateBack, lowered, fresh, update-back, top-is, pointers-low, proper-low, append-hit, append-place, gap-past, gap-labelled, gap-proper, append-gap}
-use Rattle.list_theory.proofs.Cubes.{any-exists, any-absent}
+use Rattle.list_theory.proofs.Cubes.{any-length, any-exists, any-absent}
 
 -- any message fills one that is free
-pub fill-any : {Val : ℕ → ℕ → Type 0} {S : Shape} {m : Message} → S .variables ≤ 4 → MessageIn Val S m → (p v : ℕ) → m .process ≡ p → m .variable ≡ v → FillMessage (anyMessage S p v) m
+pub fill-any : {Val : ℕ → ℕ → Type 0} {S : Shape} {m : Message} → S .variables ≤ S .room → MessageIn Val S m → (p v : ℕ) → m .process ≡ p → m .variable ≡ v → FillMessage (anyMessage S p v) m
 fill-any {S = S} {m = m} four o p v a b =
     record {
       process = sym a;
       variable = sym b;
-      snapshot = fill-each (anyMessage S p v .snapshot) (m .snapshot) (sym (o .room)) (λ j l. elim (decLe (S .variables) j) [
+      snapshot = fill-each (anyMessage S p v .snapshot) (m .snapshot) (any-length S 0 (S .room) ∙ sym (o .room)) (λ j l. elim (decLe (S .variables) j) [
         | yes c ↦ inr (any-absent S p v j c ∙ sym (o .absent j c))
         | no c ↦ inl (any-exists S p v j four (omega arith))
       ]);
@@ -46,7 +46,7 @@ fill-any {S = S} {m = m} four o p v a b =
 pub newest-insert : (ms : List Message) (k : ℕ) (μ : Message) → 1 ≤ k → k ≤ length ms → newest (putMessage ms k μ) ≡ newest ms
 newest-insert ms k μ a b = let J = ins ms k μ a (omega arith) in ap (message (putMessage ms k μ)) (J .len) ∙ J .hi (length ms) b (omega arith)
 
-module _ (S : Shape) (R : ShapeInRange S) (n : Memory) (on : MemoryIn (ValueOf S) S n) (p : ℕ) (pe : p < S .processes) where
+module _ (S : Shape) (R : WellFormedShape S) (n : Memory) (on : MemoryIn (ValueOf S) S n) (p : ℕ) (pe : p < S .processes) where
   gn : Proper S n
   gn = proper on
 

@@ -15,12 +15,12 @@ use Rattle.machine_pws.specs.declared.Operation.{Operation}
 use Rattle.machine_pws.specs.declared.Operation.the-variants.{Nop, Read, Write, Mfence, Sfence, Arw}
 use Rattle.machine_pws.specs.declared.Step.{Step}
 use Rattle.machine_pws.specs.declared.Step.the-variants.{Take, Serialise, Update}
-use Rattle.machine_pws.specs.Program.{Shape, ShapeInRange, Program, ProgramInRange, transition, OperationOf}
+use Rattle.machine_pws.specs.Program.{Shape, WellFormedShape, Program, WellFormed, transition, OperationOf}
 use Rattle.machine_pws.specs.Machine.{Memory, Configuration, put, putQueue, message, labelled, lastWrite, newest, newestWaiting, newestOr, copyWith, append, point, isEmpty, withoutOldest, noneWaiting, atNewest, sees, mayOperate, queueAfter, memoryAfter, may, after}
 use Rattle.machine_pws.specs.Configurations.{Fits, ValueOf, MemoryIn, ConfigurationOf}
 use Rattle.machine_pws.specs.Order.{Maps, QueueBelow}
 use Rattle.machine_pws.specs.Insertion.{putMessage, up}
-use Rattle.machine_pws.specs.Entries.{FF, ValueOrFF, EntryOf, Fill, FillValues, FillChannel, channel-cons, filled, Filling, Above}
+use Rattle.machine_pws.specs.Entries.{FF, ValueOrFF, NoValueIsFF, EntryOf, Fill, FillValues, FillChannel, channel-cons, filled, Filling, Above}
 use Rattle.machine_pws.proofs.Facts.{is-last, put-same, put-other, put-each, putQueue-same, message-new, labelled-self, Proper, proper}
 use Rattle.machine_pws.proofs.Queues.{queue-of}
 use Rattle.machine_pws.proofs.Preorder.{maps-refl, queue-refl}
@@ -186,14 +186,14 @@ module _ (S : Shape) (e : Memory) (ge : Proper S e) (p : ℕ) (pe : p < S .proce
 
 -- ---- operations
 
-module _ (S : Shape) (R : ShapeInRange S) (e : Configuration) (oe : Fits (ValueOrFF S) S e) (p : ℕ) (pe : p < S .processes) where
+module _ (S : Shape) (R : WellFormedShape S) (N : NoValueIsFF S) (e : Configuration) (oe : Fits (ValueOrFF S) S e) (p : ℕ) (pe : p < S .processes) where
   -- a filling of the cube, whatever its local states, may do the operation, and is over the entry then
   pub record OperationAhead (x : Operation) (m : Configuration) : Type 0 where
     pub may : T (mayOperate S m p x)
     pub over : Over S (e .queue) (e .memory) (queueAfter m p x) (memoryAfter (m .memory) p x)
 
   small : (v x : ℕ) → v < S .variables → x < S .values v → x ≢ FF
-  small v x ve w q = omega (arith, R .values v ve)
+  small v x ve w q = omega (arith, N v ve)
 
   module _ (st : ℕ → ℕ) (qs : ℕ → ℕ → List ℕ) (ms : List Message) where
     abbrev filling : Operation → Kind → Configuration
@@ -297,7 +297,7 @@ pub record Ahead (P : Program) (e : Configuration) (s : Step) (m : Configuration
   pub may : T (may P m s)
   pub above : Above (P .shape) e (after P m s)
 
-module _ (P : Program) (R : ProgramInRange P) (e : Configuration) (oe : EntryOf P e) where
+module _ (P : Program) (R : WellFormed P) (e : Configuration) (oe : EntryOf P e) where
   abbrev S : Shape
   S = P .shape
 
@@ -312,19 +312,19 @@ module _ (P : Program) (R : ProgramInRange P) (e : Configuration) (oe : EntryOf 
     ahead : T (may P m s) → ((p : ℕ) → p < S .processes → e .state p ≡ after P m s .state p) → Over S (e .queue) (e .memory) (after P m s .queue) (after P m s .memory) → Ahead P e s m
     ahead y st O = record { may = y; above = above-over S (R .shape) e (after P m s) (oe .fits) (step-configuration P R m filling-configuration s y .fits) st O }
 
-  pub none-extra : (s : Step) (k : Kind) → T (has P e s k) → (qs : ℕ → ℕ → List ℕ) (ms : List Message) → Filling S (cube P e s k) qs ms → Ahead P e s (filled (cube P e s k) qs ms)
-  none-extra (Take n) k t qs ms F =
+  pub none-extra : NoValueIsFF S → (s : Step) (k : Kind) → T (has P e s k) → (qs : ℕ → ℕ → List ℕ) (ms : List Message) → Filling S (cube P e s k) qs ms → Ahead P e s (filled (cube P e s k) qs ms)
+  none-extra N (Take n) k t qs ms F =
       let q = transition P n in
       let p = q .process in
       let h = take-has P e n k t in
       let r = R .transitions n (h .exists) in
       let st = put (e .state) p (q .from) in
       let c = filled (cube P e (Take n) k) qs ms in
-      let w = operation-ahead S (R .shape) e (oe .fits) p (r .process) st qs ms (q .operation) (r .operation) k (h .operation) (F .queues) (F .channel) (F .fits .memory) in
+      let w = operation-ahead S (R .shape) N e (oe .fits) p (r .process) st qs ms (q .operation) (r .operation) k (h .operation) (F .queues) (F .channel) (F .fits .memory) in
       ahead (Take n) k t qs ms F
       (yes-take P c n (h .exists) (yes-and (eqb (st p) (q .from)) (mayOperate S c p (q .operation)) (yes-eqb (put-same (e .state) p (q .from))) (w .may)))
       (λ u a. put-each (λ u x. e .state u ≡ x) st p (q .to) u (h .state) (λ d. sym (put-other (e .state) p (q .from) u d))) (w .over)
-  none-extra (Serialise p v) k t qs ms F =
+  none-extra N (Serialise p v) k t qs ms F =
       let x = label-exists S p v (serialised S (e .memory) p v && serialiseKind (e .memory) p v k) t in
       let y = and-yes (serialised S (e .memory) p v) (serialiseKind (e .memory) p v k) (x .2) in
       let xs = getD (topmost (e .memory .channel) .snapshot) v 0 ∷ e .queue p v in
@@ -339,7 +339,7 @@ module _ (P : Program) (R : ProgramInRange P) (e : Configuration) (oe : EntryOf 
         memory = serialise-ahead S (e .memory) g p (x .0) v (getD (qs p v) 0 0) (x .1) (m .1)
             (λ q a. omega (arith, g .high q a, m .2 q a, older-length (e .memory .channel) (omega (arith, m .0)))) (front .1) k (y .1) ms (F .channel);
       })
-  none-extra (Update p) k t qs ms F =
+  none-extra N (Update p) k t qs ms F =
       let x = and-yes (ltb p (S .processes)) (updateKind S (e .memory) p k) t in
       let pe = ltb→lt p (S .processes) (x .0) in
       let f = update-ahead S (e .memory) (proper (oe .fits .memory)) p pe k (x .1) ms (F .channel) in

@@ -13,7 +13,7 @@ use Rattle.machine_pws.specs.declared.Operation.{Operation}
 use Rattle.machine_pws.specs.declared.Operation.the-variants.{Nop, Read, Write, Mfence, Sfence, Arw}
 use Rattle.machine_pws.specs.declared.Step.{Step}
 use Rattle.machine_pws.specs.declared.Step.the-variants.{Take, Serialise, Update}
-use Rattle.machine_pws.specs.Program.{Shape, ShapeInRange, Program, ProgramInRange, transition, OperationOf}
+use Rattle.machine_pws.specs.Program.{Shape, WellFormedShape, Program, WellFormed, transition, OperationOf}
 use Rattle.machine_pws.specs.Machine.{Memory, Configuration, putQueue, message, lastWrite, newest, newestWaiting, newestOr, isEmpty, withoutOldest, noneWaiting, atNewest, sees, mayOperate, queueAfter, memoryAfter, may, after}
 use Rattle.machine_pws.specs.Configurations.{Fits, ValueOf, ConfigurationOf}
 use Rattle.machine_pws.specs.Order.{Live, QueueBelow}
@@ -34,7 +34,7 @@ use Rattle.list_theory.proofs.MemoryBefore.{update-missing, serialise-m
 
 -- ---- operations
 
-module _ (S : Shape) (R : ShapeInRange S) (e c : Configuration) (oe : Fits (ValueOrFF S) S e) (oc : Fits (ValueOf S) S c) (p : ℕ) (pe : p < S .processes) where
+module _ (S : Shape) (R : WellFormedShape S) (e c : Configuration) (oe : Fits (ValueOrFF S) S e) (oc : Fits (ValueOf S) S c) (p : ℕ) (pe : p < S .processes) where
   pub record OperationMissing (x : Operation) : Type 0 where
     pub kind : Kind
     pub has : T (hasOperation S e p x kind)
@@ -147,7 +147,7 @@ pub record Behind (P : Program) (e c : Configuration) (s : Step) : Type 0 where
   pub has : T (has P e s kind)
   pub above : Above (P .shape) (cube P e s kind) c
 
-module _ (P : Program) (R : ProgramInRange P) (e c : Configuration) (oe : EntryOf P e) (oc : ConfigurationOf P c) where
+module _ (P : Program) (R : WellFormed P) (e c : Configuration) (oe : EntryOf P e) (oc : ConfigurationOf P c) where
   abbrev S : Shape
   S = P .shape
 

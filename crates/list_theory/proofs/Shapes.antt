@@ -11,7 +11,7 @@ use lib.Dec.{T, eqb, ltb, not-T, eqb→eq}
 use borrow.Author.Tests.{eq-eqb, lt-ltb, le-ltb}
 use mir.Facts.{or-yes, yes-and, yes-eqb, eqb-no, no-eqb}
 use Rattle.machine_pws.specs.declared.Message.{Message}
-use Rattle.machine_pws.specs.Program.{Shape, ShapeInRange}
+use Rattle.machine_pws.specs.Program.{Shape, WellFormedShape}
 use Rattle.machine_pws.specs.Machine.{allBelow, put, Memory, putQueue, message, labelled, lastWrite, isEmpty}
 use Rattle.machine_pws.specs.Configurations.{MessageIn, MemoryIn, QueuesIn}
 use Rattle.machine_pws.specs.Entries.{FF, ValueOrFF, FillChannel, channel-nil, channel-cons}
@@ -95,7 +95,7 @@ same-label x y p v t u = let d = labelled-is x p v t in subst₂ (λ (a c : ℕ)
 abbrev freed : Shape → List Message → List Message
 freed S ms = map (λ (x : Message). anyMessage S (x .process) (x .variable)) ms
 
-freed-fill : {Val : ℕ → ℕ → Type 0} (S : Shape) → S .variables ≤ 4 → (xs : List Message) → ((i : ℕ) → 1 ≤ i → i ≤ length xs → MessageIn Val S (message xs i))
+freed-fill : {Val : ℕ → ℕ → Type 0} (S : Shape) → S .variables ≤ S .room → (xs : List Message) → ((i : ℕ) → 1 ≤ i → i ≤ length xs → MessageIn Val S (message xs i))
     → FillChannel (freed S xs) xs
 freed-fill S four [] o = channel-nil
 freed-fill S four (x ∷ xs) o =
@@ -218,7 +218,7 @@ module _ (S : Shape) (m : Memory) (g : Proper S m) (ir : Irreducible S m) where
     pub fill : FillChannel (shape .channel) (m .channel)
     pub pointer : shape .pointer ≡ m .pointer
 
-  pub shape-of : {Val : ℕ → ℕ → Type 0} → MemoryIn Val S m → S .variables ≤ 4 → length (m .channel) ≤ longest S → ShapeOf
+  pub shape-of : {Val : ℕ → ℕ → Type 0} → MemoryIn Val S m → S .variables ≤ S .room → length (m .channel) ≤ longest S → ShapeOf
   shape-of om four l =
       let r = outlined (m .channel) (suc (longest S)) 0 [] (λ q. 0) (omega arith) (omega arith) (λ i a b. refl) (λ p v t. absurd t) (λ q e. sym (spot-open n q (g .high q e))) in
       let o : Outline = record { channel = freed S (m .channel); place = r .place } in
@@ -280,7 +280,7 @@ irreducible-short S m ir =
 
 -- ---- what is made is in order
 
-module _ (S : Shape) (R : ShapeInRange S) where
+module _ (S : Shape) (R : WellFormedShape S) where
   record Made (d : ℕ) (o : Outline) : Type 0 where
     messages : (i : ℕ) → 1 ≤ i → i ≤ length (o .channel) → MessageIn (ValueOrFF S) S (message (o .channel) i)
     low : (q : ℕ) → q < S .processes → 1 ≤ o .place q

@@ -12,10 +12,10 @@ use lib.Seq.{getD-set-same, getD-set-other}
 use lib.Dec.{T, eqb}
 use borrow.Author.Tests.{eqb-true, eqb-false}
 use Rattle.machine_pws.specs.declared.Message.{Message}
-use Rattle.machine_pws.specs.Program.{Shape, ShapeInRange}
+use Rattle.machine_pws.specs.Program.{Shape, WellFormedShape}
 use Rattle.machine_pws.specs.Machine.{Configuration, putQueue, message, allBelow}
 use Rattle.machine_pws.specs.Configurations.{All, Fits, ValueOf}
-use Rattle.machine_pws.specs.Entries.{FF, ValueOrFF, Fill, FillValues, filled, Filling, AboveList, noEntry, entry}
+use Rattle.machine_pws.specs.Entries.{FF, ValueOrFF, NoValueIsFF, Fill, FillValues, filled, Filling, AboveList, noEntry, entry}
 use Rattle.machine_pws.specs.Tagged.{roles, isLive, taggedFrom}
 use Rattle.machine_pws.proofs.Facts.{T-or-not, putQueue-same, putQueue-each, message-old, message-new}
 use Rattle.machine_pws.proofs.Steps.{queues-put}
@@ -103,7 +103,7 @@ module _ (S : Shape) (c : Configuration) where
   split-queue es p v j pe ve l e = split-held es (inQueue p v j) (pe, ve, l) e
 
   -- a part of an entry is an entry
-  pub split-fits : S .variables ≤ 4 → Fits (ValueOrFF S) S c → (a : Place) → Valid S c a → (x : ℕ) → x < S .values (variableOf a) → Fits (ValueOrFF S) S (split c a x)
+  pub split-fits : S .variables ≤ S .room → Fits (ValueOrFF S) S c → (a : Place) → Valid S c a → (x : ℕ) → x < S .values (variableOf a) → Fits (ValueOrFF S) S (split c a x)
   split-fits four o (inQueue p v j) w x l =
       record { memory = o .memory; queues = queues-put (o .queues) p v (set (c .queue p v) j x) (w .0) (w .1) (all-set (ValueOrFF S v) (c .queue p v) j x (o .queues .values p v (w .0) (w .1)) (inr l)) }
   split-fits four o (inMessage i v) w x l = record { memory = memory-set S four (c .memory) (o .memory) i v x (w .2) (inr l); queues = o .queues }
@@ -130,7 +130,7 @@ module _ (S : Shape) (c : Configuration) where
     | no d ↦ (sym (getD-set-other xs j i x 0 d) ∙ e, d)
   ]
 
-  free-split : Fits (ValueOrFF S) S c → S .variables ≤ 4 → (a : Place) → Valid S c a → (x : ℕ) → x ≢ FF → (b : Place) → at (split c a x) b ≡ FF → (at c b ≡ FF) × (b ≢ a)
+  free-split : Fits (ValueOrFF S) S c → S .variables ≤ S .room → (a : Place) → Valid S c a → (x : ℕ) → x ≢ FF → (b : Place) → at (split c a x) b ≡ FF → (at c b ≡ FF) × (b ≢ a)
   free-split o four (inQueue p v j) w x n (inQueue q u i) e =
       putQueue-each (c .queue) p v (set (c .queue p v) j x) (λ q u zs. getD zs i 0 ≡ FF → (getD (c .queue q u) i 0 ≡ FF) × (inQueue q u i ≢ inQueue p v j)) q u
       (λ y. let r = set-free (c .queue p v) j x i n (w .2) y in (r .0, λ d. r .1 (cc)))
@@ -227,7 +227,7 @@ pub decided-no : {S : Shape} {es : List Configuration} {c : Configuration} {b : 
 decided-no (is-held H) t = absurd t
 decided-no (is-outside o) t = o
 
-module _ (S : Shape) (R : ShapeInRange S) (es : List Configuration) (oes : (k : ℕ) → k < length es → Fits (ValueOrFF S) S (entry es k)) where
+module _ (S : Shape) (R : WellFormedShape S) (es : List Configuration) (oes : (k : ℕ) → k < length es → Fits (ValueOrFF S) S (entry es k)) where
   -- one that covers holds the cube
   pub covered-held : (c : Configuration) → T (anyOf (λ e. matches S fills e c) es) → Held S es c
   covered-held c t qs ms F =
@@ -251,7 +251,7 @@ module _ (S : Shape) (R : ShapeInRange S) (es : List Configuration) (oes : (k : 
     valid : (a : Place) → List·Memᴰ a list → Valid S c a
     free : (a : Place) → Valid S c a → at c a ≡ FF → List·Memᴰ a list
 
-  module _ (a : Place) (rest : List Place) (rec : (c : Configuration) → Fits (ValueOrFF S) S c → Listed rest c → Decided S es c (heldAt S es rest c))
+  module _ (N : NoValueIsFF S) (a : Place) (rest : List Place) (rec : (c : Configuration) → Fits (ValueOrFF S) S c → Listed rest c → Decided S es c (heldAt S es rest c))
       (c : Configuration) (o : Fits (ValueOrFF S) S c) (L : Listed (a ∷ rest) c) where
     here : Valid S c a
     here = L .valid a (List·Memᴰ·head refl)
@@ -270,9 +270,9 @@ module _ (S : Shape) (R : ShapeInRange S) (es : List Configuration) (oes : (k : 
               ⊎-elim (λ q. absurd (r .1 q)) (λ i. i) (List·Memᴰ·cases-cons (L .free b (valid-split S c a x b .0 w) (r .0)));
         })
       where
-        small : (a : Place) → Valid S c a → S .values (variableOf a) ≤ 4
-        small (inQueue p v j) w = R .values v (w .1)
-        small (inMessage i v) w = R .values v (w .2)
+        small : (a : Place) → Valid S c a → S .values (variableOf a) ≤ FF
+        small (inQueue p v j) w = N v (w .1)
+        small (inMessage i v) w = N v (w .2)
 
     at-parts : at c a ≡ FF → (b : Bool) → parts ≡ b → Decided S es c b
     at-parts e true q = is-held (split-held S c es a here e .1 (λ x l. decided-yes (part e x l)
@@ -310,13 +310,13 @@ module _ (S : Shape) (R : ShapeInRange S) (es : List Configuration) (oes : (k : 
       let M = meets-covers S c o (λ a w e. List·Memᴰ·not-nil (L .free a w e)) (entry es (r .0)) (matches-exact S alike (entry es (r .0)) c .0 (r .2)) in
       subst T q (number-any (λ e. matches S fills e c) noEntry es (r .0) (r .1) (matches-exact S fills (entry es (r .0)) c .1 M))))
 
-  decide : (list : List Place) (c : Configuration) → Fits (ValueOrFF S) S c → Listed list c → Decided S es c (heldAt S es list c)
-  decide [] c o L = decide-none c o L (anyOf (λ e. matches S fills e c) es) refl
-  decide (a ∷ rest) c o L = at-cover a rest (decide rest) c o L (anyOf (λ e. matches S fills e c) es) refl
+  decide : NoValueIsFF S → (list : List Place) (c : Configuration) → Fits (ValueOrFF S) S c → Listed list c → Decided S es c (heldAt S es list c)
+  decide N [] c o L = decide-none c o L (anyOf (λ e. matches S fills e c) es) refl
+  decide N (a ∷ rest) c o L = at-cover N a rest (decide N rest) c o L (anyOf (λ e. matches S fills e c) es) refl
 
-  pub held-decided : (c : Configuration) → Fits (ValueOrFF S) S c → Decided S es c (held S es c)
-  held-decided c o = decide (places S c) c o (record { valid = λ a i. valid-place S c a .0 i; free = λ a w e. valid-place S c a .1 w })
+  pub held-decided : NoValueIsFF S → (c : Configuration) → Fits (ValueOrFF S) S c → Decided S es c (held S es c)
+  held-decided N c o = decide N (places S c) c o (record { valid = λ a i. valid-place S c a .0 i; free = λ a w e. valid-place S c a .1 w })
 
   -- a cube that is an entry is held, or a filling of it in hand is outside
-  pub held-or : (c : Configuration) → Fits (ValueOrFF S) S c → Held S es c ⊎ Outside S es c
-  held-or c o = ⊎-elim (λ t. inl (decided-yes (held-decided c o) t)) (λ t. inr (decided-no (held-decided c o) t)) (T-or-not (held S es c))
+  pub held-or : NoValueIsFF S → (c : Configuration) → Fits (ValueOrFF S) S c → Held S es c ⊎ Outside S es c
+  held-or N c o = ⊎-elim (λ t. inl (decided-yes (held-decided N c o) t)) (λ t. inr (decided-no (held-decided N c o) t)) (T-or-not (held S es c))

@@ -9,7 +9,7 @@ use native.Mathlib.Decide.{decLe}
 use lib.ListN.{length}
 use lib.Dec.{T, eqb}
 use mir.Facts.{and-yes, yes-and, yes-eqb, eqb-yes}
-use Rattle.machine_pws.specs.Program.{Shape, Program, ProgramInRange}
+use Rattle.machine_pws.specs.Program.{Shape, Program, WellFormed}
 use Rattle.machine_pws.specs.Machine.{Memory, Configuration, message, isEmpty, allBelow, noneWaiting}
 use Rattle.machine_pws.specs.Configurations.{startWith, inTarget}
 use Rattle.machine_pws.specs.Order.{Live}
@@ -59,7 +59,7 @@ is-nil : (xs : List ℕ) → T (isEmpty xs) → xs ≡ []
 is-nil [] t = refl
 is-nil (x ∷ xs) t = absurd t
 
-module _ (P : Program) (R : ProgramInRange P) (e : Configuration) (oe : EntryOf P e) (q : ℕ) (qe : q < P .shape .processes) (first : e .memory .pointer q ≡ 1) where
+module _ (P : Program) (R : WellFormed P) (e : Configuration) (oe : EntryOf P e) (q : ℕ) (qe : q < P .shape .processes) (first : e .memory .pointer q ≡ 1) where
   abbrev S : Shape
   S = P .shape
 

@@ -5,7 +5,7 @@ use mathlib.Core.Logic.{inl, _↔_}
 use mathlib.Core.List.{List, [], _∷_, map, List·Memᴰ, Memᴰ·map, Memᴰ·of-map}
 use native.Mathlib.Omega.{arith}
 use Rattle.machine_pws.specs.declared.Message.{Message}
-use Rattle.machine_pws.specs.Program.{Shape, Program, ProgramInRange}
+use Rattle.machine_pws.specs.Program.{Shape, Program, WellFormed}
 use Rattle.machine_pws.specs.Machine.{Memory, Configuration}
 use Rattle.machine_pws.specs.Configurations.{MemoryIn, ValueOf, StatesOf, InTarget}
 use Rattle.machine_pws.specs.Order.{Maps}
@@ -25,7 +25,7 @@ fill-last [] = values-nil
 fill-last (x ∷ []) = values-cons (inl refl) values-nil
 fill-last (x ∷ y ∷ ys) = fill-last (y ∷ ys)
 
-module _ (P : Program) (R : ProgramInRange P) (t : ℕ → ℕ) where
+module _ (P : Program) (R : WellFormed P) (t : ℕ → ℕ) where
   abbrev S : Shape
   S = P .shape
 

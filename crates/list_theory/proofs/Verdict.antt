@@ -12,14 +12,14 @@ use lib.Dec.{T, T-not}
 use mir.Facts.{T-not-not}
 use Rattle.machine_pws.specs.declared.Step.{Step}
 use Rattle.machine_pws.specs.declared.Step.the-variants.{Update}
-use Rattle.machine_pws.specs.Program.{Shape, Program, ProgramInRange}
+use Rattle.machine_pws.specs.Program.{Shape, Program, WellFormed}
 use Rattle.machine_pws.specs.Machine.{Configuration}
 use Rattle.machine_pws.specs.Configurations.{StatesOf, ConfigurationOf, Start, InTarget}
-use Rattle.machine_pws.specs.Entries.{EntryOf, AboveList, filled, noEntry, entry}
+use Rattle.machine_pws.specs.Entries.{NoValueIsFF, EntryOf, AboveList, filled, noEntry, entry}
 use Rattle.machine_pws.specs.Sequences.{Visited, start, later}
 use Rattle.machine_pws.proofs.Steps.{step-configuration}
 use Rattle.list_theory.specs.Lists.{every, lowest}
-use Rattle.list_theory.specs.Verdict.{TargetHeld, TargetMissed, NoStartAbove, StartAbove, Closed, WayIn, LowestWayIn, noTarget, target, SafeList, ListVerdict, safe, unheld, started, entered, Unheld, Started, Entered, ListJudged}
+use Rattle.list_theory.specs.Verdict.{TargetHeld, TargetMissed, NoStartAbove, StartAbove, Closed, WayIn, LowestWayIn, noTarget, target, SafeList, ListSafety, ListVerdict, safe, unheld, started, entered, Unheld, Started, Entered, ListJudged}
 use Rattle.list_theory.specs.Covering.{Outside}
 use Rattle.list_theory.specs.Predecessors.{predecessors, steps, cube}
 use Rattle.list_theory.specs.Shapes.{shapeCubes}
@@ -119,12 +119,12 @@ module _ (P : Program) (ts : List (ℕ → ℕ)) (es : List Configuration) where
 
 -- ---- the verdict that is computed
 
-module _ (P : Program) (R : ProgramInRange P) (es : List Configuration) (oes : (k : ℕ) → k < length es → EntryOf P (entry es k)) where
+module _ (P : Program) (R : WellFormed P) (N : NoValueIsFF (P .shape)) (es : List Configuration) (oes : (k : ℕ) → k < length es → EntryOf P (entry es k)) where
   abbrev S : Shape
   S = P .shape
 
   decided : (c : Configuration) → EntryOf P c → Decided S es c (held S es c)
-  decided c o = held-decided S (R .shape) es (λ k l. oes k l .fits) c (o .fits)
+  decided c o = held-decided S (R .shape) es (λ k l. oes k l .fits) N c (o .fits)
 
   -- number 9
   pub target-yes : (t : ℕ → ℕ) → StatesOf P t → T (targetHeld P es t) → TargetHeld P es t
@@ -147,13 +147,13 @@ module _ (P : Program) (R : ProgramInRange P) (es : List Configuration) (oes : (
   predecessor-entry e o s d i = let r = predecessor-of P e s d i in subst (EntryOf P) (sym (r .2)) (entry-cube P R e o s (r .0) (r .1))
 
   pub closed-yes : (e : Configuration) → EntryOf P e → T (closed P es e) → Closed P es e
-  closed-yes e o y = closed-cubes P R es e o .1 (λ s j d i.
+  closed-yes e o y = closed-cubes P R N es e o .1 (λ s j d i.
       decided-yes (decided d (predecessor-entry e o s d i)) (every-yes (held S es) (predecessors P e s) (every-yes (λ s. every (held S es) (predecessors P e s)) (steps P) y s j) d i))
 
   pub step-yes : (e : Configuration) → EntryOf P e → (s : Step) → T (every (held S es) (predecessors P e s)) → WayIn P es e s → ⊥
   step-yes e o s y w =
       w .outside
-      (step-cubes P R es e o s .1 (λ d i. decided-yes (decided d (predecessor-entry e o s d i)) (every-yes (held S es) (predecessors P e s) y d i))
+      (step-cubes P R N es e o s .1 (λ d i. decided-yes (decided d (predecessor-entry e o s d i)) (every-yes (held S es) (predecessors P e s) y d i))
       (w .configuration) (w .of) (w .permitted) (w .above))
 
   pub step-no : (e : Configuration) → EntryOf P e → (s : Step) → T (not (every (held S es) (predecessors P e s))) → WayIn P es e s
@@ -161,7 +161,7 @@ module _ (P : Program) (R : ProgramInRange P) (es : List Configuration) (oes : (
       let q = every-no (held S es) (predecessors P e s) y in
       let p = predecessor-of P e s (q .0) (q .1) in
       let x = subst (Outside S es) (p .2) (decided-no (decided (q .0) (predecessor-entry e o s (q .0) (q .1))) (q .2)) in
-      let a = none-extra P R e o s (p .0) (p .1) (x .queues) (x .channel) (x .filling) in
+      let a = none-extra P R e o N s (p .0) (p .1) (x .queues) (x .channel) (x .filling) in
       record {
         configuration = filled (cube P e s (p .0)) (x .queues) (x .channel);
         of = filling-configuration P R e o s (p .0) (p .1) (x .queues) (x .channel) (x .filling);
@@ -218,15 +218,12 @@ module _ (P : Program) (R : ProgramInRange P) (es : List Configuration) (oes : (
 
 -- ---- demand 3, first sentence
 
-stays-outside : {P : Program} → ProgramInRange P → {ts : List (ℕ → ℕ)} {es : List Configuration} → SafeList P ts es → {c d : Configuration} {ss : List Step}
+stays-outside : {P : Program} → WellFormed P → {ts : List (ℕ → ℕ)} {es : List Configuration} → SafeList P ts es → {c d : Configuration} {ss : List Step}
     → ConfigurationOf P c → (AboveList (P .shape) es c → ⊥) → Visited P c ss d → ConfigurationOf P d × (AboveList (P .shape) es d → ⊥)
 stays-outside R s o n start = (o, n)
 stays-outside {P} R s o n (later {b = c} step t r) = stays-outside R s (step-configuration P R c o step t) (λ A. n (s .before c o step t A)) r
 
--- no configuration that a sequence of steps visits from a start is in a target, or above the list
-pub safe-visited : (P : Program) → ProgramInRange P → (ts : List (ℕ → ℕ)) (es : List Configuration) → SafeList P ts es → {c d : Configuration} → Start P c → (ss : List Step)
-    → Visited P c ss d
-    → ((k : ℕ) → k < length ts → InTarget (P .shape) (target ts k) d → ⊥) × (AboveList (P .shape) es d → ⊥)
-safe-visited P R ts es s {c} {d} i ss v =
+pub list-safety : ListSafety
+list-safety P R ts es s c i ss d v =
     let r = stays-outside R s (i .configuration) (s .starts c i) v in
     (λ k l t. r .1 (s .targets d (r .0) k l t), r .1)

@@ -15,7 +15,7 @@ use Rattle.list_theory.specs.Verdict.{ListVerdict, safe, unheld, started
 -- ---- the programs: one process with two states, one variable with two values
 
 abbrev pub programWith : List Transition → Program
-programWith ts = record { shape = record { processes = 1; variables = 1; values = λ v. 2 }; states = λ p. 2; initial = λ p. 0; transitions = ts }
+programWith ts = record { shape = record { processes = 1; variables = 1; values = λ v. 2; room = 4 }; states = λ p. 2; initial = λ p. 0; transitions = ts }
 
 abbrev pub goes : Transition
 goes = record { process = 0; from = 0; operation = Nop; to = 1 }

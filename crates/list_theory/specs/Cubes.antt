@@ -1,5 +1,5 @@
 -- What cubes are made with. A cube is a configuration in which a value may be FF, as an entry is (theory, "Notation").
-use Prim.Native.Nat.{ℕ, suc}
+use Prim.Native.Nat.{ℕ, zero, suc}
 use mathlib.Core.Bool.{Bool, false, cond}
 use mathlib.Core.List.{List, [], _∷_}
 use lib.ListN.{length, set}
@@ -26,8 +26,13 @@ withValues m xs = messageOf (m .process) (m .variable) xs
 abbrev pub anyValue : Shape → ℕ → ℕ
 anyValue S v = cond (ltb v (S .variables)) FF 0
 
+-- those of n places from v on
+abbrev pub anyValues : Shape → ℕ → ℕ → List ℕ
+anyValues S v zero = []
+anyValues S v (suc n) = anyValue S v ∷ anyValues S (suc v) n
+
 abbrev pub anyMessage : Shape → ℕ → ℕ → Message
-anyMessage S p v = messageOf p v (anyValue S 0 ∷ anyValue S 1 ∷ anyValue S 2 ∷ anyValue S 3 ∷ [])
+anyMessage S p v = messageOf p v (anyValues S 0 (S .room))
 
 -- ---- values in place of others
 

@@ -8,9 +8,10 @@ use lib.ListN.{length, getD}
 use lib.Dec.{T}
 use Rattle.machine_pws.specs.declared.Step.{Step}
 use Rattle.machine_pws.specs.declared.Step.the-variants.{Take, Serialise, Update}
-use Rattle.machine_pws.specs.Program.{Program}
+use Rattle.machine_pws.specs.Program.{Program, WellFormed}
 use Rattle.machine_pws.specs.Machine.{Configuration, may, after}
 use Rattle.machine_pws.specs.Configurations.{ConfigurationOf, Start, InTarget}
+use Rattle.machine_pws.specs.Sequences.{Visited}
 use Rattle.machine_pws.specs.Entries.{Above, AboveList, entry}
 
 -- ---- targets, starts and predecessors, each for one target or one entry
@@ -78,6 +79,14 @@ pub record SafeList (P : Program) (ts : List (ℕ → ℕ)) (es : List Configura
   pub targets : (c : Configuration) → ConfigurationOf P c → (k : ℕ) → k < length ts → InTarget (P .shape) (target ts k) c → AboveList (P .shape) es c
   pub starts : (c : Configuration) → Start P c → AboveList (P .shape) es c → ⊥
   pub before : (c : Configuration) → ConfigurationOf P c → (s : Step) → T (may P c s) → AboveList (P .shape) es (after P c s) → AboveList (P .shape) es c
+
+-- No configuration that a sequence of steps, of any length and from any start, visits is in a target, or above the list: so for every
+-- well-formed program (document 01, demand 3).
+abbrev pub ListSafety : Type 0
+ListSafety =
+    (P : Program) → WellFormed P → (ts : List (ℕ → ℕ)) (es : List Configuration) → SafeList P ts es → (c : Configuration) → Start P c
+    → (ss : List Step) (d : Configuration) → Visited P c ss d
+    → ((k : ℕ) → k < length ts → InTarget (P .shape) (target ts k) d → ⊥) × (AboveList (P .shape) es d → ⊥)
 
 -- ---- verdicts
 

@@ -8,7 +8,7 @@ use native.Mathlib.Omega.{arith}
 use lib.ListN.{length}
 use lib.Dec.{T, eqb, ltb, ltb→lt}
 use mir.Facts.{and-yes}
-use Rattle.machine_pws.specs.Program.{Program, transition, ProgramInRange}
+use Rattle.machine_pws.specs.Program.{Program, transition, WellFormed}
 use Rattle.machine_pws.specs.Machine.{Configuration, allBelow}
 use Rattle.machine_pws.proofs.Cases.{all-yes}
 use Rattle.machine_pso.specs.declared.PsoStep.{PsoStep}
@@ -21,7 +21,7 @@ use Rattle.machine_equal.proofs.BackwardDoing.{Finished, finish}
 use Rattle.machine_equal.proofs.BackwardFollowing.{Related, Waiting, follow-defer, up-to-fence, follow-update, follow-removal}
 use Rattle.machine_equal.proofs.BackwardStrong.{deferrable-or-strong, Ready, make-ready, follow-strong}
 
-module _ (P : Program) (R : ProgramInRange P) where
+module _ (P : Program) (R : WellFormed P) where
   module _ (d : PsoConfiguration) (c : Configuration) (K : Related P d c) where
     up-to : (p : ℕ) → p < P .shape .processes → Leads P (Waiting P d p) c
     up-to p pe = up-to-fence P R d p pe (K .deferred p) (K .deferred) c (K .follows) refl

@@ -16,7 +16,7 @@ use Rattle.machine_pws.specs.declared.Operation.the-variants.{Nop, Read, Write,
 use Rattle.machine_pws.specs.declared.Transition.{Transition}
 use Rattle.machine_pws.specs.declared.Step.{Step}
 use Rattle.machine_pws.specs.declared.Step.the-variants.{Take, Serialise, Update}
-use Rattle.machine_pws.specs.Program.{Shape, Program, transition, ProgramInRange}
+use Rattle.machine_pws.specs.Program.{Shape, Program, transition, WellFormed}
 use Rattle.machine_pws.specs.Machine.{Memory, Configuration, put, newest, copyWith, isEmpty, withoutOldest, noneWaiting, sees, mayOperate, queueAfter, memoryAfter, afterTake, afterSerialise, afterUpdate, may, after}
 use Rattle.machine_pws.specs.Configurations.{ConfigurationOf}
 use Rattle.machine_pws.specs.Sequences.{Takes, done, step}
@@ -162,7 +162,7 @@ may-operate S c p Mfence t f = absurd t
 may-operate S c p Sfence t f = f refl
 may-operate S c p (Arw v x y) t f = absurd t
 
-module _ (P : Program) (R : ProgramInRange P) (s : ℕ → ℕ) (os : ℕ → List Deferred) (c : Configuration) (D : Delayed P s os c) where
+module _ (P : Program) (R : WellFormed P) (s : ℕ → ℕ) (os : ℕ → List Deferred) (c : Configuration) (D : Delayed P s os c) where
   all-late : (c′ : Configuration) (p : ℕ) → ((q : ℕ) → q ≢ p → Apart q c c′) → Late P c′ p (os p) (s p)
       → (q : ℕ) → q < P .shape .processes → Late P c′ q (os q) (s q)
   all-late c′ p a own q qe = elim (ℕ-discrete q p) [

@@ -8,7 +8,7 @@ use native.Mathlib.Decide.{ℕ-discrete}
 use lib.Dec.{T}
 use Rattle.machine_pws.specs.declared.Operation.the-variants.{Sfence}
 use Rattle.machine_pws.specs.declared.Step.the-variants.{Take, Serialise, Update}
-use Rattle.machine_pws.specs.Program.{Shape, Program, transition, ProgramInRange}
+use Rattle.machine_pws.specs.Program.{Shape, Program, transition, WellFormed}
 use Rattle.machine_pws.specs.Machine.{Configuration, put, isEmpty, withoutOldest, noneWaiting, afterSerialise, afterUpdate}
 use Rattle.machine_pws.proofs.Facts.{put-same, put-other, putQueue-same, putQueue-other}
 use Rattle.machine_equal.proofs.Pso.{yes-all}
@@ -20,7 +20,7 @@ none-waiting S c p h = yes-all (S .variables) (λ v. isEmpty (c .queue p v)) (λ
 
 -- ---- the first that p put off
 
-module _ (P : Program) (R : ProgramInRange P) (s : ℕ → ℕ) (os : ℕ → List Deferred) where
+module _ (P : Program) (R : WellFormed P) (s : ℕ → ℕ) (os : ℕ → List Deferred) where
   -- p points at its place
   do-here : (c : Configuration) → Delayed P s os c → (p : ℕ) → p < P .shape .processes → (o : Deferred) (rest : List Deferred)
       → transition P (o .number) .process ≡ p → os p ≡ o ∷ rest → c .memory .pointer p ≡ o .place
@@ -67,7 +67,7 @@ record EmptyBelow (P : Program) (s : ℕ → ℕ) (os : ℕ → List Deferred) (
   delayed : Delayed P s os e
   none : (u : ℕ) → u < n → e .queue p u ≡ []
 
-module _ (P : Program) (R : ProgramInRange P) (s : ℕ → ℕ) (os : ℕ → List Deferred) (p : ℕ) (pe : p < P .shape .processes) where
+module _ (P : Program) (R : WellFormed P) (s : ℕ → ℕ) (os : ℕ → List Deferred) (p : ℕ) (pe : p < P .shape .processes) where
   empty-one : (xs : List ℕ) (c : Configuration) → Delayed P s os c → (v : ℕ) → v < P .shape .variables → c .queue p v ≡ xs
       → Leads P (Emptied P s os p v (c .queue p)) c
   empty-one [] c D v ve e = stay P _ (record { delayed = D; here = e; other = λ u n. refl })
@@ -105,7 +105,7 @@ pub record Finished (P : Program) (s : ℕ → ℕ) (n : ℕ) (e : Configuration
   pub delayed : Delayed P s deferred e
   pub none : (p : ℕ) → p < n → deferred p ≡ []
 
-module _ (P : Program) (R : ProgramInRange P) (s : ℕ → ℕ) where
+module _ (P : Program) (R : WellFormed P) (s : ℕ → ℕ) where
   finish-one : (l : List Deferred) (os : ℕ → List Deferred) (c : Configuration) → Delayed P s os c → (p : ℕ) → p < P .shape .processes
       → os p ≡ l → ((q : ℕ) → q < p → os q ≡ []) → Leads P (Finished P s (suc p)) c
   finish-one [] os c D p pe e h =

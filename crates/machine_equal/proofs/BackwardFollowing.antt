@@ -13,7 +13,7 @@ use Rattle.machine_pws.specs.declared.Message.{Message}
 use Rattle.machine_pws.specs.declared.Operation.{Operation}
 use Rattle.machine_pws.specs.declared.Operation.the-variants.{Nop, Read, Write, Mfence, Sfence, Arw}
 use Rattle.machine_pws.specs.declared.Step.the-variants.{Serialise}
-use Rattle.machine_pws.specs.Program.{Shape, Program, transition, OperationOf, ProgramInRange}
+use Rattle.machine_pws.specs.Program.{Shape, Program, transition, OperationOf, WellFormed}
 use Rattle.machine_pws.specs.Machine.{Configuration, put, newest, copyWith, isEmpty, withoutOldest, newestOr}
 use Rattle.machine_pws.proofs.Facts.{put-same, put-other, put-each, message-new}
 use Rattle.machine_pso.specs.Machine.{Item, mark, PsoConfiguration, valueFirst, markFirst, oldestValue, withoutFirst, newestValue, psoSees, psoMayOperate, psoMemoryAfter, mayOperateBy, afterOperate, afterUpdateVariable, afterRemoveMark}
@@ -67,7 +67,7 @@ memory-same m Mfence y = absurd y
 memory-same m Sfence y = refl
 memory-same m (Arw v x z) y = absurd y
 
-module _ (P : Program) (R : ProgramInRange P) (d : PsoConfiguration) (os : ℕ → List Deferred) (c : Configuration) (F : Follows P d os c) where
+module _ (P : Program) (R : WellFormed P) (d : PsoConfiguration) (os : ℕ → List Deferred) (c : Configuration) (F : Follows P d os c) where
   abbrev S : Shape
   S = P .shape
 
@@ -121,7 +121,7 @@ pub record Waiting (P : Program) (d : PsoConfiguration) (p : ℕ) (c : Configura
   pub follows : Follows P d deferred c
   pub fence : AtFence P (deferred p)
 
-module _ (P : Program) (R : ProgramInRange P) (d : PsoConfiguration) (p : ℕ) (pe : p < P .shape .processes) where
+module _ (P : Program) (R : WellFormed P) (d : PsoConfiguration) (p : ℕ) (pe : p < P .shape .processes) where
   follow-did : (os : ℕ → List Deferred) (c : Configuration) → Follows P d os c → (o : Deferred) (rest : List Deferred) → os p ≡ o ∷ rest
       → NoFence (operationOf P o) → (e : Configuration) → Did P (d .state) os p rest (operationOf P o) (c .queue) (c .memory .channel) e
       → Follows P d (put os p rest) e
@@ -157,7 +157,7 @@ oldest-gone : (xs : List ℕ) (is : List Item) → T (not (isEmpty xs)) → with
 oldest-gone [] is t = absurd t
 oldest-gone (x ∷ xs) is t = refl
 
-module _ (P : Program) (R : ProgramInRange P) (d : PsoConfiguration) (p : ℕ) (pe : p < P .shape .processes) where
+module _ (P : Program) (R : WellFormed P) (d : PsoConfiguration) (p : ℕ) (pe : p < P .shape .processes) where
   pub follow-update : (v : ℕ) → v < P .shape .variables → T (valueFirst (d .buffer p v)) → (c : Configuration) → Waiting P d p c
       → Leads P (Related P (afterUpdateVariable d p v)) c
   follow-update v ve t c W =

@@ -11,7 +11,7 @@ use mir.Facts.{and-yes, yes-and}
 use Rattle.machine_pws.specs.declared.Operation.{Operation}
 use Rattle.machine_pws.specs.declared.Operation.the-variants.{Nop, Read, Write, Mfence, Sfence, Arw}
 use Rattle.machine_pws.specs.declared.Step.the-variants.{Take, Update}
-use Rattle.machine_pws.specs.Program.{Program, transition, OperationOf, ProgramInRange}
+use Rattle.machine_pws.specs.Program.{Program, transition, OperationOf, WellFormed}
 use Rattle.machine_pws.specs.Machine.{Configuration, newest, copyWith, isEmpty, noneWaiting, atNewest, mayOperate, queueAfter, memoryAfter, afterTake, afterUpdate, may}
 use Rattle.machine_pws.proofs.Facts.{T-eq, put-same, put-each, message-new}
 use Rattle.machine_pws.proofs.Cases.{all-yes}
@@ -49,7 +49,7 @@ pub record Ready (P : Program) (d : PsoConfiguration) (p : ℕ) (c : Configurati
   none : deferred p ≡ []
   top : c .memory .pointer p ≡ length (c .memory .channel)
 
-module _ (P : Program) (R : ProgramInRange P) (d : PsoConfiguration) where
+module _ (P : Program) (R : WellFormed P) (d : PsoConfiguration) where
   catch-up : (g : ℕ) (p : ℕ) → p < P .shape .processes → (os : ℕ → List Deferred) (c : Configuration) → Follows P d os c → os p ≡ []
       → c .memory .pointer p + g ≡ length (c .memory .channel) → Leads P (Ready P d p) c
   catch-up zero p pe os c F e z = stay P _ (record { deferred = os; follows = F; none = e; top = omega arith })

@@ -16,7 +16,7 @@ use Rattle.machine_pws.specs.declared.Operation.{Operation}
 use Rattle.machine_pws.specs.declared.Operation.the-variants.{Nop, Read, Write, Mfence, Sfence, Arw}
 use Rattle.machine_pws.specs.declared.Step.{Step}
 use Rattle.machine_pws.specs.declared.Step.the-variants.{Take, Serialise, Update}
-use Rattle.machine_pws.specs.Program.{Program, ProgramInRange, transition, OperationOf}
+use Rattle.machine_pws.specs.Program.{Program, WellFormed, transition, OperationOf}
 use Rattle.machine_pws.specs.Machine.{Configuration, put, putQueue, message, newest, copyWith, isEmpty, withoutOldest, mayOperate, queueAfter, memoryAfter, may, after}
 use Rattle.machine_pws.specs.Configurations.{ConfigurationOf}
 use Rattle.machine_pws.specs.Sequences.{Takes, done, step}
@@ -44,7 +44,7 @@ coherent-append ms p v x some l h i a b =
           rw (e, message-new m ms, message-old m ms (length ms) (omega arith), getD-set-same (newest ms .snapshot) v x 0 l)
     ]
 
-module _ (P : Program) (R : ProgramInRange P) (d₀ : PsoConfiguration) where
+module _ (P : Program) (R : WellFormed P) (d₀ : PsoConfiguration) where
   -- ---- the invariant
 
   record Inv (c : Configuration) : Type 0 where

@@ -9,7 +9,7 @@ use lib.Dec.{ltb}
 use borrow.Author.Tests.{lt-ltb, le-ltb}
 use Rattle.machine_pws.specs.declared.Message.{Message}
 use Rattle.machine_pws.specs.declared.Step.{Step}
-use Rattle.machine_pws.specs.Program.{Program, ProgramInRange}
+use Rattle.machine_pws.specs.Program.{Program, WellFormed}
 use Rattle.machine_pws.specs.Machine.{Configuration, message}
 use Rattle.machine_pws.specs.Configurations.{StartingMemory, startingMemory, Start}
 use Rattle.machine_pws.specs.Sequences.{Takes, Visited, done, step}
@@ -47,7 +47,7 @@ startOf P memory =
 one-message : (m : Message) (i : ℕ) → 1 ≤ i → i ≤ 1 → message (m ∷ []) i ≡ m
 one-message m i a b = let e : i ≡ 1 = omega arith in ap (message (m ∷ [])) e
 
-pub pws-start : (P : Program) → ProgramInRange P → (memory : List ℕ) → StartingMemory (P .shape) memory → PwsStart P memory (startOf P memory)
+pub pws-start : (P : Program) → WellFormed P → (memory : List ℕ) → StartingMemory (P .shape) memory → PwsStart P memory (startOf P memory)
 pws-start P R memory o =
     let n = P .shape .processes in
     let first : Message = record { process = 0; variable = 0; snapshot = memory } in

@@ -1,4 +1,4 @@
--- Conjecture 1 of the report (5.2): for every program in range and every starting memory the two machines reach the same targets
+-- Conjecture 1 of the report (5.2): for every well-formed program, of any size, and every starting memory the two machines reach the same targets
 -- (`SameReachability`). Two statements carry it: for every sequence of steps that one machine takes, of any length, the other takes a
 -- sequence from the same memory to equal local states (`PwsToPso`, `PsoToPws`).
 use Prim.Native.Nat.{ℕ, _<_}
@@ -7,7 +7,7 @@ use mathlib.Core.Logic.{_↔_}
 use mathlib.Core.List.{List, []}
 use lib.ListN.{length}
 use Rattle.machine_pws.specs.declared.Step.{Step}
-use Rattle.machine_pws.specs.Program.{Program, ProgramInRange}
+use Rattle.machine_pws.specs.Program.{Program, WellFormed}
 use Rattle.machine_pws.specs.Machine.{Configuration}
 use Rattle.machine_pws.specs.Configurations.{ConfigurationOf, startingMemory, InTarget}
 use Rattle.machine_pws.specs.Sequences.{Takes}
@@ -46,13 +46,13 @@ pub record PwsReaches (P : Program) (c : Configuration) (d : PsoConfiguration) :
 -- what PWS reaches from a memory, PSO reaches from it
 abbrev pub PwsToPso : Type 0
 PwsToPso =
-    (P : Program) → ProgramInRange P → (memory : List ℕ) (c₀ : Configuration) (d₀ : PsoConfiguration) → PwsStart P memory c₀
+    (P : Program) → WellFormed P → (memory : List ℕ) (c₀ : Configuration) (d₀ : PsoConfiguration) → PwsStart P memory c₀
     → PsoStart P memory d₀ → (ss : List Step) (c : Configuration) → Takes P c₀ ss c → PsoReaches P d₀ c
 
 -- what PSO reaches from a memory, PWS reaches from it
 abbrev pub PsoToPws : Type 0
 PsoToPws =
-    (P : Program) → ProgramInRange P → (memory : List ℕ) (c₀ : Configuration) (d₀ : PsoConfiguration) → PwsStart P memory c₀
+    (P : Program) → WellFormed P → (memory : List ℕ) (c₀ : Configuration) (d₀ : PsoConfiguration) → PwsStart P memory c₀
     → PsoStart P memory d₀ → (us : List PsoStep) (d : PsoConfiguration) → PsoTakes P d₀ us d → PwsReaches P c₀ d
 
 -- ---- the conjecture
@@ -67,4 +67,4 @@ pub record PwsReachable (P : Program) (memory : List ℕ) (target : ℕ → ℕ)
   pub reached : InTarget (P .shape) target last
 
 abbrev pub SameReachability : Type 0
-SameReachability = (P : Program) → ProgramInRange P → (memory : List ℕ) (target : ℕ → ℕ) → PwsReachable P memory target ↔ PsoReachable P memory target
+SameReachability = (P : Program) → WellFormed P → (memory : List ℕ) (target : ℕ → ℕ) → PwsReachable P memory target ↔ PsoReachable P memory target

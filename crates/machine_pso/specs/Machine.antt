@@ -21,7 +21,7 @@ pub data Item : Type 0 where
   value : ℕ → Item
   mark : Item
 
--- a local state per process; a buffer per process and variable, oldest first; memory, with room for four values
+-- a local state per process; a buffer per process and variable, oldest first; memory, a value of each variable
 pub record PsoConfiguration : Type 0 where
   pub state : ℕ → ℕ
   pub buffer : ℕ → ℕ → List Item

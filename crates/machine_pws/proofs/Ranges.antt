@@ -13,10 +13,11 @@ use Rattle.machine_pws.specs.declared.Operation.{Operation}
 use Rattle.machine_pws.specs.declared.Operation.the-variants.{Nop, Read, Write, Mfence, Sfence, Arw}
 use Rattle.machine_pws.specs.declared.Step.{Step}
 use Rattle.machine_pws.specs.declared.Step.the-variants.{Take, Serialise, Update}
-use Rattle.machine_pws.specs.Program.{Program, transition, OperationOf, ProgramInRange}
+use Rattle.machine_pws.specs.Program.{Shape, Program, transition, OperationOf, WellFormed, ShapeInRange}
 use Rattle.machine_pws.specs.Machine.{Memory, Configuration, message, newest, copyWith, append, putQueue, withoutOldest, queueAfter, memoryAfter, may, after}
 use Rattle.machine_pws.specs.Configurations.{All, ConfigurationOf, Start}
 use Rattle.machine_pws.specs.Sequences.{Visited, start, later}
+use Rattle.machine_pws.specs.Entries.{NoValueIsFF}
 use Rattle.machine_pws.specs.Ranges.{Within, InRanges, CountsOf, KeepsRanges}
 use Rattle.machine_pws.proofs.Facts.{putQueue-each, message-each}
 use Rattle.machine_pws.proofs.Steps.{take-yes, serialise-yes, all-oldest, all-rest, all-snoc}
@@ -26,7 +27,7 @@ within-zero zero = inr (refl, refl)
 within-zero (suc n) = inl (omega arith)
 
 -- a snapshot with one value changed
-within-set : (counts xs : List ℕ) (v x : ℕ) → x < getD counts v 0 → ((u : ℕ) → Within (getD counts u 0) (getD xs u 0))
+pub within-set : (counts xs : List ℕ) (v x : ℕ) → x < getD counts v 0 → ((u : ℕ) → Within (getD counts u 0) (getD xs u 0))
     → (u : ℕ) → Within (getD counts u 0) (getD (set xs v x) u 0)
 within-set counts xs v x l o u = elim (ℕ-discrete u v) [
   | yes e ↦ elim (decLt v (length xs)) [
@@ -36,7 +37,7 @@ within-set counts xs v x l o u = elim (ℕ-discrete u v) [
   | no e ↦ rw (getD-set-other xs v u x 0 e) (o u)
 ]
 
-module _ (P : Program) (R : ProgramInRange P) (counts : List ℕ) (C : CountsOf (P .shape) counts) where
+module _ (P : Program) (R : WellFormed P) (counts : List ℕ) (C : CountsOf (P .shape) counts) where
   -- the values of a channel
   abbrev Sent : List Message → Type 0
   Sent ms = (i v : ℕ) → 1 ≤ i → i ≤ length ms → Within (getD counts v 0) (getD (message ms i .snapshot) v 0)
@@ -124,3 +125,7 @@ module _ (P : Program) (R : ProgramInRange P) (counts : List ℕ) (C : CountsOf 
         steps = λ c s o t. step-in-ranges c o s t;
         visited = λ c b ss d v. visited-in-ranges (configuration-in-ranges c (b .configuration)) v;
       }
+
+-- the format's values leave FF free
+pub format-no-ff : {S : Shape} → ShapeInRange S → NoValueIsFF S
+format-no-ff R v l = omega (arith, R .values v l)

@@ -14,7 +14,7 @@ use Rattle.machine_pws.specs.declared.Operation.the-variants.{Nop, Read,
 use Rattle.machine_pws.specs.declared.Transition.{Transition}
 use Rattle.machine_pws.specs.declared.Step.{Step}
 use Rattle.machine_pws.specs.declared.Step.the-variants.{Take, Serialise, Update}
-use Rattle.machine_pws.specs.Program.{Shape, Program, transition, OperationOf, ProgramInRange}
+use Rattle.machine_pws.specs.Program.{Shape, Program, transition, OperationOf, WellFormed}
 use Rattle.machine_pws.specs.Machine.{
   Memory,
   Configuration,
@@ -44,7 +44,7 @@ use Rattle.machine_pws.specs.Machine.{
 }
 use Rattle.machine_pws.specs.Configurations.{ConfigurationOf}
 use Rattle.machine_pws.specs.Order.{Live, Maps, QueueBelow, Below}
-use Rattle.machine_pws.specs.Sequences.{Takes, done, step, Answer, Answers, none, each}
+use Rattle.machine_pws.specs.Sequences.{Takes, done, step, Answer, none, each, Simulation}
 use Rattle.machine_pws.proofs.Facts.{T-eq, put-same, put-put, putQueue-same, putQueue-other, putQueue-each, Proper, proper, live-last}
 use Rattle.machine_pws.proofs.Queues.{Queued, nothing, keep, skip, queue-to, queue-of, queued-snoc, queued-empty}
 use Rattle.machine_pws.proofs.Steps.{take-yes, yes-take, serialise-yes, yes-serialise, update-yes, yes-update, memory-append, step-configuration, takes-configuration}
@@ -110,7 +110,7 @@ catch P p v pe ve {x} {xs} (skip {y = y} {ys = ys} r) d q =
 
 -- ---- one step
 
-module _ (P : Program) (R : ProgramInRange P) (c d : Configuration) (oc : ConfigurationOf P c) (od : ConfigurationOf P d) (B : Below (P .shape) c d) where
+module _ (P : Program) (R : WellFormed P) (c d : Configuration) (oc : ConfigurationOf P c) (od : ConfigurationOf P d) (B : Below (P .shape) c d) where
   abbrev S : Shape
   S = P .shape
 
@@ -270,12 +270,10 @@ module _ (P : Program) (R : ProgramInRange P) (c d : Configuration) (oc : Config
 
 -- ---- any number of steps
 
--- Demand 3, second sentence: for any two configurations of a program, one above the other, the upper answers each of the steps that
--- the lower takes, in turn, with one or more of its own, and is above it after each.
-pub simulation : (P : Program) → ProgramInRange P → {c e : Configuration} (d : Configuration) {ss : List Step}
-    → ConfigurationOf P c → ConfigurationOf P d → Below (P .shape) c d → Takes P c ss e → Answers P c d ss
-simulation P R d oc od B done = none
-simulation P R d oc od B (step {c = c} s t r) =
+-- demand 3, second sentence
+pub simulation : Simulation
+simulation P R c d e oc od B [] done = none
+simulation P R c d e oc od B (s ∷ ss) (step _ t r) =
     let f = simulate P R c d oc od B s t in
     each s (f .answer) (f .below)
-    (simulation P R (f .answer .to) (step-configuration P R c oc s t) (takes-configuration R od (f .answer .takes)) (f .below) r)
+    (simulation P R (after P c s) (f .answer .to) e (step-configuration P R c oc s t) (takes-configuration R od (f .answer .takes)) (f .below) ss r)

@@ -10,7 +10,7 @@ use lib.ListN.{length, getD}
 use lib.Dec.{ltb}
 use borrow.Author.Tests.{lt-ltb, le-ltb}
 use Rattle.machine_pws.specs.declared.Message.{Message}
-use Rattle.machine_pws.specs.Program.{Shape, Program, ProgramInRange}
+use Rattle.machine_pws.specs.Program.{Shape, Program, WellFormed}
 use Rattle.machine_pws.specs.Machine.{Memory, Configuration, message}
 use Rattle.machine_pws.specs.Configurations.{MessageIn, ValueOf, StartingMemory, startingMemory, Start, startWith}
 
@@ -31,7 +31,7 @@ absent-at n g p l = rw (le-ltb p n l)
 one-message : (m : Message) (i : ℕ) → 1 ≤ i → i ≤ 1 → message (m ∷ []) i ≡ m
 one-message m i a b = let e : i ≡ 1 = omega arith in ap (message (m ∷ [])) e
 
-pub start-exists : (P : Program) → ProgramInRange P → (memory : List ℕ) → StartingMemory (P .shape) memory → (p v : ℕ) → p < P .shape .processes
+pub start-exists : (P : Program) → WellFormed P → (memory : List ℕ) → StartingMemory (P .shape) memory → (p v : ℕ) → p < P .shape .processes
     → v < P .shape .variables → Start P (startWith P memory p v)
 start-exists P R memory m p v pe ve =
     let n = P .shape .processes in

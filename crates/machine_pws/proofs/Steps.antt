@@ -16,7 +16,7 @@ use Rattle.machine_pws.specs.declared.Operation.the-variants.{Nop, Read,
 use Rattle.machine_pws.specs.declared.Transition.{Transition}
 use Rattle.machine_pws.specs.declared.Step.{Step}
 use Rattle.machine_pws.specs.declared.Step.the-variants.{Take, Serialise, Update}
-use Rattle.machine_pws.specs.Program.{Shape, Program, transition, OperationOf, TransitionOf, ProgramInRange}
+use Rattle.machine_pws.specs.Program.{Shape, Program, transition, OperationOf, TransitionOf, WellFormed}
 use Rattle.machine_pws.specs.Machine.{
   Memory,
   Configuration,
@@ -88,7 +88,7 @@ all-snoc F (y ∷ ys) x a b = (a .0, all-snoc F ys x (a .1) b)
 -- ---- what fits a shape still fits it, for configurations and entries alike
 
 module _ {Val : ℕ → ℕ → Type 0} {S : Shape} where
-  pub message-set : {m : Message} (p v x : ℕ) → S .variables ≤ 4 → MessageIn Val S m → p < S .processes → v < S .variables → Val v x
+  pub message-set : {m : Message} (p v x : ℕ) → S .variables ≤ S .room → MessageIn Val S m → p < S .processes → v < S .variables → Val v x
       → MessageIn Val S (record { process = p; variable = v; snapshot = set (m .snapshot) v x })
   message-set {m} p v x four o pe ve xo =
       record {
@@ -102,7 +102,7 @@ module _ {Val : ℕ → ℕ → Type 0} {S : Shape} where
         absent = λ u l. getD-set-other (m .snapshot) v u x 0 (λ e. omega arith) ∙ o .absent u l;
       }
 
-  pub memory-append : {m : Memory} → S .variables ≤ 4 → MemoryIn Val S m → (p v x : ℕ) → p < S .processes → v < S .variables → Val v x → MemoryIn Val S (append m p v x)
+  pub memory-append : {m : Memory} → S .variables ≤ S .room → MemoryIn Val S m → (p v x : ℕ) → p < S .processes → v < S .variables → Val v x → MemoryIn Val S (append m p v x)
   memory-append {m} four o p v x pe ve xo =
       record {
         some = omega arith;
@@ -133,7 +133,7 @@ module _ {Val : ℕ → ℕ → Type 0} {S : Shape} where
 
 -- ---- each step
 
-module _ (P : Program) (R : ProgramInRange P) (c : Configuration) (o : ConfigurationOf P c) where
+module _ (P : Program) (R : WellFormed P) (c : Configuration) (o : ConfigurationOf P c) where
   memory-operation : (p : ℕ) → p < P .shape .processes → (x : Operation) → OperationOf (P .shape) x
       → MemoryIn (ValueOf (P .shape)) (P .shape) (memoryAfter (c .memory) p x)
   memory-operation p pe Nop w = o .fits .memory
@@ -197,6 +197,6 @@ module _ (P : Program) (R : ProgramInRange P) (c : Configuration) (o : Configura
       }
 
 -- so does a sequence of steps
-pub takes-configuration : {P : Program} → ProgramInRange P → {c d : Configuration} {ss : List Step} → ConfigurationOf P c → Takes P c ss d → ConfigurationOf P d
+pub takes-configuration : {P : Program} → WellFormed P → {c d : Configuration} {ss : List Step} → ConfigurationOf P c → Takes P c ss d → ConfigurationOf P d
 takes-configuration R o done = o
 takes-configuration {P} R o (step {c = c} s t r) = takes-configuration R (step-configuration P R c o s t) r

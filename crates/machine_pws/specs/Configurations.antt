@@ -19,11 +19,11 @@ All Val (x ∷ xs) = Val x × All Val xs
 
 -- `Val v x`: x may stand as a value of the variable v. Configurations and entries differ in this alone.
 
--- the label exists; a snapshot has room for four values, and is 0 at variables that the shape does not have
+-- the label exists; a snapshot has a value of each variable, and 0 in the places of its room that are of none
 pub record MessageIn (Val : ℕ → ℕ → Type 0) (S : Shape) (m : Message) : Type 0 where
   pub process : m .process < S .processes
   pub variable : m .variable < S .variables
-  pub room : length (m .snapshot) ≡ 4
+  pub room : length (m .snapshot) ≡ S .room
   pub values : (v : ℕ) → v < S .variables → Val v (getD (m .snapshot) v 0)
   pub absent : (v : ℕ) → S .variables ≤ v → getD (m .snapshot) v 0 ≡ 0
 
@@ -59,9 +59,9 @@ pub record ConfigurationOf (P : Program) (c : Configuration) : Type 0 where
 
 -- ---- starts
 
--- a memory that a run may start from (document 02, N3): any value in each variable, and 0 in the room of those that the shape does not have
+-- a memory that a run may start from (document 02, N3): any value in each variable, and 0 in the places that are of none
 pub record StartingMemory (S : Shape) (memory : List ℕ) : Type 0 where
-  pub room : length memory ≡ 4
+  pub room : length memory ≡ S .room
   pub values : (v : ℕ) → v < S .variables → getD memory v 0 < S .values v
   pub absent : (v : ℕ) → S .variables ≤ v → getD memory v 0 ≡ 0
 

@@ -1,5 +1,5 @@
 -- Entries, in which FF stands for any value of its place, and what is above them (document 01, "Above").
-use Prim.Native.Nat.{ℕ, _<_}
+use Prim.Native.Nat.{ℕ, _<_, _≤_}
 use mathlib.Core.Path.{_≡_}
 use mathlib.Core.Logic.{_⊎_}
 use mathlib.Core.List.{List, [], _∷_}
@@ -16,6 +16,10 @@ FF = 255
 -- an entry has the form of a configuration whose values may be FF
 abbrev pub ValueOrFF : Shape → ℕ → ℕ → Type 0
 ValueOrFF S v x = (x ≡ FF) ⊎ (x < S .values v)
+
+-- FF is no value, so that an entry can have each of them. Where lists are decided this is asked for; a byte has 255 others.
+abbrev pub NoValueIsFF : Shape → Type 0
+NoValueIsFF S = (v : ℕ) → v < S .variables → S .values v ≤ FF
 
 pub record EntryOf (P : Program) (e : Configuration) : Type 0 where
   pub states : StatesOf P (e .state)

@@ -1,5 +1,5 @@
--- Values in the ranges of their variables (document 02, N5). A table of four counts has the number of values of each of four variables, and 0
--- for a variable that there is not.
+-- Values in the ranges of their variables (document 02, N5). A table of counts, four in the format, has the number of values of each variable,
+-- and 0 in a place that is of none.
 use Prim.Native.Nat.{ℕ, _<_, _≤_}
 use mathlib.Core.Path.{_≡_}
 use mathlib.Core.Logic.{_⊎_}
@@ -23,7 +23,7 @@ pub record InRanges (counts : List ℕ) (c : Configuration) : Type 0 where
 
 -- the table is that of the shape
 pub record CountsOf (S : Shape) (counts : List ℕ) : Type 0 where
-  pub four : length counts ≡ 4
+  pub room : length counts ≡ S .room
   pub present : (v : ℕ) → v < S .variables → S .values v ≡ getD counts v 0
   pub absent : (v : ℕ) → S .variables ≤ v → getD counts v 0 ≡ 0
 

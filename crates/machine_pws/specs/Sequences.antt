@@ -6,8 +6,9 @@ use mathlib.Core.List.{List, [], _∷_}
 use lib.ListN.{length}
 use lib.Dec.{T}
 use Rattle.machine_pws.specs.declared.Step.{Step}
-use Rattle.machine_pws.specs.Program.{Program}
+use Rattle.machine_pws.specs.Program.{Program, WellFormed}
 use Rattle.machine_pws.specs.Machine.{Configuration, may, after}
+use Rattle.machine_pws.specs.Configurations.{ConfigurationOf}
 use Rattle.machine_pws.specs.Order.{Below}
 
 -- from c the machine takes each step in turn, and ends in d
@@ -43,3 +44,12 @@ pub data Answers (P : Program) : Configuration → Configuration → List Step �
   none : {c d : Configuration} → Answers P c d []
   each : {c d : Configuration} {ss : List Step} (s : Step) (a : Answer P d) → Below (P .shape) (after P c s) (a .to)
       → Answers P (after P c s) (a .to) ss → Answers P c d (s ∷ ss)
+
+-- Of two configurations, one above the other, the upper answers each of any number of steps that the lower takes, in turn, with one or more
+-- of its own, and is above it again after each.
+abbrev pub Simulated : Program → Type 0
+Simulated P = (c d e : Configuration) → ConfigurationOf P c → ConfigurationOf P d → Below (P .shape) c d → (ss : List Step) → Takes P c ss e → Answers P c d ss
+
+-- so for every well-formed program
+abbrev pub Simulation : Type 0
+Simulation = (P : Program) → WellFormed P → Simulated P

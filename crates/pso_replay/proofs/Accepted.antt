@@ -9,7 +9,7 @@ use native.Mathlib.Decide.{decLt}
 use lib.ListN.{length, getD, take}
 use lib.Dec.{T, eqb, eqb→eq}
 use mir.Facts.{yes-and}
-use Rattle.machine_pws.specs.Program.{Shape, Program, ProgramInRange}
+use Rattle.machine_pws.specs.Program.{Shape, Program, WellFormed}
 use Rattle.machine_pws.specs.Machine.{allBelow}
 use Rattle.machine_pws.specs.Configurations.{StartingMemory}
 use Rattle.machine_pws.proofs.Facts.{T-eq}
@@ -145,7 +145,7 @@ module _ (P : Program) (ts : List (ℕ → ℕ)) (n : ℕ) where
 
 -- ---- from a start with the memory
 
-module _ (P : Program) (R : ProgramInRange P) (memory : List ℕ) (ts : List (ℕ → ℕ)) (us : List PsoStep) where
+module _ (P : Program) (R : WellFormed P) (memory : List ℕ) (ts : List (ℕ → ℕ)) (us : List PsoStep) where
   start-alike : (d : PsoConfiguration) → PsoStart P memory d → Alike (P .shape) d (psoStartWith P memory)
   start-alike d s = record { states = s .states; buffers = s .buffers; memory = s .starts }
 

@@ -12,7 +12,7 @@ use borrow.Author.Tests.{eq-eqb, ne-eqb, lt-ltb, le-ltb}
 use mir.Facts.{and-yes}
 use Rattle.machine_pws.specs.declared.Operation.{Operation}
 use Rattle.machine_pws.specs.declared.Operation.the-variants.{Nop, Read, Write, Mfence, Sfence, Arw}
-use Rattle.machine_pws.specs.Program.{Shape, Program, transition, OperationOf, ProgramInRange}
+use Rattle.machine_pws.specs.Program.{Shape, Program, transition, OperationOf, WellFormed}
 use Rattle.machine_pws.specs.Machine.{allBelow}
 use Rattle.machine_pso.specs.declared.PsoStep.{PsoStep}
 use Rattle.machine_pso.specs.declared.PsoStep.the-variants.{Operate, UpdateVariable, RemoveMark}
@@ -58,7 +58,7 @@ module _ (B C : ℕ → ℕ → List Item) (p : ℕ) where
     | no e ↦ rw (ne-eqb q p e) h
   ]
 
-module _ (P : Program) (R : ProgramInRange P) (d e : PsoConfiguration) (A : Alike (P .shape) d e) where
+module _ (P : Program) (R : WellFormed P) (d e : PsoConfiguration) (A : Alike (P .shape) d e) where
   abbrev S : Shape
   S = P .shape
 
@@ -152,7 +152,7 @@ lowest-alike S k (t ∷ ts) d e h =
     (all-same (S .processes) (λ p. eqb (d .state p) (t p)) (λ p. eqb (e .state p) (t p)) (λ p l. ap (λ (x : ℕ). eqb x (t p)) (h p l)))
     (lowest-alike S (suc k) ts d e h)
 
-pub answers-alike : (P : Program) → ProgramInRange P → (ts : List (ℕ → ℕ)) (n k : ℕ) (us : List PsoStep) (d e : PsoConfiguration) → Alike (P .shape) d e
+pub answers-alike : (P : Program) → WellFormed P → (ts : List (ℕ → ℕ)) (n k : ℕ) (us : List PsoStep) (d e : PsoConfiguration) → Alike (P .shape) d e
     → psoAnswerFrom P ts n k d us ≡ psoAnswerFrom P ts n k e us
 answers-alike P R ts n k [] d e A = ap (lastAnswer n) (lowest-alike (P .shape) 0 ts d e (A .states))
 answers-alike P R ts n k (u ∷ us) d e A =

@@ -233,7 +233,7 @@ module _ (f : List ℕ) (p : Program) where
     pub answer-is : (u : Step) → answerIn run a (p .shape) (psoMoveOf f (p .transitions) u) ≡ psoStepAnswer (programOf f p) d (psoStep u)
     answer-is (steps.Take n) = elim (decLt n (p .transitions .count)) [
       | yes l ↦
-          let t = R .transitions n (omega (arith, transition-count f p)) in
+          let t = R .wellFormed .transitions n (omega (arith, transition-count f p)) in
           ap (answerIn run a (p .shape)) (move-operate n l)
           ∙ operate-is (p .shape) (R .shape .processes) (R .shape .variables) k run a d K (pws.transition (programOf f p) n) (t .process) (t .operation)
           ∙ ap (λ (b : Bool). cond b (psoOperateAnswer (shapeOf (p .shape)) d (pws.transition (programOf f p) n)) (Refused State)) (sym (exists-is f p n l))
@@ -251,7 +251,7 @@ module _ (f : List ℕ) (p : Program) where
     step-kept few (steps.Take n) t =
         let y = and-yes (ltb n (length (programOf f p .transitions))) (mayOperateBy (shapeOf (p .shape)) d (pws.transition (programOf f p) n)) t in
         let l = ltb→lt n (length (programOf f p .transitions)) (y .0) in
-        let o = R .transitions n l in
+        let o = R .wellFormed .transitions n l in
         let w = pws.transition (programOf f p) n in
         subst (λ (m : PsoMove). Kept (shapeOf (p .shape)) (suc k) (runAfter run a (p .shape) m) (lowerAfterMove a (run .tails) (p .shape) m) (afterOperate (shapeOf (p .shape)) d w))
         (sym (move-operate n (omega (arith, transition-count f p))))

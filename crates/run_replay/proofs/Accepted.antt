@@ -15,7 +15,7 @@ use Rattle.machine_pws.specs.declared.Operation.{Operation}
 use Rattle.machine_pws.specs.declared.Operation.the-variants.{Nop, Read, Write, Mfence, Sfence, Arw}
 use Rattle.machine_pws.specs.declared.Step.{Step}
 use Rattle.machine_pws.specs.declared.Step.the-variants.{Take, Serialise, Update}
-use Rattle.machine_pws.specs.Program.{Shape, Program, transition, ProgramInRange}
+use Rattle.machine_pws.specs.Program.{Shape, Program, transition, WellFormed}
 use Rattle.machine_pws.specs.Machine.{Configuration, put, message, newest, labelled, lastLabelled, lastWrite, newestWaiting, newestOr, sees, queueAfter, memoryAfter, afterTake, may, after, copyWith, allBelow}
 use Rattle.machine_pws.specs.Configurations.{StartingMemory, startingMemory, Start, startWith, InTarget, inTarget}
 use Rattle.machine_pws.specs.Sequences.{Takes, done, step, Replay, ended, stopped, replay}
@@ -119,7 +119,7 @@ record Like (P : Program) (c d : Configuration) : Type 0 where
   channels : Alike (c .memory .channel) (d .memory .channel)
   low : (p : ℕ) → p < P .shape .processes → 1 ≤ c .memory .pointer p
 
-module _ (P : Program) (R : ProgramInRange P) (c d : Configuration) (l : Like P c d) where
+module _ (P : Program) (R : WellFormed P) (c d : Configuration) (l : Like P c d) where
   newest-like : newest (c .memory .channel) .snapshot ≡ newest (d .memory .channel) .snapshot
   newest-like =
       alike-snapshot (l .channels) (length (c .memory .channel))
@@ -232,7 +232,7 @@ lowest-like S k [] c d e = refl
 lowest-like S k (t ∷ ts) c d e =
     ap₂ (λ (f : ℕ → ℕ) (r : Option ℕ). cond (inTarget S t (record { state = f; queue = c .queue; memory = c .memory })) (some k) r) e (lowest-like S (suc k) ts c d e)
 
-verdict-like : (P : Program) → ProgramInRange P → (ts : List (ℕ → ℕ)) (n k : ℕ) (ss : List Step) (c d : Configuration) → Like P c d
+verdict-like : (P : Program) → WellFormed P → (ts : List (ℕ → ℕ)) (n k : ℕ) (ss : List Step) (c d : Configuration) → Like P c d
     → run.verdictOf (P .shape) ts n (replay P k c ss) ≡ run.verdictOf (P .shape) ts n (replay P k d ss)
 verdict-like P R ts n k [] c d l = ap (run.lastTest n) (lowest-like (P .shape) 0 ts c d (l .states))
 verdict-like P R ts n k (s ∷ ss) c d l = go (verdict-like P R ts n (suc k) ss (after P c s) (after P d s) (after-like P R c d l s)) (may P c s) (may P d s) (may-like P R c d l s)
@@ -257,14 +257,14 @@ starts-like P memory p v q u =
     }
 
 -- the label of the first message makes no difference: the verdict is that from every start with the memory
-pub label-free : (P : Program) → ProgramInRange P → (ts : List (ℕ → ℕ)) (memory : List ℕ) (ss : List Step) (c : Configuration) → Start P c
+pub label-free : (P : Program) → WellFormed P → (ts : List (ℕ → ℕ)) (memory : List ℕ) (ss : List Step) (c : Configuration) → Start P c
     → startingMemory c ≡ memory → run.verdictFrom P ts ss c ≡ run.runVerdict P ts memory ss
 label-free P R ts memory ss c s e =
     let r = start-is P memory c s e in
     ap (run.verdictFrom P ts ss) (r .same)
     ∙ verdict-like P R ts (length ss) 0 ss (startWith P memory (r .process) (r .variable)) (startWith P memory 0 0) (starts-like P memory (r .process) (r .variable) 0 0)
 
-answers-like : (P : Program) → ProgramInRange P → (ts : List (ℕ → ℕ)) (n k : ℕ) (ss : List Step) (c d : Configuration) → Like P c d
+answers-like : (P : Program) → WellFormed P → (ts : List (ℕ → ℕ)) (n k : ℕ) (ss : List Step) (c d : Configuration) → Like P c d
     → answerFrom P ts n k c ss ≡ answerFrom P ts n k d ss
 answers-like P R ts n k [] c d l = ap (lastAnswer n) (lowest-like (P .shape) 0 ts c d (l .states))
 answers-like P R ts n k (s ∷ ss) c d l =
@@ -272,7 +272,7 @@ answers-like P R ts n k (s ∷ ss) c d l =
     ∙ ap (λ (r : RunAnswer). answerThen (stepAnswer P d s) k (λ _. r)) (answers-like P R ts n (suc k) ss (after P c s) (after P d s) (after-like P R c d l s))
 
 -- the same of the answer, with its cause
-pub answer-free : (P : Program) → ProgramInRange P → (ts : List (ℕ → ℕ)) (memory : List ℕ) (ss : List Step) (c : Configuration) → Start P c
+pub answer-free : (P : Program) → WellFormed P → (ts : List (ℕ → ℕ)) (memory : List ℕ) (ss : List Step) (c : Configuration) → Start P c
     → startingMemory c ≡ memory → answerFrom P ts (length ss) 0 c ss ≡ runAnswer P ts memory ss
 answer-free P R ts memory ss c s e =
     let r = start-is P memory c s e in
@@ -352,7 +352,7 @@ accepted-end S ts m n k (ended d) e = (d, refl, met-some (run.lowestMet S 0 ts d
 accepted-end S ts m n k (stopped i) e = absurd (stopped-reachable e)
 
 -- a run is accepted if and only if the machine can take every step in turn from a start with its memory and stops in a target
-pub run-accepted : (P : Program) → ProgramInRange P → (ts : List (ℕ → ℕ)) (memory : List ℕ) → StartingMemory (P .shape) memory → (ss : List Step)
+pub run-accepted : (P : Program) → WellFormed P → (ts : List (ℕ → ℕ)) (memory : List ℕ) → StartingMemory (P .shape) memory → (ss : List Step)
     → ((n k : ℕ) → run.runVerdict P ts memory ss ≡ run.reachable n k → run.Accepted P ts memory ss)
     × (run.Accepted P ts memory ss → (k : ℕ) × (run.runVerdict P ts memory ss ≡ run.reachable (length ss) k))
 run-accepted P R ts memory w ss = (accepts, accepted)

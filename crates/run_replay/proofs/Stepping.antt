@@ -181,7 +181,7 @@ module _ (f : List ℕ) (p : Program) (R : pws.ProgramInRange (programOf f p)) (
   pub answer-is : (s : steps.Step) → answerIn run rows a (p .shape) (moveOf f (p .transitions) s) ≡ stepAnswer (programOf f p) c s
   answer-is (step.Take n) = elim (decLt n (p .transitions .count)) [
     | yes l ↦
-        let t = R .transitions n (omega (arith, transition-count f p)) in
+        let t = R .wellFormed .transitions n (omega (arith, transition-count f p)) in
         ap (answerIn run rows a (p .shape)) (move-take f p n l)
         ∙ take-is (p .shape) (R .shape .processes) (R .shape .variables) k run rows a c K (pws.transition (programOf f p) n) (t .process) (t .operation)
         ∙ ap (λ (b : Bool). cond b (takeAnswer (shapeOf (p .shape)) c (pws.transition (programOf f p) n)) (Refused State)) (sym (exists-is f p n l))
@@ -214,7 +214,7 @@ module _ (f : List ℕ) (p : Program) (R : pws.ProgramInRange (programOf f p)) (
   step-kept few (step.Take n) t =
       let y = and-yes (ltb n (length (programOf f p .transitions))) (mayTake (shapeOf (p .shape)) c (pws.transition (programOf f p) n)) t in
       let l : n < length (programOf f p .transitions) = ltb-true n (length (programOf f p .transitions)) (T-true (ltb n (length (programOf f p .transitions))) (y .0)) in
-      let o = R .transitions n l in
+      let o = R .wellFormed .transitions n l in
       let w = pws.transition (programOf f p) n in
       subst (λ (m : Move). Kept (shapeOf (p .shape)) (suc k) (runAfter run m) (rowsAfter rows (run .messages) m) (lowerAfter a run m) (afterTake c w))
       (sym (move-take f p n (omega (arith, transition-count f p))))

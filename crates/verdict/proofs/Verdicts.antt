@@ -12,6 +12,7 @@ use Rattle.machine_pws.specs.declared.Step.{Step}
 use Rattle.machine_pws.specs.declared.Step.the-variants.{Take, Serialise, Update}
 use Rattle.machine_pws.specs.Program.{Program, ProgramInRange, transition}
 use Rattle.machine_pws.specs.Machine.{Configuration, may, mayTake, isEmpty}
+use Rattle.machine_pws.proofs.Ranges.{format-no-ff}
 use Rattle.list_theory.specs.Verdict as lists
 use Rattle.list_theory.specs.Decision as decision
 use Rattle.list_theory.proofs.Verdict.{verdict-unique, verdict-judged}
@@ -137,7 +138,7 @@ module _ (u : reading.Input) (area : ℕ) where
 
     pub file-list-judged : lists.ListJudged P ts es (decision.verdictOf P ts es)
     file-list-judged =
-        verdict-judged P list-range es (λ k l. read .entries k l .of) ts (λ k l. read .part .targets k l) (λ k l. read .entries k l .first)
+        verdict-judged P (list-range .wellFormed) (format-no-ff (list-range .shape)) es (λ k l. read .entries k l .of) ts (λ k l. read .part .targets k l) (λ k l. read .entries k l .first)
 
   file-judged : (r : reading.FileRead) → Reads r → FileJudged r (ofFile r) × ((v : Verdict) → FileJudged r v → v ≡ ofFile r)
   file-judged (reading.refused w₀ r) q = (refl, λ v e. e)

@@ -8,7 +8,7 @@ use Rattle.list_targets.proofs.shapes_held.Tie as tie
 pub shapes-held-spec : {M : Type 1} → statement M
 shapes-held-spec = tie.close (tie.spec
     -- returns
-    (λ c. never (λ h. omega (arith, h .someProcess, c .if1 .taken)))
+    (λ c. never (λ h. omega (arith, h .wellFormed .someProcess, c .if1 .taken)))
     -- returns-2
     (λ c. never (λ h. omega (arith, h .processes, c .if2 .taken)))
     -- returns-3
