@@ -18,7 +18,7 @@ use Rattle.machine_pws.specs.Sequences as plainRuns
 use Rattle.machine_pws.proofs.Facts.{put-same, put-other, put-each}
 use Rattle.machine_equal.specs.Equivalence.{PwsStart, PwsReachable}
 use Rattle.machine_equal.proofs.Reachability.{permitted-start, takes-visited}
-use Rattle.register_machine.specs.Program.{RegisterProgram, RegisterProgramInRange, hasRegister, noRegisterTransition}
+use Rattle.register_machine.specs.Program.{RegisterProgram, RegisterWellFormed, hasRegister, noRegisterTransition}
 use Rattle.register_machine.specs.Machine.{RegisterConfiguration, registerAfter}
 use Rattle.register_machine.specs.Runs.{RegisterStart, RegisterTakes, RegisterVisited, RegisterInTarget, RegisterReachable}
 use Rattle.register_machine.specs.Runs as runs
@@ -77,7 +77,7 @@ starts-exist R memory o p v pe ve =
       pointers = λ q e. rw (lt-ltb q n e);
     }
 
-module _ (R : RegisterProgram) (I : RegisterProgramInRange R) where
+module _ (R : RegisterProgram) (I : RegisterWellFormed R) where
   abbrev n : ℕ
   n = R .shape .processes
 
@@ -279,7 +279,7 @@ correspondence R I = (
       (target-there R target (c .state) (c .register) (g .registers), target-back R target (c .state) (c .register) (g .registers)),
 )
 
-module _ (R : RegisterProgram) (I : RegisterProgramInRange R) where
+module _ (R : RegisterProgram) (I : RegisterWellFormed R) where
   -- what visits a target, reaches one that it became
   visits : (target : ℕ → ℕ) (memory : List ℕ) (c e : RegisterConfiguration) (ss : List Step) → RegisterStart R memory c → RegisterVisited R c ss e
       → RegisterInTarget (R .shape) target e → ReachedWritten R memory target

@@ -26,7 +26,7 @@ use Rattle.register_machine.specs.declared.RegisterOperation.the-variant
 use Rattle.register_machine.specs.declared.RegisterTransition.{RegisterTransition}
 use Rattle.register_machine.specs.Program.{
   RegisterProgram,
-  RegisterProgramInRange,
+  RegisterWellFormed,
   RegisterOperationOf,
   noRegisterTransition,
   registerTransition,
@@ -208,7 +208,7 @@ module _ (R : RegisterProgram) where
     pub can : Can (registerOf number) (registerTransition R number .operation) register value
     pub same : m ≡ numberWritten R number register value
 
-  pub number-of : RegisterProgramInRange R → (m : ℕ) → m < length (written R .transitions) → Written m
+  pub number-of : RegisterWellFormed R → (m : ℕ) → m < length (written R .transitions) → Written m
   number-of I m l =
       let f = found (becomesIn R) noRegisterTransition noTransition (R .transitions) m l in
       let n = f .number in

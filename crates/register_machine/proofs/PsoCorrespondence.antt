@@ -15,7 +15,7 @@ use Rattle.machine_pso.specs.Runs.{PsoStart, PsoTakes, PsoInTarget, PsoReachabl
 use Rattle.machine_pso.specs.Runs as plainRuns
 use Rattle.machine_equal.proofs.Reachability.{permitted-start, takes-visited, same-reachability}
 use Rattle.register_machine.specs.declared.RegisterTransition.{RegisterTransition}
-use Rattle.register_machine.specs.Program.{RegisterProgram, RegisterProgramInRange, noRegisterTransition, someUses}
+use Rattle.register_machine.specs.Program.{RegisterProgram, RegisterWellFormed, noRegisterTransition, someUses}
 use Rattle.register_machine.specs.PsoMachine.{
   RegisterPsoConfiguration,
   registerPsoAfter,
@@ -39,7 +39,7 @@ use Rattle.register_machine.specs.PsoCorrespondence.{
   PsoReachedTarget,
 }
 use Rattle.register_machine.proofs.Lists.{joined-at, joined-below, found}
-use Rattle.register_machine.proofs.Stepping.{written-in-range}
+use Rattle.register_machine.proofs.Stepping.{written-well-formed}
 use Rattle.register_machine.proofs.Correspondence.{target-there, target-back, register-reachability}
 use Rattle.register_machine.proofs.PsoStepping.{PsoRanged, configuration-eq, step-there, step-back, step-ranged}
 
@@ -50,7 +50,7 @@ uses-of-none n [] h p l = refl
 uses-of-none n (t ∷ ts) h p l =
     rw (ne-eqb (t .process) p (λ e. omega (arith, h 0 (omega arith)))) (uses-of-none n ts (λ k b. h (suc k) (omega arith)) p l)
 
-module _ (R : RegisterProgram) (I : RegisterProgramInRange R) where
+module _ (R : RegisterProgram) (I : RegisterWellFormed R) where
   abbrev n : ℕ
   n = R .shape .processes
 
@@ -180,7 +180,7 @@ register-same-reachability R I memory target = (
       (record {
         number = r .number;
         exists = r .exists;
-        reached = same-reachability (written R) (written-in-range R I) memory (getD (targetBecomes R target) (r .number) (λ p. 0)) .0 (r .reached);
+        reached = same-reachability (written R) (written-well-formed R I) memory (getD (targetBecomes R target) (r .number) (λ p. 0)) .0 (r .reached);
       }),
   λ w.
       let r = takes-to R I target memory (w .first) (w .last) (w .steps) (w .starts) (w .takes) (w .reached) in
@@ -188,7 +188,7 @@ register-same-reachability R I memory target = (
       (record {
         number = r .number;
         exists = r .exists;
-        reached = same-reachability (written R) (written-in-range R I) memory (getD (targetBecomes R target) (r .number) (λ p. 0)) .1 (r .reached);
+        reached = same-reachability (written R) (written-well-formed R I) memory (getD (targetBecomes R target) (r .number) (λ p. 0)) .1 (r .reached);
       }),
 )
 
@@ -198,7 +198,7 @@ register-pso-safety R I targets safe memory d s us e v k l h =
     let t = getD targets k none in
     let w = visited-takes R I v in
     let r = takes-to R I t memory d e (w .0) s (w .1) h in
-    let p = same-reachability (written R) (written-in-range R I) memory (getD (targetBecomes R t) (r .number) none) .1 (r .reached) in
+    let p = same-reachability (written R) (written-well-formed R I) memory (getD (targetBecomes R t) (r .number) none) .1 (r .reached) in
     safe (p .first) (permitted-start (written R) memory (p .first) (p .starts)) (p .steps) (p .last) (takes-visited (p .takes))
     (length (joined (targetBecomes R) (take k targets)) + r .number)
     (joined-below (targetBecomes R) none none targets k (r .number) l (r .exists))

@@ -51,7 +51,7 @@ use Rattle.register_machine.specs.declared.RegisterOperation.the-variant
 }
 use Rattle.register_machine.specs.Program.{
   RegisterProgram,
-  RegisterProgramInRange,
+  RegisterWellFormed,
   RegisterOperationOf,
   registerTransition,
   usesRegister,
@@ -210,7 +210,7 @@ pub record PsoRanged (R : RegisterProgram) (d : RegisterPsoConfiguration) : Type
   pub buffers : (p : ℕ) → p < R .shape .processes → (v : ℕ) → v < R .shape .variables → Low (d .buffer p v)
   pub memory : (v : ℕ) → v < R .shape .variables → getD (d .memory) v 0 < 4
 
-module _ (R : RegisterProgram) (I : RegisterProgramInRange R) (d : RegisterPsoConfiguration) (g : PsoRanged R d) where
+module _ (R : RegisterProgram) (I : RegisterWellFormed R) (d : RegisterPsoConfiguration) (g : PsoRanged R d) where
   abbrev W : Program
   W = written R
 

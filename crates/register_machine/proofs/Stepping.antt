@@ -47,7 +47,7 @@ use Rattle.register_machine.specs.declared.RegisterOperation.the-variant
 }
 use Rattle.register_machine.specs.Program.{
   RegisterProgram,
-  RegisterProgramInRange,
+  RegisterWellFormed,
   RegisterOperationOf,
   registerTransition,
   hasRegister,
@@ -65,7 +65,7 @@ use Rattle.register_machine.specs.Machine.{
   registerAfter,
 }
 use Rattle.register_machine.specs.Written.{pairOf, statesOf, plainOperation, held, written, place, firstWritten, numberWritten}
-use Rattle.register_machine.specs.Correspondence.{paired, seenBy, stepWritten, WrittenInRange}
+use Rattle.register_machine.specs.Correspondence.{paired, seenBy, stepWritten, WrittenWellFormed, WrittenInRange}
 use Rattle.register_machine.proofs.Numbers.{uses-none, Can, registerOf, number-below, number-is, number-of}
 
 -- ---- what is seen is a value
@@ -141,8 +141,8 @@ held-low false (LoadRegister v) r x can e = absurd can
 held-low b (StoreRegister v) r x can e = can-low b (StoreRegister v) r x can e
 held-low b (TestRegister y) r x can e = can-low b (TestRegister y) r x can e
 
-pub written-in-range : WrittenInRange
-written-in-range R I =
+pub written-well-formed : WrittenWellFormed
+written-well-formed R I =
     record {
       shape = I .shape;
       initial = λ p l. pair-below (hasRegister R p) (R .initial p) 0 (R .states p) (I .initial p l) (λ e. omega arith);
@@ -163,6 +163,9 @@ written-in-range R I =
             operation = operation-of (R .shape) (I .four) b (t .operation) r x (o .operation) (w .can);
           });
     }
+
+pub written-in-range : WrittenInRange
+written-in-range R I s = record { wellFormed = written-well-formed R I; shape = s }
 
 -- ---- one operation
 
@@ -266,7 +269,7 @@ pub record Ranged (R : RegisterProgram) (c : RegisterConfiguration) : Type 0 whe
   pub configuration : ConfigurationOf (written R) (paired R c)
   pub registers : (p : ℕ) → c .register p < 4
 
-module _ (R : RegisterProgram) (I : RegisterProgramInRange R) (c : RegisterConfiguration) (g : Ranged R c) where
+module _ (R : RegisterProgram) (I : RegisterWellFormed R) (c : RegisterConfiguration) (g : Ranged R c) where
   abbrev W : Program
   W = written R
 
@@ -369,6 +372,6 @@ module _ (R : RegisterProgram) (I : RegisterProgramInRange R) (c : RegisterConfi
   step-ranged s t =
       let r = step-there s t in
       record {
-        configuration = subst (ConfigurationOf W) (r .1) (step-configuration W (written-in-range R I) d (g .configuration) (stepWritten R c s) (r .0));
+        configuration = subst (ConfigurationOf W) (r .1) (step-configuration W (written-well-formed R I) d (g .configuration) (stepWritten R c s) (r .0));
         registers = registers-after s t;
       }

@@ -79,7 +79,7 @@ step p q o = record { process = p; from = q; operation = o; to = suc q }
 abbrev program : ℕ → ℕ → List RegisterTransition → RegisterProgram
 program processes variables ts =
     record {
-      shape = record { processes = processes; variables = variables; values = λ v. 4 };
+      shape = record { processes = processes; variables = variables; values = λ v. 4; room = 4 };
       states = λ p. 5;
       initial = λ p. 0;
       transitions = ts;
@@ -104,7 +104,7 @@ copying = program 1 2 (step 0 0 (LoadRegister 0) ∷ step 0 1 (StoreRegister 1) 
 abbrev mixed : RegisterProgram
 mixed =
     record {
-      shape = record { processes = 2; variables = 2; values = λ v. 4 };
+      shape = record { processes = 2; variables = 2; values = λ v. 4; room = 4 };
       states = λ p. cond (eqb p 0) 3 2;
       initial = λ p. 1;
       transitions =
@@ -121,7 +121,7 @@ mixed =
 abbrev outer : RegisterProgram
 outer =
     record {
-      shape = record { processes = 3; variables = 1; values = λ v. 4 };
+      shape = record { processes = 3; variables = 1; values = λ v. 4; room = 4 };
       states = λ p. 3;
       initial = λ p. 0;
       transitions = step 2 0 (StoreRegister 0) ∷ step 1 0 (Write 0 1) ∷ step 0 0 (TestRegister 0) ∷ [];

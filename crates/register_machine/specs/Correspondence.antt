@@ -7,7 +7,7 @@ use lib.ListN.{length, getD}
 use lib.Dec.{T}
 use Rattle.machine_pws.specs.declared.Step.{Step}
 use Rattle.machine_pws.specs.declared.Step.the-variants.{Take, Serialise, Update}
-use Rattle.machine_pws.specs.Program.{ProgramInRange}
+use Rattle.machine_pws.specs.Program.{WellFormed, ShapeInRange, ProgramInRange}
 use Rattle.machine_pws.specs.Machine.{Configuration, sees, may, after}
 use Rattle.machine_pws.specs.Configurations.{StartingMemory, InTarget, Start}
 use Rattle.machine_pws.specs.Sequences.{Takes, Visited}
@@ -24,7 +24,7 @@ use Rattle.register_machine.specs.declared.RegisterOperation.the-variant
   StoreRegister,
   TestRegister,
 }
-use Rattle.register_machine.specs.Program.{RegisterProgram, RegisterProgramInRange, registerTransition, hasRegister}
+use Rattle.register_machine.specs.Program.{RegisterProgram, RegisterWellFormed, registerTransition, hasRegister}
 use Rattle.register_machine.specs.Machine.{RegisterConfiguration, plain, registerMay, registerAfter}
 use Rattle.register_machine.specs.Runs.{
   RegisterStart,
@@ -66,11 +66,14 @@ pub data StepForStep (R : RegisterProgram) : RegisterConfiguration → List Step
   step : {c : RegisterConfiguration} {d : Configuration} {ss us : List Step} (s u : Step) → d ≡ paired R c → u ≡ stepWritten R c s → T (registerMay R c s)
       → T (may (written R) d u) → StepForStep R (registerAfter R c s) ss (after (written R) d u) us → StepForStep R c (s ∷ ss) d (u ∷ us)
 
--- ---- the statements, for every program with registers in range and with no bound on steps
+-- ---- the statements, for every well-formed program with registers, of any size, and with no bound on steps
 
--- the program that is written is a program of the judge, but for the numbers of its states and transitions
+-- the program that is written is well formed; and it is one of the format, but for the numbers of its states and transitions, if the shape is
+abbrev pub WrittenWellFormed : Type 0
+WrittenWellFormed = (R : RegisterProgram) → RegisterWellFormed R → WellFormed (written R)
+
 abbrev pub WrittenInRange : Type 0
-WrittenInRange = (R : RegisterProgram) → RegisterProgramInRange R → ProgramInRange (written R)
+WrittenInRange = (R : RegisterProgram) → RegisterWellFormed R → ShapeInRange (R .shape) → ProgramInRange (written R)
 
 -- every memory has starts, one for each label
 abbrev pub StartsExist : Type 0
@@ -105,14 +108,14 @@ TargetsCorrespond R =
     → RegisterInTarget (R .shape) target c ↔ InWritten R target (paired R c .state)
 
 abbrev pub Correspondence : Type 0
-Correspondence = (R : RegisterProgram) → RegisterProgramInRange R → StartsCorrespond R × RunsCorrespond R × TargetsCorrespond R
+Correspondence = (R : RegisterProgram) → RegisterWellFormed R → StartsCorrespond R × RunsCorrespond R × TargetsCorrespond R
 
 -- ---- what the judge's answers for the written program say of the program with registers
 
 -- if no run of the written program visits a written target, no run of the register machine visits a target
 abbrev pub RegisterSafety : Type 0
 RegisterSafety =
-    (R : RegisterProgram) → RegisterProgramInRange R → (targets : List (ℕ → ℕ))
+    (R : RegisterProgram) → RegisterWellFormed R → (targets : List (ℕ → ℕ))
     → ((d : Configuration) → Start (written R) d → (us : List Step) (e : Configuration) → Visited (written R) d us e
     → (k : ℕ) → k < length (writtenTargets R targets) → InTarget (R .shape) (getD (writtenTargets R targets) k (λ p. 0)) e → ⊥)
     → (memory : List ℕ) (c : RegisterConfiguration) → RegisterStart R memory c → (ss : List Step) (e : RegisterConfiguration) → RegisterVisited R c ss e
@@ -126,13 +129,13 @@ pub record ReachedWritten (R : RegisterProgram) (memory : List ℕ) (target : �
 
 abbrev pub RegisterReachability : Type 0
 RegisterReachability =
-    (R : RegisterProgram) → RegisterProgramInRange R → (memory : List ℕ) (target : ℕ → ℕ)
+    (R : RegisterProgram) → RegisterWellFormed R → (memory : List ℕ) (target : ℕ → ℕ)
     → RegisterReachable R memory target ↔ ReachedWritten R memory target
 
 -- and a written target that is reached is one that a target became which is reached
 abbrev pub ReachedTarget : Type 0
 ReachedTarget =
-    (R : RegisterProgram) → RegisterProgramInRange R → (targets : List (ℕ → ℕ)) (memory : List ℕ) (k : ℕ) → k < length (writtenTargets R targets)
+    (R : RegisterProgram) → RegisterWellFormed R → (targets : List (ℕ → ℕ)) (memory : List ℕ) (k : ℕ) → k < length (writtenTargets R targets)
     → PwsReachable (written R) memory (getD (writtenTargets R targets) k (λ p. 0))
     → (n : ℕ) × (n < length targets) × RegisterReachable R memory (getD targets n (λ p. 0))
 

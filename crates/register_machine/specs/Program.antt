@@ -5,7 +5,7 @@ use mathlib.Core.Bool.{Bool, true, false, _&&_, _||_}
 use mathlib.Core.List.{List, [], _∷_}
 use lib.ListN.{length, getD}
 use lib.Dec.{eqb}
-use Rattle.machine_pws.specs.Program.{Shape, ShapeInRange}
+use Rattle.machine_pws.specs.Program.{Shape, WellFormedShape}
 use Rattle.register_machine.specs.declared.RegisterOperation.{RegisterOperation}
 use Rattle.register_machine.specs.declared.RegisterOperation.the-variants.{
   Nop,
@@ -76,10 +76,10 @@ pub record RegisterTransitionOf (R : RegisterProgram) (t : RegisterTransition) :
   pub to : t .to < R .states (t .process)
   pub operation : RegisterOperationOf (R .shape) (t .operation)
 
--- What the theorems assume of a program with registers: its shape is one of document 01's, every variable has four values, and its
--- transitions and initial states name what exists. The reading of a file establishes it.
-pub record RegisterProgramInRange (R : RegisterProgram) : Type 0 where
-  pub shape : ShapeInRange (R .shape)
+-- What the theorems assume of a program with registers, with no bound on its size: its shape is well formed, every variable has four values, and
+-- its initial states and its transitions name what exists. The reading of a file establishes it.
+pub record RegisterWellFormed (R : RegisterProgram) : Type 0 where
+  pub shape : WellFormedShape (R .shape)
   pub four : (v : ℕ) → v < R .shape .variables → R .shape .values v ≡ 4
   pub initial : (p : ℕ) → p < R .shape .processes → R .initial p < R .states p
   pub transitions : (n : ℕ) → n < length (R .transitions) → RegisterTransitionOf R (registerTransition R n)

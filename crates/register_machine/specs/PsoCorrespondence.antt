@@ -26,7 +26,7 @@ use Rattle.register_machine.specs.declared.RegisterOperation.the-variant
   StoreRegister,
   TestRegister,
 }
-use Rattle.register_machine.specs.Program.{RegisterProgram, RegisterProgramInRange, registerTransition, hasRegister}
+use Rattle.register_machine.specs.Program.{RegisterProgram, RegisterWellFormed, registerTransition, hasRegister}
 use Rattle.register_machine.specs.Runs.{RegisterReachable}
 use Rattle.register_machine.specs.PsoMachine.{
   RegisterPsoConfiguration,
@@ -93,20 +93,20 @@ PsoTargetsCorrespond R =
     → RegisterPsoInTarget (R .shape) target d ↔ InWritten R target (psoPaired R d .state)
 
 abbrev pub PsoCorrespondence : Type 0
-PsoCorrespondence = (R : RegisterProgram) → RegisterProgramInRange R → PsoStartsCorrespond R × PsoRunsCorrespond R × PsoTargetsCorrespond R
+PsoCorrespondence = (R : RegisterProgram) → RegisterWellFormed R → PsoStartsCorrespond R × PsoRunsCorrespond R × PsoTargetsCorrespond R
 
 -- ---- what follows
 
 -- the two machines of a program with registers reach the same targets
 abbrev pub RegisterSameReachability : Type 0
 RegisterSameReachability =
-    (R : RegisterProgram) → RegisterProgramInRange R → (memory : List ℕ) (target : ℕ → ℕ)
+    (R : RegisterProgram) → RegisterWellFormed R → (memory : List ℕ) (target : ℕ → ℕ)
     → RegisterReachable R memory target ↔ RegisterPsoReachable R memory target
 
 -- if no run of the written program visits a written target on the PWS machine, no run of the register program visits a target on the PSO machine
 abbrev pub RegisterPsoSafety : Type 0
 RegisterPsoSafety =
-    (R : RegisterProgram) → RegisterProgramInRange R → (targets : List (ℕ → ℕ))
+    (R : RegisterProgram) → RegisterWellFormed R → (targets : List (ℕ → ℕ))
     → ((d : Configuration) → Start (written R) d → (us : List Step) (e : Configuration) → Visited (written R) d us e
     → (k : ℕ) → k < length (writtenTargets R targets) → InTarget (R .shape) (getD (writtenTargets R targets) k (λ p. 0)) e → ⊥)
     → (memory : List ℕ) (d : RegisterPsoConfiguration) → RegisterPsoStart R memory d → (us : List PsoStep) (e : RegisterPsoConfiguration)
@@ -115,6 +115,6 @@ RegisterPsoSafety =
 -- a written target that the PSO machine reaches is one that a target became which it reaches
 abbrev pub PsoReachedTarget : Type 0
 PsoReachedTarget =
-    (R : RegisterProgram) → RegisterProgramInRange R → (targets : List (ℕ → ℕ)) (memory : List ℕ) (k : ℕ) → k < length (writtenTargets R targets)
+    (R : RegisterProgram) → RegisterWellFormed R → (targets : List (ℕ → ℕ)) (memory : List ℕ) (k : ℕ) → k < length (writtenTargets R targets)
     → PsoReachable (written R) memory (getD (writtenTargets R targets) k (λ p. 0))
     → (n : ℕ) × (n < length targets) × RegisterPsoReachable R memory (getD targets n (λ p. 0))
