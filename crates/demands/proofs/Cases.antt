@@ -23,6 +23,7 @@ use Rattle.file_records.specs.Records.{
   statesNumber,
   valueExists,
   allZero,
+  namesOf,
   operationNames,
   operationOf,
   transitionNames,
@@ -48,7 +49,7 @@ use Rattle.file_records.specs.Records.{
   messageNumber,
   waitingNumber,
 }
-use Rattle.file_records.specs.ProgramPart.{unlessEnd, statesFrom, rowFrom, transitionsFrom, atEnd, targetsFrom, rowsFrom, restFrom, programFrom}
+use Rattle.file_records.specs.ProgramPart.{unlessEnd, statesFrom, rowFrom, transitionsFrom, atEnd, targetsFrom, rowsFrom, restFrom, programWith, programFrom}
 use Rattle.file_contents.specs.EvidencePart.{
   stepsFrom,
   stepsOf,
@@ -125,9 +126,9 @@ K-not-below : QueueBelow (1 ∷ []) (1 ∷ 0 ∷ []) → ⊥
 K-not-below q = let e = q .end in let z : _≡_ {A = ℕ} 0 1 = cc in omega arith
 
 rows-computed : (k : ℕ) → AllRight k cases
-unfolding firstCause firstNumber checked isKind inRange countInRange countsInRange countIfAbsent countsIfAbsent shapeNumber statesNumber valueExists allZero operationNames operationOf transitionNames transitionNumber stateName stateNames targetNumber claimNumber startName startNames startNumber runEvidence stepBody stepNames stepNumber stepAt pointerName pointerNames entryNumber valueName valueNames messageNames waitingNames messageNumber waitingNumber unlessEnd statesFrom rowFrom transitionsFrom atEnd targetsFrom rowsFrom restFrom programFrom stepsFrom stepsOf extended bodySize bodyNumber pointerInside pointsFirst pointersFit someFirst complete atBoundary finished entryFrom entryRead entriesFrom cut bodyOf recordAt isOfRecord offendingBy
+unfolding firstCause firstNumber checked isKind inRange countInRange countsInRange countIfAbsent countsIfAbsent shapeNumber statesNumber valueExists allZero namesOf operationNames operationOf transitionNames transitionNumber stateName stateNames targetNumber claimNumber startName startNames startNumber runEvidence stepBody stepNames stepNumber stepAt pointerName pointerNames entryNumber valueName valueNames messageNames waitingNames messageNumber waitingNumber unlessEnd statesFrom rowFrom transitionsFrom atEnd targetsFrom rowsFrom restFrom programWith stepsFrom stepsOf extended bodySize bodyNumber pointerInside pointsFirst pointersFit someFirst complete atBoundary finished entryFrom entryRead entriesFrom cut bodyOf recordAt isOfRecord offendingBy
 rows-computed k =
-    (refl, (refl, (refl, (refl, (refl, (refl, (refl, (refl, (refl, (refl, (refl, (refl, (refl, (refl, (refl, (refl, (refl, (refl, (refl, (refl, (refl, (refl, (refl, (refl, (refl, (refl, (refl, (refl, (refl, (K-below, (K-not-below, (refl, (refl, (refl, (refl, (refl, (refl, (refl, (refl, (refl, (refl, (refl, (refl, (refl, (refl, (refl, (refl, (refl, (refl, (refl, (refl, (refl, (refl, (refl, (refl, (refl, (refl, (refl, (refl, (refl, (refl, (refl, (refl, (refl, (refl, (refl, (refl, (refl, (refl, (refl, (refl, (refl, (refl, (refl, (refl, (refl, (refl, (refl, (refl, (refl, (refl, (refl, (refl, (refl, (refl, (refl, (refl, tt)))))))))))))))))))))))))))))))))))))))))))))))))))))))))))))))))))))))))))))))))))))))
+    (refl, (refl, (refl, (refl, (refl, (refl, (refl, (refl, (refl, (refl, (refl, (refl, (refl, (refl, (refl, (refl, (refl, (refl, (refl, (refl, (refl, (refl, (refl, (refl, (refl, (refl, (refl, (refl, (refl, (K-below, (K-not-below, (refl, (refl, (refl, (refl, (refl, (refl, (refl, (refl, (refl, (refl, (refl, (refl, (refl, (refl, (refl, (refl, (refl, (refl, (refl, (refl, (refl, (refl, (refl, (refl, (refl, (refl, (refl, (refl, (refl, (refl, (refl, (refl, (refl, (refl, (refl, (refl, (refl, (refl, (refl, (refl, (refl, (refl, (refl, (refl, (refl, (refl, (refl, (refl, (refl, (refl, (refl, (refl, (refl, (refl, (refl, (refl, (refl, tt))))))))))))))))))))))))))))))))))))))))))))))))))))))))))))))))))))))))))))))))))))))))
 
 -- ---- the table
 

@@ -9,6 +9,7 @@ use lib.ListN.{length}
 use lib.Dec.{eqb, leb}
 use borrow.Author.Tests.{eq-eqb, ne-eqb}
 use Rattle.machine_pws.specs.Machine.{Configuration}
+use Rattle.file_records.specs.declared.program.Format.the-variants.{Plain}
 use Rattle.file_records.specs.declared.program.Shape.{Shape}
 use Rattle.file_records.specs.declared.program.Refusal.{Refusal}
 use Rattle.file_records.specs.declared.program.Checked.{Checked}
@@ -45,6 +46,7 @@ use Rattle.file_records.specs.ProgramPart.{
   withCount,
   rowsFrom,
   restFrom,
+  programWith,
   programFrom,
 }
 use Rattle.file_contents.specs.EvidencePart.{
@@ -158,27 +160,27 @@ with-low : (x : Counted) (y : ℕ → ProgramRead) → LowCounted x → ((n : �
 with-low (Records n) y h k = k n
 with-low (Stopped r) y h k = h
 
-transitions-low : (s : Shape) (states f : List ℕ) (at : ℕ) → LowCounted (transitionsFrom s states f at)
+transitions-low : (s : Shape) (states f : List ℕ) (at : ℕ) → LowCounted (transitionsFrom Plain s states f at)
 unfolding transitionsFrom transitionNumber
-transitions-low s states f at = row-low _ _ _ (λ k n. checked-low (transitionNumber s states f k n) k (first-low _ _ _ _ _)) 256 at 0
+transitions-low s states f at = row-low _ _ _ (λ k n. checked-low (transitionNumber Plain s states f k n) k (first-low _ _ _ _ _)) 256 at 0
 
-targets-low : (alone : Bool) (s : Shape) (states f : List ℕ) (at : ℕ) → LowCounted (targetsFrom alone s states f at)
+targets-low : (alone : Bool) (s : Shape) (states f : List ℕ) (at : ℕ) → LowCounted (targetsFrom Plain alone s states f at)
 unfolding targetsFrom targetNumber
-targets-low alone s states f at = row-low _ _ _ (λ k n. unless-low f k _ (checked-low (targetNumber s states f k n) k (first-low _ _ _ _ _))) 16 at 0
+targets-low alone s states f at = row-low _ _ _ (λ k n. unless-low f k _ (checked-low (targetNumber Plain s states f k n) k (first-low _ _ _ _ _))) 4096 at 0
 
-rows-low : (alone : Bool) (f : List ℕ) (at : ℕ) (s : Shape) (states initial : List ℕ) → LowChecked (rowsFrom alone f at s states initial .answer)
+rows-low : (alone : Bool) (f : List ℕ) (at : ℕ) (s : Shape) (states initial : List ℕ) → LowChecked (rowsFrom Plain alone f at s states initial .answer)
 unfolding rowsFrom
 rows-low alone f at s states initial =
-    with-low (transitionsFrom s states f at) _ (transitions-low s states f at) (λ n.
-    with-low (targetsFrom alone s states f _) _ (targets-low alone s states f _) (λ m. tt))
+    with-low (transitionsFrom Plain s states f at) _ (transitions-low s states f at) (λ n.
+    with-low (targetsFrom Plain alone s states f _) _ (targets-low alone s states f _) (λ m. tt))
 
-rest-low : (alone : Bool) (f : List ℕ) (at : ℕ) (s : Shape) → LowChecked (restFrom alone f at s .answer)
+rest-low : (alone : Bool) (f : List ℕ) (at : ℕ) (s : Shape) → LowChecked (restFrom Plain alone f at s .answer)
 unfolding restFrom
 rest-low alone f at s = or-low (statesFrom f at (s .processes)) _ (states-low f (s .processes) at) (rows-low alone f _ s _ _)
 
 program-low : (alone : Bool) (f : List ℕ) (at : ℕ) → LowChecked (programFrom alone f at .answer)
-unfolding programFrom shapeNumber
-program-low alone f at = or-low (unlessEnd f at (checked (shapeNumber f at) at)) _ (unless-low f at _ (checked-low (shapeNumber f at) at (first-low _ _ _ _ _))) (rest-low alone f _ _)
+unfolding programWith shapeNumber
+program-low alone f at = or-low (unlessEnd f at (checked (shapeNumber Plain f at) at)) _ (unless-low f at _ (checked-low (shapeNumber Plain f at) at (first-low _ _ _ _ _))) (rest-low alone f _ _)
 
 -- ---- the evidence part
 

@@ -166,6 +166,10 @@ abbrev pub targets : ℕ → List ℕ
 targets zero = []
 targets (suc n) = target 1 0 ++ targets n
 
+abbrev pub messages : ℕ → List ℕ
+messages zero = []
+messages (suc n) = message ++ messages n
+
 -- ---- the table
 
 pub data Each (F : Row → Type 0) : List Row → Type 0 where
@@ -226,13 +230,15 @@ cases =
     -- the refusal table's small examples of 2, 1, 5, 3, 4, 7, 6, 9 and 13
     ∷ file (7 ∷ []) (refused 2 0)
     ∷ file (1 ∷ 1 ∷ []) (refused 1 0)
-    ∷ file (small ++ targets 17) (refused 5 90)
+    ∷ file (small ++ target 1 0 ++ claim 0 ++ entry 1 ++ messages 17) (refused 5 138)
     ∷ file (1 ∷ 0 ∷ 1 ∷ 2 ∷ 0 ∷ 0 ∷ 0 ∷ []) (refused 3 0)
     ∷ file (1 ∷ 1 ∷ 1 ∷ 2 ∷ 0 ∷ 0 ∷ 0 ∷ 2 ∷ 2 ∷ 0 ∷ 4 ∷ 2 ∷ 0 ∷ 0 ∷ 0 ∷ []) (refused 4 10)
     ∷ file (small ++ target 1 0 ++ claim 0 ++ (16 ∷ 1 ∷ 0 ∷ 0 ∷ 0 ∷ 0 ∷ 0 ∷ 0 ∷ 0 ∷ []) ++ message) (refused 7 17)
     ∷ file [] (refused 6 0)
     ∷ file (small ++ target 1 0 ++ claim 0) (refused 9 0)
     ∷ file (small ++ target 1 0 ++ fromZeros) (refused 13 0)
+    -- 17 targets are allowed (document 02, N8): the file ends before its claim
+    ∷ file (small ++ targets 17) (refused 6 95)
     -- counts of values (document 02, N5): 5 of a variable that is there, and 0; 1 of one that is not; 3 comes before 4
     ∷ file (1 ∷ 1 ∷ 1 ∷ 5 ∷ 0 ∷ 0 ∷ 0 ∷ []) (refused 3 0)
     ∷ file (1 ∷ 1 ∷ 2 ∷ 4 ∷ 0 ∷ 0 ∷ 0 ∷ []) (refused 3 0)

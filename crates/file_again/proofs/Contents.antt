@@ -13,6 +13,7 @@ use Rattle.machine_pws.specs.declared.Step.the-variants.{Take, Serialise, Updat
 use Rattle.machine_pws.specs.Program as pws
 use Rattle.machine_pws.specs.Machine.{Configuration}
 use Rattle.machine_pws.specs.Entries.{noEntry, entry}
+use Rattle.file_records.specs.declared.program.Format.the-variants.{Plain}
 use Rattle.file_records.specs.declared.program.Refusal.{Refusal}
 use Rattle.file_records.specs.declared.program.Checked.{Checked}
 use Rattle.file_records.specs.declared.program.Checked.the-variants.{Fine, Refused}
@@ -136,7 +137,7 @@ module _ (x : Input) (area : ℕ) where
     more : More (p .shape) (p .states) f (entriesAllowed area) (at + 2) [] [] listed
     more = entries-more (p .shape) (p .states) f (entriesAllowed area) (at + 2) [] [] (L .answer)
 
-    shape : ShapeRange (p .shape)
+    shape : ShapeRange Plain (p .shape)
     shape = part-shape (x .alone) g 0 (L .fine)
 
     standing : (k : ℕ) → k < length (more .entries) → Standing (p .shape) (p .states) f (getD (more .offsets) k 0) (entry (more .entries) k)
@@ -163,7 +164,7 @@ module _ (x : Input) (area : ℕ) where
     fits = omega (arith, listed-count (more .listed) .1)
 
     -- the claim stands near the beginning
-    near : (b : Bool) → cond b 0 (p .claim) ≤ 2147
+    near : (b : Bool) → cond b 0 (p .claim) ≤ 22547
     near true = omega arith
     near false = omega (arith, claim-near (x .alone) g 0 (L .fine))
 

@@ -13,9 +13,11 @@ use Rattle.machine_pws.specs.declared.Transition.{Transition}
 use Rattle.machine_pws.specs.Program as pws
 use Rattle.machine_pws.specs.Configurations.{MessageIn, StatesOf, StartingMemory}
 use Rattle.machine_pws.specs.Entries.{ValueOrFF}
+use Rattle.file_records.specs.declared.program.Format.{Format}
+use Rattle.file_records.specs.declared.program.Format.the-variants.{Plain}
 use Rattle.file_records.specs.declared.program.Shape.{Shape}
 use Rattle.base.specs.Bytes.{byte}
-use Rattle.file_records.specs.Records.{inRange, valueExists, operationNames, operationOf, transitionAt, transitionNames, stateName, stateNames, stateAt, exists, pointerName, pointerNames, pointerAt, valueName, valueNames, messageNames, messageAt, waitingNames, valueCount, checked, startName, startNames, startNumber, memoryAt}
+use Rattle.file_records.specs.Records.{inRange, valueExists, namesOf, operationNames, operationOf, transitionAt, transitionNames, stateName, stateNames, stateAt, exists, pointerName, pointerNames, pointerAt, valueName, valueNames, messageNames, messageAt, waitingNames, valueCount, checked, startName, startNames, startNumber, memoryAt}
 use Rattle.file_records.specs.ProgramPart.{shapeOf}
 use Rattle.file_records.specs.declared.program.Checked.the-variants.{Fine}
 use Rattle.file_records.proofs.RecordLaws.{good}
@@ -44,23 +46,23 @@ both-exist s p v e =
 -- ---- transitions
 
 module _ (s : Shape) (v x y : ℕ) where
-  value-exists : (z : ℕ) → valueExists s v z ≡ true → (v < s .variables) × (z < valueCount s v)
+  pub value-exists : (z : ℕ) → valueExists s v z ≡ true → (v < s .variables) × (z < valueCount s v)
   unfolding valueExists
   value-exists z e = let r = and-true (ltb v (s .variables)) (ltb z (valueCount s v)) e in (ltb-true v (s .variables) (r .0), ltb-true z (valueCount s v) (r .1))
 
   abbrev Named : ℕ → Type 0
-  Named n = operationNames s n v x y ≡ true → pws.OperationOf (shapeOf s) (operationOf n v x y)
+  Named n = operationNames Plain s n v x y ≡ true → pws.OperationOf (shapeOf s) (operationOf n v x y)
 
   named-nop : Named 0
   unfolding operationOf
   named-nop e = tt
 
   named-read : Named 1
-  unfolding operationNames operationOf
+  unfolding namesOf operationNames operationOf
   named-read e = value-exists x (and-true (valueExists s v x) (eqb y 0) e .0)
 
   named-write : Named 2
-  unfolding operationNames operationOf
+  unfolding namesOf operationNames operationOf
   named-write e = value-exists x (and-true (valueExists s v x) (eqb y 0) e .0)
 
   named-mfence : Named 3
@@ -72,7 +74,7 @@ module _ (s : Shape) (v x y : ℕ) where
   named-sfence e = tt
 
   named-arw : Named 5
-  unfolding operationNames operationOf
+  unfolding namesOf operationNames operationOf
   named-arw e =
       let r = and-true (valueExists s v x) (valueExists s v y) e in
       let a = value-exists x (r .0) in
@@ -80,9 +82,7 @@ module _ (s : Shape) (v x y : ℕ) where
 
   named-other : (n : ℕ) → 5 < n → Named n
   unfolding operationNames
-  named-other n l e =
-      let a : false ≡ true = rw (ne-eqb n 0 (λ d. omega arith), ne-eqb n 1 (λ d. omega arith), ne-eqb n 2 (λ d. omega arith), ne-eqb n 3 (λ d. omega arith), ne-eqb n 4 (λ d. omega arith), ne-eqb n 5 (λ d. omega arith)) at e in
-      absurd (no-true a)
+  named-other n l e = absurd (omega (arith, leb-true n 5 (and-true (leb n 5) (namesOf s n v x y) e .0)))
 
   pub operation-named : (n : ℕ) → Named n
   operation-named n = elim (decLt n 4) [
@@ -93,21 +93,38 @@ module _ (s : Shape) (v x y : ℕ) where
     ]
   ]
 
+-- what a transition's record names, in either format
+pub record PartsNamed (k : Format) (s : Shape) (states f : List ℕ) (at : ℕ) : Type 0 where
+  pub process : byte f (at + 1) < s .processes
+  pub from : byte f (at + 2) < getD states (byte f (at + 1)) 0
+  pub to : byte f (at + 7) < getD states (byte f (at + 1)) 0
+  pub operation : operationNames k s (byte f (at + 3)) (byte f (at + 4)) (byte f (at + 5)) (byte f (at + 6)) ≡ true
+
+pub parts-named : (k : Format) (s : Shape) (states f : List ℕ) (at : ℕ) → transitionNames k s states f at ≡ true → PartsNamed k s states f at
+unfolding transitionNames
+parts-named k s states f at e =
+    let a = and-true (ltb (byte f (at + 1)) (s .processes)) _ e in
+    let b = and-true (ltb (byte f (at + 2)) (getD states (byte f (at + 1)) 0)) _ (a .1) in
+    let c = and-true (ltb (byte f (at + 7)) (getD states (byte f (at + 1)) 0)) _ (b .1) in
+    record {
+      process = ltb-true (byte f (at + 1)) (s .processes) (a .0);
+      from = ltb-true (byte f (at + 2)) (getD states (byte f (at + 1)) 0) (b .0);
+      to = ltb-true (byte f (at + 7)) (getD states (byte f (at + 1)) 0) (c .0);
+      operation = c .1;
+    }
+
 module _ (s : Shape) (states : List ℕ) (initial : ℕ → ℕ) (ts : List Transition) (f : List ℕ) (at : ℕ) where
   abbrev P : pws.Program
   P = record { shape = shapeOf s; states = λ q. getD states q 0; initial = initial; transitions = ts }
 
-  pub transition-of : transitionNames s states f at ≡ true → pws.TransitionOf P (transitionAt f at)
-  unfolding transitionNames
+  pub transition-of : transitionNames Plain s states f at ≡ true → pws.TransitionOf P (transitionAt f at)
   transition-of e =
-      let a = and-true (ltb (byte f (at + 1)) (s .processes)) _ e in
-      let b = and-true (ltb (byte f (at + 2)) (getD states (byte f (at + 1)) 0)) _ (a .1) in
-      let c = and-true (ltb (byte f (at + 7)) (getD states (byte f (at + 1)) 0)) _ (b .1) in
+      let n = parts-named Plain s states f at e in
       record {
-        process = ltb-true (byte f (at + 1)) (s .processes) (a .0);
-        from = ltb-true (byte f (at + 2)) (getD states (byte f (at + 1)) 0) (b .0);
-        to = ltb-true (byte f (at + 7)) (getD states (byte f (at + 1)) 0) (c .0);
-        operation = operation-named s (byte f (at + 4)) (byte f (at + 5)) (byte f (at + 6)) (byte f (at + 3)) (c .1);
+        process = n .process;
+        from = n .from;
+        to = n .to;
+        operation = operation-named s (byte f (at + 4)) (byte f (at + 5)) (byte f (at + 6)) (byte f (at + 3)) (n .operation);
       }
 
   -- ---- states

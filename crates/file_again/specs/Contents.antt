@@ -22,7 +22,7 @@ pub record ProgramPartRead (P : Program) (ts : List (ℕ → ℕ)) : Type 0 wher
   pub transitions : length (P .transitions) ≤ 256
   pub targets : (k : ℕ) → k < length ts → StatesOf P (getD ts k (λ p. 0))
   pub someTarget : 1 ≤ length ts
-  pub fewTargets : length ts ≤ 16
+  pub fewTargets : length ts ≤ 4096
 
 -- an entry: a cube of the program with some pointer at 1, no more than 16 messages, and no more than 8 waiting values in a queue
 pub record EntryRange (P : Program) (e : Configuration) : Type 0 where
@@ -58,8 +58,8 @@ pub record ProgramSizes (p : declared.Program) : Type 0 where
   pub variables : (1 ≤ p .shape .variables) × (p .shape .variables ≤ 4)
   pub values : (v : ℕ) → v < p .shape .variables → (1 ≤ valueCount (p .shape) v) × (valueCount (p .shape) v ≤ 4)
   pub transitions : p .transitions .count ≤ 256
-  pub targets : (1 ≤ p .targets .count) × (p .targets .count ≤ 16)
-  pub claim : p .claim ≤ 2147
+  pub targets : (1 ≤ p .targets .count) × (p .targets .count ≤ 4096)
+  pub claim : p .claim ≤ 22547
 
 -- an entry
 pub record CubeRange (c : Cube) : Type 0 where

@@ -9,6 +9,8 @@ use lib.Seq.{take-all}
 use lib.Dec.{eqb, ltb}
 use borrow.Rule.Slice.PartMut.{putMid}
 use borrow.Author.Tests.{eq-eqb, ne-eqb, lt-ltb, le-ltb}
+use Rattle.file_records.specs.declared.program.Format.{Format}
+use Rattle.file_records.specs.declared.program.Format.the-variants.{Plain}
 use Rattle.file_records.specs.declared.program.Shape.{Shape}
 use Rattle.file_records.specs.declared.program.Refusal.{Refusal}
 use Rattle.file_records.specs.declared.program.Checked.{Checked}
@@ -19,7 +21,7 @@ use Rattle.file_records.specs.declared.program.Program.{Program}
 use Rattle.file_records.specs.declared.program.ProgramRead.{ProgramRead}
 use Rattle.base.specs.Bytes.{byte, cut}
 use Rattle.file_records.specs.Records.{checked, claimNumber, startNumber, memoryAt, isKind, shapeAt, shapeNumber}
-use Rattle.file_records.specs.ProgramPart.{unlessEnd, statesFrom, ofProcesses, transitionsFrom, targetsFrom, orRefused, withCount, rowsFrom, restFrom, programFrom}
+use Rattle.file_records.specs.ProgramPart.{unlessEnd, statesFrom, ofProcesses, transitionsFrom, targetsFrom, orRefused, withCount, rowsFrom, restFrom, programWith, programFrom}
 use Rattle.file_contents.specs.EvidencePart.{stepsFrom, EntriesRead, entriesFrom, entriesAllowed}
 use Rattle.file_contents.specs.Reading.{Input, evidenceAt, Evidence, refusal, entries, steps, claimThen, evidenceArea, runEvidence, evidenceFrom, Parts, noParts, twoParts, partsOf}
 use Rattle.file_records.proofs.RecordLaws.{fine-refused, good, unless-fine}
@@ -83,14 +85,14 @@ run-area f p w claim at = go (unlessEnd f at (checked (startNumber (p .shape) f 
 
 -- ---- the program part, when nothing of it is refused
 
-pub record ProgramFine (alone : Bool) (f : List ℕ) (at : ℕ) : Type 0 where
+pub record ProgramFine (k : Format) (alone : Bool) (f : List ℕ) (at : ℕ) : Type 0 where
   pub transitions : ℕ
   pub targets : ℕ
-  pub shape : unlessEnd f at (checked (shapeNumber f at) at) ≡ Fine
+  pub shape : unlessEnd f at (checked (shapeNumber k f at) at) ≡ Fine
   pub states : statesFrom f (at + 7) (shapeAt f at .processes) ≡ Fine
-  pub rows : transitionsFrom (shapeAt f at) (ofProcesses f (at + 7) 1 (shapeAt f at .processes)) f (at + 7 + 3 * shapeAt f at .processes) ≡ Records transitions
-  pub aims : targetsFrom alone (shapeAt f at) (ofProcesses f (at + 7) 1 (shapeAt f at .processes)) f (at + 7 + 3 * shapeAt f at .processes + 8 * transitions) ≡ Records targets
-  pub same : programFrom alone f at .program
+  pub rows : transitionsFrom k (shapeAt f at) (ofProcesses f (at + 7) 1 (shapeAt f at .processes)) f (at + 7 + 3 * shapeAt f at .processes) ≡ Records transitions
+  pub aims : targetsFrom k alone (shapeAt f at) (ofProcesses f (at + 7) 1 (shapeAt f at .processes)) f (at + 7 + 3 * shapeAt f at .processes + 8 * transitions) ≡ Records targets
+  pub same : programWith k alone f at .program
       ≡ record {
         shape = shapeAt f at;
         states = ofProcesses f (at + 7) 1 (shapeAt f at .processes);
@@ -100,7 +102,7 @@ pub record ProgramFine (alone : Bool) (f : List ℕ) (at : ℕ) : Type 0 where
         claim = at + 7 + 3 * shapeAt f at .processes + 8 * transitions + 5 * targets;
       }
 
-module _ (alone : Bool) (f : List ℕ) (at : ℕ) (q : programFrom alone f at .answer ≡ Fine) where
+module _ (k : Format) (alone : Bool) (f : List ℕ) (at : ℕ) (q : programWith k alone f at .answer ≡ Fine) where
   abbrev s : Shape
   s = shapeAt f at
 
@@ -110,29 +112,29 @@ module _ (alone : Bool) (f : List ℕ) (at : ℕ) (q : programFrom alone f at .a
   abbrev first : ℕ
   first = at + 7 + 3 * s .processes
 
-  by-targets : (n : ℕ) (m : Counted) → unlessEnd f at (checked (shapeNumber f at) at) ≡ Fine → statesFrom f (at + 7) (s .processes) ≡ Fine
-      → transitionsFrom s states f first ≡ Records n → targetsFrom alone s states f (first + 8 * n) ≡ m → ProgramFine alone f at
-  unfolding programFrom restFrom rowsFrom
+  by-targets : (n : ℕ) (m : Counted) → unlessEnd f at (checked (shapeNumber k f at) at) ≡ Fine → statesFrom f (at + 7) (s .processes) ≡ Fine
+      → transitionsFrom k s states f first ≡ Records n → targetsFrom k alone s states f (first + 8 * n) ≡ m → ProgramFine k alone f at
+  unfolding programWith restFrom rowsFrom
   by-targets n (Stopped r) a b c d = absurd (fine-refused {r = r} (sym q ∙ rw (a, b, c, d)))
   by-targets n (Records m) a b c d = record { transitions = n; targets = m; shape = a; states = b; rows = c; aims = d; same = rw (a, b, c, d) }
 
-  by-parts : (x y : Checked) (n : Counted) → unlessEnd f at (checked (shapeNumber f at) at) ≡ x → statesFrom f (at + 7) (s .processes) ≡ y
-      → transitionsFrom s states f first ≡ n → ProgramFine alone f at
-  unfolding programFrom restFrom rowsFrom
+  by-parts : (x y : Checked) (n : Counted) → unlessEnd f at (checked (shapeNumber k f at) at) ≡ x → statesFrom f (at + 7) (s .processes) ≡ y
+      → transitionsFrom k s states f first ≡ n → ProgramFine k alone f at
+  unfolding programWith restFrom rowsFrom
   by-parts (Refused r) y n a b c = absurd (fine-refused {r = r} (sym q ∙ rw a))
   by-parts Fine (Refused r) n a b c = absurd (fine-refused {r = r} (sym q ∙ rw (a, b)))
   by-parts Fine Fine (Stopped r) a b c = absurd (fine-refused {r = r} (sym q ∙ rw (a, b, c)))
-  by-parts Fine Fine (Records n) a b c = by-targets n (targetsFrom alone s states f (first + 8 * n)) a b c refl
+  by-parts Fine Fine (Records n) a b c = by-targets n (targetsFrom k alone s states f (first + 8 * n)) a b c refl
 
-  pub program-fine : ProgramFine alone f at
+  pub program-fine : ProgramFine k alone f at
   program-fine = by-parts _ _ _ refl refl refl
 
 -- the shape is one that document 01 allows
 pub shape-range : (alone : Bool) (f : List ℕ) (at : ℕ) → programFrom alone f at .answer ≡ Fine
     → (programFrom alone f at .program .shape .processes ≤ 4) × (programFrom alone f at .program .shape .variables ≤ 4)
 shape-range alone f at q =
-    let P = program-fine alone f at q in
-    let w = shape-fine f at (P .shape) in
+    let P = program-fine Plain alone f at q in
+    let w = shape-fine Plain f at (P .shape) in
     rw (P .same) (w .1, w .2)
 
 -- ---- the whole

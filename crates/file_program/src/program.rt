@@ -5,7 +5,7 @@ ghost use Prim.Native.Nat.{_+_, _≤_};
 ghost use mathlib.Core.Bool.{cond};
 ghost use lib.ListN.{length, getD};
 ghost use Rattle.file_records.specs.Records.{shapeAt};
-ghost use Rattle.file_records.specs.ProgramPart.{statesFrom, ofProcesses, transitionsFrom, atEnd, targetsFrom, programRefused, rowsFrom, restFrom, programFrom};
+ghost use Rattle.file_records.specs.ProgramPart.{statesFrom, ofProcesses, transitionsFrom, atEnd, targetsFrom, programRefused, rowsFrom, restFrom, programWith, programFrom};
 use crate::record::check_shape;
 use crate::record::check_states;
 use crate::record::check_target;
@@ -15,6 +15,7 @@ use base::bytes::field;
 use base::bytes::wide;
 use file_records::program::Checked;
 use file_records::program::Counted;
+use file_records::program::Format;
 use file_records::program::Program;
 use file_records::program::ProgramRead;
 use file_records::program::Refusal;
@@ -22,6 +23,7 @@ use file_records::program::Row;
 use file_records::program::Shape;
 use file_records::program::refusal_of;
 use file_records::program::stop_of;
+use file_records::program::transition_kind;
 use file_records::program::unless_end;
 use file_records::record::is_kind;
 
@@ -40,14 +42,21 @@ fn states_from(file: &[u8], at: usize, n: usize) -> Checked
     Checked::Fine
 }
 
-// The 03s that stand here in a row.
-fn transitions_from(file: &[u8], at: usize, shape: Shape, states: [u8; 4]) -> Counted
-    ensures { λ r. ⌜ r ≡ transitionsFrom shape states (now (file .entry)) at ⌝ }
+// The 03s or 05s that stand here in a row.
+fn transitions_from(
+    format: Format,
+    file: &[u8],
+    at: usize,
+    shape: Shape,
+    states: [u8; 4],
+) -> Counted
+    ensures { λ r. ⌜ r ≡ transitionsFrom format shape states (now (file .entry)) at ⌝ }
 {
+    let kind = transition_kind(format);
     let mut k = at;
     let mut n = 0;
-    while is_kind(file, k, 3) {
-        let answer = check_transition(file, k, shape, states, n);
+    while is_kind(file, k, kind) {
+        let answer = check_transition(format, file, k, shape, states, n);
         let Checked::Fine = answer else {
             return Counted::Stopped(refusal_of(answer));
         };
@@ -67,13 +76,20 @@ fn at_end(alone: bool, file: &[u8], at: usize, n: usize) -> bool
 }
 
 // The 04s, up to where the part ends.
-fn targets_from(alone: bool, file: &[u8], at: usize, shape: Shape, states: [u8; 4]) -> Counted
-    ensures { λ r. ⌜ r ≡ targetsFrom alone shape states (now (file .entry)) at ⌝ }
+fn targets_from(
+    format: Format,
+    alone: bool,
+    file: &[u8],
+    at: usize,
+    shape: Shape,
+    states: [u8; 4],
+) -> Counted
+    ensures { λ r. ⌜ r ≡ targetsFrom format alone shape states (now (file .entry)) at ⌝ }
 {
     let mut k = at;
     let mut n = 0;
     while !at_end(alone, file, k, n) {
-        let answer = unless_end(file, k, check_target(file, k, shape, states, n));
+        let answer = unless_end(file, k, check_target(format, file, k, shape, states, n));
         let Checked::Fine = answer else {
             return Counted::Stopped(refusal_of(answer));
         };
@@ -153,8 +169,9 @@ fn initial_of(file: &[u8], at: usize, n: usize) -> [u8; 4]
     [a, b, c, d]
 }
 
-// The 03s and 04s.
+// The transitions and the 04s.
 fn read_rows(
+    format: Format,
     alone: bool,
     file: &[u8],
     at: usize,
@@ -163,14 +180,14 @@ fn read_rows(
     initial: [u8; 4],
 ) -> ProgramRead
     requires { ⌜ at ≤ length (now file) + 12 ⌝ }
-    ensures { λ r. ⌜ r ≡ rowsFrom alone (now (file .entry)) at shape states initial ⌝ }
+    ensures { λ r. ⌜ r ≡ rowsFrom format alone (now (file .entry)) at shape states initial ⌝ }
 {
-    let transitions = transitions_from(file, at, shape, states);
+    let transitions = transitions_from(format, file, at, shape, states);
     let Counted::Records(n) = transitions else {
         return program_refused(stop_of(transitions));
     };
     let next = at + 8 * n;
-    let targets = targets_from(alone, file, next, shape, states);
+    let targets = targets_from(format, alone, file, next, shape, states);
     let Counted::Records(m) = targets else {
         return program_refused(stop_of(targets));
     };
@@ -188,9 +205,9 @@ fn read_rows(
 }
 
 // And the 02s before them.
-fn read_rest(alone: bool, file: &[u8], at: usize, shape: Shape) -> ProgramRead
+fn read_rest(format: Format, alone: bool, file: &[u8], at: usize, shape: Shape) -> ProgramRead
     requires { ⌜ (at ≤ length (now file)) × (shape .processes ≤ 4) ⌝ }
-    ensures { λ r. ⌜ r ≡ restFrom alone (now (file .entry)) at shape ⌝ }
+    ensures { λ r. ⌜ r ≡ restFrom format alone (now (file .entry)) at shape ⌝ }
 {
     let n = shape.processes;
     let all = states_from(file, at, n);
@@ -199,17 +216,24 @@ fn read_rest(alone: bool, file: &[u8], at: usize, shape: Shape) -> ProgramRead
     };
     let states = states_of(file, at, n);
     let initial = initial_of(file, at, n);
-    read_rows(alone, file, at + 3 * n, shape, states, initial)
+    read_rows(format, alone, file, at + 3 * n, shape, states, initial)
 }
 
 // The program part, from a place in the file on.
-pub fn read_program(alone: bool, file: &[u8], at: usize) -> ProgramRead
-    ensures { λ r. ⌜ r ≡ programFrom alone (now (file .entry)) at ⌝ }
+pub fn read_with(format: Format, alone: bool, file: &[u8], at: usize) -> ProgramRead
+    ensures { λ r. ⌜ r ≡ programWith format alone (now (file .entry)) at ⌝ }
 {
-    let opening = unless_end(file, at, check_shape(file, at));
+    let opening = unless_end(file, at, check_shape(format, file, at));
     let Checked::Fine = opening else {
         return program_refused(refusal_of(opening));
     };
     let shape = shape_at(file, at);
-    read_rest(alone, file, at + 7, shape)
+    read_rest(format, alone, file, at + 7, shape)
+}
+
+// The same, as the judge reads it.
+pub fn read_program(alone: bool, file: &[u8], at: usize) -> ProgramRead
+    ensures { λ r. ⌜ r ≡ programFrom alone (now (file .entry)) at ⌝ }
+{
+    read_with(Format::Plain, alone, file, at)
 }

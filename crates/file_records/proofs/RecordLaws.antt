@@ -8,6 +8,7 @@ use native.Mathlib.Omega.{arith}
 use lib.ListN.{length}
 use lib.Dec.{T, eqb, leb, ltb}
 use borrow.Author.Tests.{eqb-true, leb-true, leb-false, le-leb, lt-leb}
+use Rattle.file_records.specs.declared.program.Format.{Format}
 use Rattle.file_records.specs.declared.program.Refusal.{Refusal}
 use Rattle.file_records.specs.declared.program.Checked.{Checked}
 use Rattle.file_records.specs.declared.program.Checked.the-variants.{Fine, Refused}
@@ -15,6 +16,7 @@ use Rattle.file_records.specs.declared.program.Counted.{Counted}
 use Rattle.file_records.specs.declared.program.Counted.the-variants.{Records, Stopped}
 use Rattle.base.specs.Bytes.{choose, byte, cut}
 use Rattle.file_records.specs.declared.program.Shape.{Shape}
+use Rattle.file_records.specs.Format.{transitionKind, mostTargets}
 use Rattle.file_records.specs.Records.{firstNumber, checked, isKind, inRange, statesNumber, transitionNumber, transitionNames, targetNumber, stateNames, isStep, stepBody, stepNames, stepNumber, entryNumber, pointerNames}
 use Rattle.file_records.specs.ProgramPart.{unlessEnd, countThen, statesFrom, rowFrom}
 
@@ -132,12 +134,14 @@ module _ (f : List ℕ) (at : ℕ) where
   unfolding statesFrom
   states-stop n p r l e = let a : n - p ≡ suc (n - (p + 1)) = omega arith in rw (a, e)
 
-  module _ (s : Shape) (states : List ℕ) (n : ℕ) where
-    pub transition-fine : checked (transitionNumber s states f at n) at ≡ Fine → Good (not (isKind f at 3)) (cut f at 7) (leb 256 n) false (not (transitionNames s states f at))
+  module _ (k : Format) (s : Shape) (states : List ℕ) (n : ℕ) where
+    pub transition-fine : checked (transitionNumber k s states f at n) at ≡ Fine
+        → Good (not (isKind f at (transitionKind k))) (cut f at 7) (leb 256 n) false (not (transitionNames k s states f at))
     unfolding transitionNumber
     transition-fine e = good at e
 
-    pub target-fine : checked (targetNumber s states f at n) at ≡ Fine → Good (not (isKind f at 4)) (cut f at 4) (leb 16 n) false (not (stateNames s states f at))
+    pub target-fine : checked (targetNumber k s states f at n) at ≡ Fine
+        → Good (not (isKind f at 4)) (cut f at 4) (leb (mostTargets k) n) false (not (stateNames s states f at))
     unfolding targetNumber
     target-fine e = good at e
 

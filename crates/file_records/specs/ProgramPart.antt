@@ -1,4 +1,5 @@
--- The program part of a file, from a place in it on: one 01; an 02 for each process; 0 to 256 of 03; 1 to 16 of 04 (document 01, "Records").
+-- The program part of a file, from a place in it on: one 01; an 02 for each process; 0 to 256 of 03; 1 to 4,096 of 04 (document 01, "Records"; document 02,
+-- N8, for the number of 04s, and for a program with registers, which has 05s in place of the 03s and up to 16 of 04).
 -- In a combined file it ends at the claim, and a file that ends before that is 6. In a program file (document 02, N6) it ends with the file, which is 6 if it
 -- ends before its first 04; an 0F there is 2, as every other kind but 04 is. `alone` says that the file is a program file.
 use Prim.Native.Nat.{ℕ, zero, suc, _+_, _*_}
@@ -7,6 +8,8 @@ use mathlib.Core.List.{List, [], _∷_}
 use lib.ListN.{length, getD}
 use lib.Dec.{eqb, leb, ltb}
 use Rattle.machine_pws.specs.Program as pws
+use Rattle.file_records.specs.declared.program.Format.{Format}
+use Rattle.file_records.specs.declared.program.Format.the-variants.{Plain}
 use Rattle.file_records.specs.declared.program.Shape.{Shape}
 use Rattle.file_records.specs.declared.program.Refusal.{Refusal}
 use Rattle.file_records.specs.declared.program.Checked.{Checked}
@@ -16,6 +19,7 @@ use Rattle.file_records.specs.declared.program.Counted.the-variants.{Rec
 use Rattle.file_records.specs.declared.program.Program.{Program}
 use Rattle.file_records.specs.declared.program.ProgramRead.{ProgramRead}
 use Rattle.base.specs.Bytes.{choose, byte}
+use Rattle.file_records.specs.Format.{transitionKind, mostTargets}
 use Rattle.file_records.specs.Records.{checked, isKind, shapeAt, shapeNumber, valueCount, statesNumber, transitionNumber, transitionAt, targetNumber, stateAt}
 
 -- ---- one record after another
@@ -64,17 +68,19 @@ rowFrom ends check size zero at n = choose (ends at n) (λ _. Records n) (λ _. 
 rowFrom ends check size (suc left) at n =
     choose (ends at n) (λ _. Records n) (λ _. countThen (check at n) (λ _. rowFrom ends check size left (at + size at) (suc n)))
 
--- the 03s: all that stand here
-unfoldable pub transitionsFrom : Shape → List ℕ → List ℕ → ℕ → Counted
-transitionsFrom s states f at = rowFrom (λ k n. not (isKind f k 3)) (λ k n. checked (transitionNumber s states f k n) k) (λ k. 8) 256 at 0
+-- the 03s or 05s: all that stand here
+unfoldable pub transitionsFrom : Format → Shape → List ℕ → List ℕ → ℕ → Counted
+transitionsFrom k s states f at =
+    rowFrom (λ i n. not (isKind f i (transitionKind k))) (λ i n. checked (transitionNumber k s states f i n) i) (λ i. 8) 256 at 0
 
 -- the part ends here, after at least one target: with the file, or at the claim
 unfoldable pub atEnd : Bool → List ℕ → ℕ → ℕ → Bool
 atEnd alone f at n = cond alone (leb (length f) at) (isKind f at 15) && leb 1 n
 
 -- the 04s, up to where the part ends
-unfoldable pub targetsFrom : Bool → Shape → List ℕ → List ℕ → ℕ → Counted
-targetsFrom alone s states f at = rowFrom (atEnd alone f) (λ k n. unlessEnd f k (checked (targetNumber s states f k n) k)) (λ k. 5) 16 at 0
+unfoldable pub targetsFrom : Format → Bool → Shape → List ℕ → List ℕ → ℕ → Counted
+targetsFrom k alone s states f at =
+    rowFrom (atEnd alone f) (λ i n. unlessEnd f i (checked (targetNumber k s states f i n) i)) (λ i. 5) (mostTargets k) at 0
 
 -- ---- the whole part: where everything stands, or the first refusal
 
@@ -100,11 +106,11 @@ abbrev pub withCount : Counted → (ℕ → ProgramRead) → ProgramRead
 withCount (Records n) x = x n
 withCount (Stopped r) x = programRefused r
 
--- the 03s and 04s
-unfoldable pub rowsFrom : Bool → List ℕ → ℕ → Shape → List ℕ → List ℕ → ProgramRead
-rowsFrom alone f at s states initial =
-    withCount (transitionsFrom s states f at) (λ n.
-    withCount (targetsFrom alone s states f (at + 8 * n)) (λ m.
+-- the transitions and the 04s
+unfoldable pub rowsFrom : Format → Bool → List ℕ → ℕ → Shape → List ℕ → List ℕ → ProgramRead
+rowsFrom k alone f at s states initial =
+    withCount (transitionsFrom k s states f at) (λ n.
+    withCount (targetsFrom k alone s states f (at + 8 * n)) (λ m.
     record {
       answer = Fine;
       program =
@@ -119,14 +125,18 @@ rowsFrom alone f at s states initial =
     }))
 
 -- and the 02s before them
-unfoldable pub restFrom : Bool → List ℕ → ℕ → Shape → ProgramRead
-restFrom alone f at s =
+unfoldable pub restFrom : Format → Bool → List ℕ → ℕ → Shape → ProgramRead
+restFrom k alone f at s =
     orRefused (statesFrom f at (s .processes)) (λ _.
-    rowsFrom alone f (at + 3 * s .processes) s (ofProcesses f at 1 (s .processes)) (ofProcesses f at 2 (s .processes)))
+    rowsFrom k alone f (at + 3 * s .processes) s (ofProcesses f at 1 (s .processes)) (ofProcesses f at 2 (s .processes)))
 
 -- and the 01 before these
-unfoldable pub programFrom : Bool → List ℕ → ℕ → ProgramRead
-programFrom alone f at = orRefused (unlessEnd f at (checked (shapeNumber f at) at)) (λ _. restFrom alone f (at + 7) (shapeAt f at))
+unfoldable pub programWith : Format → Bool → List ℕ → ℕ → ProgramRead
+programWith k alone f at = orRefused (unlessEnd f at (checked (shapeNumber k f at) at)) (λ _. restFrom k alone f (at + 7) (shapeAt f at))
+
+-- as the judge reads it
+abbrev pub programFrom : Bool → List ℕ → ℕ → ProgramRead
+programFrom alone f at = programWith Plain alone f at
 
 -- ---- what stands there
 

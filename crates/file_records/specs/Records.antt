@@ -12,11 +12,13 @@ use Rattle.machine_pws.specs.declared.Transition.{Transition}
 use Rattle.machine_pws.specs.declared.Step.{Step}
 use Rattle.machine_pws.specs.declared.Step.the-variants.{Take, Serialise, Update}
 use Rattle.machine_pws.specs.Machine.{allBelow}
+use Rattle.file_records.specs.declared.program.Format.{Format}
 use Rattle.file_records.specs.declared.program.Shape.{Shape}
 use Rattle.file_records.specs.declared.program.Refusal.{Refusal}
 use Rattle.file_records.specs.declared.program.Checked.{Checked}
 use Rattle.file_records.specs.declared.program.Checked.the-variants.{Fine, Refused}
 use Rattle.base.specs.Bytes.{byte, cut}
+use Rattle.file_records.specs.Format.{transitionKind, lastOperation, leastValues, mostTargets}
 
 -- within one record 2, 1, 5, 3, 4; 0 where nothing is refused
 unfoldable pub firstNumber : Bool → Bool → Bool → Bool → Bool → ℕ
@@ -46,12 +48,12 @@ shapeAt f at =
 abbrev pub valueCount : Shape → ℕ → ℕ
 valueCount s v = getD (s .values) v 0
 
--- a variable that the shape has has 1 to 4 values
-unfoldable pub countInRange : Shape → ℕ → Bool
-countInRange s v = cond (ltb v (s .variables)) (inRange (valueCount s v) 4) true
+-- a variable that the shape has has 1 to 4 values, and 4 in a program with registers
+unfoldable pub countInRange : Format → Shape → ℕ → Bool
+countInRange k s v = cond (ltb v (s .variables)) (leb (leastValues k) (valueCount s v) && leb (valueCount s v) 4) true
 
-unfoldable pub countsInRange : Shape → Bool
-countsInRange s = countInRange s 0 && (countInRange s 1 && (countInRange s 2 && countInRange s 3))
+unfoldable pub countsInRange : Format → Shape → Bool
+countsInRange k s = countInRange k s 0 && (countInRange k s 1 && (countInRange k s 2 && countInRange k s 3))
 
 -- and one that it does not have has the count 0
 unfoldable pub countIfAbsent : Shape → ℕ → Bool
@@ -60,17 +62,17 @@ countIfAbsent s v = cond (ltb v (s .variables)) true (eqb (valueCount s v) 0)
 unfoldable pub countsIfAbsent : Shape → Bool
 countsIfAbsent s = countIfAbsent s 0 && (countIfAbsent s 1 && (countIfAbsent s 2 && countIfAbsent s 3))
 
-unfoldable pub shapeNumber : List ℕ → ℕ → ℕ
-shapeNumber f at =
+unfoldable pub shapeNumber : Format → List ℕ → ℕ → ℕ
+shapeNumber k f at =
     firstNumber (not (isKind f at 1)) (cut f at 6) false
-    (not (inRange (byte f (at + 1)) 4 && (inRange (byte f (at + 2)) 4 && countsInRange (shapeAt f at)))) (not (countsIfAbsent (shapeAt f at)))
+    (not (inRange (byte f (at + 1)) 4 && (inRange (byte f (at + 2)) 4 && countsInRange k (shapeAt f at)))) (not (countsIfAbsent (shapeAt f at)))
 
 -- ---- 02: number of states 1 to 32, initial state
 
 unfoldable pub statesNumber : List ℕ → ℕ → ℕ
 statesNumber f at = firstNumber (not (isKind f at 2)) (cut f at 2) false (not (inRange (byte f (at + 1)) 32)) (not (ltb (byte f (at + 2)) (byte f (at + 1))))
 
--- ---- 03: process, from, operation, variable, value, new value, to; at most 256
+-- ---- 03, and 05 in a program with registers: process, from, operation, variable, value, new value, to; at most 256
 
 unfoldable pub valueExists : Shape → ℕ → ℕ → Bool
 valueExists s v x = ltb v (s .variables) && ltb x (valueCount s v)
@@ -78,15 +80,22 @@ valueExists s v x = ltb v (s .variables) && ltb x (valueCount s v)
 unfoldable pub allZero : ℕ → ℕ → ℕ → Bool
 allZero a b c = eqb a 0 && (eqb b 0 && eqb c 0)
 
--- operations 0 to 5 are nop, read, write, mfence, sfence, arw; what the operation lacks is 0
-unfoldable pub operationNames : Shape → ℕ → ℕ → ℕ → ℕ → Bool
-operationNames s operation v x y =
+-- Operations 0 to 5 are nop, read, write, mfence, sfence, arw; 6 reads a variable into the register, 7 writes the register to a variable, 8 goes on if the
+-- register, of 0 to 3, equals the value. What the operation lacks is 0.
+unfoldable pub namesOf : Shape → ℕ → ℕ → ℕ → ℕ → Bool
+namesOf s operation v x y =
     cond (eqb operation 0) (allZero v x y)
     (cond (eqb operation 1) (valueExists s v x && eqb y 0)
     (cond (eqb operation 2) (valueExists s v x && eqb y 0)
     (cond (eqb operation 3) (allZero v x y)
     (cond (eqb operation 4) (allZero v x y)
-    (cond (eqb operation 5) (valueExists s v x && valueExists s v y) false)))))
+    (cond (eqb operation 5) (valueExists s v x && valueExists s v y)
+    (cond (eqb operation 6) (ltb v (s .variables) && (eqb x 0 && eqb y 0))
+    (cond (eqb operation 7) (ltb v (s .variables) && (eqb x 0 && eqb y 0))
+    (cond (eqb operation 8) (eqb v 0 && (ltb x 4 && eqb y 0)) false))))))))
+
+unfoldable pub operationNames : Format → Shape → ℕ → ℕ → ℕ → ℕ → Bool
+operationNames k s operation v x y = leb operation (lastOperation k) && namesOf s operation v x y
 
 unfoldable pub operationOf : ℕ → ℕ → ℕ → ℕ → Operation
 operationOf operation v x y =
@@ -106,18 +115,18 @@ transitionAt f at =
     }
 
 -- `states` has the number of states of each process
-unfoldable pub transitionNames : Shape → List ℕ → List ℕ → ℕ → Bool
-transitionNames s states f at =
+unfoldable pub transitionNames : Format → Shape → List ℕ → List ℕ → ℕ → Bool
+transitionNames k s states f at =
     ltb (byte f (at + 1)) (s .processes)
     && (ltb (byte f (at + 2)) (getD states (byte f (at + 1)) 0)
     && (ltb (byte f (at + 7)) (getD states (byte f (at + 1)) 0)
-    && operationNames s (byte f (at + 3)) (byte f (at + 4)) (byte f (at + 5)) (byte f (at + 6))))
+    && operationNames k s (byte f (at + 3)) (byte f (at + 4)) (byte f (at + 5)) (byte f (at + 6))))
 
 -- n of them stand before it
-unfoldable pub transitionNumber : Shape → List ℕ → List ℕ → ℕ → ℕ → ℕ
-transitionNumber s states f at n = firstNumber (not (isKind f at 3)) (cut f at 7) (leb 256 n) false (not (transitionNames s states f at))
+unfoldable pub transitionNumber : Format → Shape → List ℕ → List ℕ → ℕ → ℕ → ℕ
+transitionNumber k s states f at n = firstNumber (not (isKind f at (transitionKind k))) (cut f at 7) (leb 256 n) false (not (transitionNames k s states f at))
 
--- ---- 04: one state per process; at most 16
+-- ---- 04: one state per process; at most 4,096, and 16 in a program with registers
 
 -- the byte of process p names a state, and is 0 for a process that the shape does not have
 unfoldable pub stateName : Shape → List ℕ → ℕ → ℕ → Bool
@@ -129,8 +138,8 @@ stateNames s states f at =
     stateName s states 0 (byte f (at + 1))
     && (stateName s states 1 (byte f (at + 2)) && (stateName s states 2 (byte f (at + 3)) && stateName s states 3 (byte f (at + 4))))
 
-unfoldable pub targetNumber : Shape → List ℕ → List ℕ → ℕ → ℕ → ℕ
-targetNumber s states f at n = firstNumber (not (isKind f at 4)) (cut f at 4) (leb 16 n) false (not (stateNames s states f at))
+unfoldable pub targetNumber : Format → Shape → List ℕ → List ℕ → ℕ → ℕ → ℕ
+targetNumber k s states f at n = firstNumber (not (isKind f at 4)) (cut f at 4) (leb (mostTargets k) n) false (not (stateNames s states f at))
 
 -- the state of process p in the record at `at`, and 0 for processes past the fourth
 abbrev pub stateAt : List ℕ → ℕ → ℕ → ℕ

@@ -1,8 +1,15 @@
 // What the program part of a file holds, and what is said of its records (document 01, "Records").
 ghost use mathlib.Core.Path.{_≡_};
 ghost use lib.ListN.{getD};
+ghost use Rattle.file_records.specs.Format.{transitionKind, lastOperation, leastValues, mostTargets};
 ghost use Rattle.file_records.specs.Records.{valueCount};
 ghost use Rattle.file_records.specs.ProgramPart.{refusalOf, stopOf, unlessEnd};
+
+// What a program is written as: the judge's own 03s, or the 05s of a program with registers (document 02, N8).
+pub enum Format {
+    Plain,
+    Registers,
+}
 
 // Why a file is refused: document 01's number, and the place.
 pub struct Refusal {
@@ -49,6 +56,48 @@ pub struct ProgramRead {
     pub answer: Checked,
     pub program: Program,
 }
+
+// ---- what the format fixes
+
+// The kind of a transition's record.
+pub fn transition_kind(format: Format) -> u8
+    ensures { λ r. ⌜ r ≡ transitionKind format ⌝ }
+{
+    match format {
+        Format::Plain => 3,
+        Format::Registers => 5,
+    }
+}
+
+pub fn last_operation(format: Format) -> u8
+    ensures { λ r. ⌜ r ≡ lastOperation format ⌝ }
+{
+    match format {
+        Format::Plain => 5,
+        Format::Registers => 8,
+    }
+}
+
+// The least number of values of a variable.
+pub fn least_values(format: Format) -> u8
+    ensures { λ r. ⌜ r ≡ leastValues format ⌝ }
+{
+    match format {
+        Format::Plain => 1,
+        Format::Registers => 4,
+    }
+}
+
+pub fn most_targets(format: Format) -> usize
+    ensures { λ r. ⌜ r ≡ mostTargets format ⌝ }
+{
+    match format {
+        Format::Plain => 4096,
+        Format::Registers => 16,
+    }
+}
+
+// ---- what a record holds
 
 pub fn value_count(shape: Shape, variable: usize) -> u8
     ensures { λ r. ⌜ r ≡ valueCount shape variable ⌝ }

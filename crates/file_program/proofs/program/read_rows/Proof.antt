@@ -1,4 +1,4 @@
-use Rattle.file_records.proofs.ProgramLaws.{transitions-most, targets-most}
+use Rattle.file_records.proofs.ProgramLaws.{few-targets, transitions-most, targets-most}
 use Prim.Native.Nat.{_+_, _*_}
 use Rattle.file_records.specs.ProgramPart.{stopOf, transitionsFrom, targetsFrom, programRefused, rowsFrom}
 use Rattle.file_records.specs.declared.program.Counted.the-variants.{Records, Stopped}
@@ -23,11 +23,11 @@ read-rows-spec = tie.close (tie.spec
     -- program-refused-requires 423:9
     (λ c κs. search needs)
     -- returns 423:9
-    (λ c. let a = c .before .before .before .before .before .before .args in let e : transitionsFrom (a .shape) (a .states) (a .file .now) (a .at) ≡ Stopped (c .before .before .enum-told .given .0 .0) = sym (c .before .before .before .before .transitions-from .ensures) ∙ c .before .before .enum-told .given .1 in rw e (c .program-refused .ensures ∙ ap programRefused (c .before .stop-of .ensures ∙ ap stopOf (c .before .before .enum-told .given .1))))
+    (λ c. let a = c .before .before .before .before .before .before .args in let e : transitionsFrom (a .format) (a .shape) (a .states) (a .file .now) (a .at) ≡ Stopped (c .before .before .enum-told .given .0 .0) = sym (c .before .before .before .before .transitions-from .ensures) ∙ c .before .before .enum-told .given .1 in rw e (c .program-refused .ensures ∙ ap programRefused (c .before .stop-of .ensures ∙ ap stopOf (c .before .before .enum-told .given .1))))
     -- mul-next 425:21
-    (λ c. let a = c .before .before .before .before .before .args in let n = c .before .transitions .given .0 .0 in let e : transitionsFrom (a .shape) (a .states) (a .file .now) (a .at) ≡ Records n = sym (c .before .before .before .transitions-from .ensures) ∙ c .before .transitions .given .1 in omega (arith, transitions-most (a .shape) (a .states) (a .file .now) (a .at) n e))
+    (λ c. let a = c .before .before .before .before .before .args in let n = c .before .transitions .given .0 .0 in let e : transitionsFrom (a .format) (a .shape) (a .states) (a .file .now) (a .at) ≡ Records n = sym (c .before .before .before .transitions-from .ensures) ∙ c .before .transitions .given .1 in omega (arith, transitions-most (a .format) (a .shape) (a .states) (a .file .now) (a .at) n e))
     -- add-next 425:16
-    (λ c. let a = c .before .before .before .before .before .args in let n = c .before .transitions .given .0 .0 in let e : transitionsFrom (a .shape) (a .states) (a .file .now) (a .at) ≡ Records n = sym (c .before .before .before .transitions-from .ensures) ∙ c .before .transitions .given .1 in omega (arith, transitions-most (a .shape) (a .states) (a .file .now) (a .at) n e))
+    (λ c. let a = c .before .before .before .before .before .args in let n = c .before .transitions .given .0 .0 in let e : transitionsFrom (a .format) (a .shape) (a .states) (a .file .now) (a .at) ≡ Records n = sym (c .before .before .before .transitions-from .ensures) ∙ c .before .transitions .given .1 in omega (arith, transitions-most (a .format) (a .shape) (a .states) (a .file .now) (a .at) n e))
     -- targets-from-requires 426:9
     (λ c κs. search needs)
     -- enum-known-targets 427:26
@@ -39,10 +39,10 @@ read-rows-spec = tie.close (tie.spec
     -- program-refused-requires-2 428:9
     (λ c κs. search needs)
     -- returns-2 428:9
-    (λ c. let a = c .before .before .before .before .before .before .before .before .before .before .args in let n = c .before .before .before .before .before .before .transitions .given .0 .0 in let e : transitionsFrom (a .shape) (a .states) (a .file .now) (a .at) ≡ Records n = sym (c .before .before .before .before .before .before .before .before .transitions-from .ensures) ∙ c .before .before .before .before .before .before .transitions .given .1 in let d : targetsFrom (a .alone) (a .shape) (a .states) (a .file .now) (a .at + 8 * n) ≡ Stopped (c .before .before .enum-told2 .given .0 .0) = sym (c .before .before .before .before .targets-from .ensures) ∙ c .before .before .enum-told2 .given .1 in rw (e, d) (c .program-refused2 .ensures ∙ ap programRefused (c .before .stop-of2 .ensures ∙ ap stopOf (c .before .before .enum-told2 .given .1))))
+    (λ c. let a = c .before .before .before .before .before .before .before .before .before .before .args in let n = c .before .before .before .before .before .before .transitions .given .0 .0 in let e : transitionsFrom (a .format) (a .shape) (a .states) (a .file .now) (a .at) ≡ Records n = sym (c .before .before .before .before .before .before .before .before .transitions-from .ensures) ∙ c .before .before .before .before .before .before .transitions .given .1 in let d : targetsFrom (a .format) (a .alone) (a .shape) (a .states) (a .file .now) (a .at + 8 * n) ≡ Stopped (c .before .before .enum-told2 .given .0 .0) = sym (c .before .before .before .before .targets-from .ensures) ∙ c .before .before .enum-told2 .given .1 in rw (e, d) (c .program-refused2 .ensures ∙ ap programRefused (c .before .stop-of2 .ensures ∙ ap stopOf (c .before .before .enum-told2 .given .1))))
     -- mul-t12 444:27
-    (λ c. let a = c .before .before .before .before .before .before .before .before .before .args in let n = c .before .before .before .before .before .transitions .given .0 .0 in let m = c .before .targets .given .0 .0 in let e : transitionsFrom (a .shape) (a .states) (a .file .now) (a .at) ≡ Records n = sym (c .before .before .before .before .before .before .before .transitions-from .ensures) ∙ c .before .before .before .before .before .transitions .given .1 in let d : targetsFrom (a .alone) (a .shape) (a .states) (a .file .now) (a .at + 8 * n) ≡ Records m = sym (c .before .before .before .targets-from .ensures) ∙ c .before .targets .given .1 in omega (arith, transitions-most (a .shape) (a .states) (a .file .now) (a .at) n e, targets-most (a .shape) (a .states) (a .file .now) (a .at + 8 * n) (a .alone) m d))
+    (λ c. let a = c .before .before .before .before .before .before .before .before .before .args in let n = c .before .before .before .before .before .transitions .given .0 .0 in let m = c .before .targets .given .0 .0 in let e : transitionsFrom (a .format) (a .shape) (a .states) (a .file .now) (a .at) ≡ Records n = sym (c .before .before .before .before .before .before .before .transitions-from .ensures) ∙ c .before .before .before .before .before .transitions .given .1 in let d : targetsFrom (a .format) (a .alone) (a .shape) (a .states) (a .file .now) (a .at + 8 * n) ≡ Records m = sym (c .before .before .before .targets-from .ensures) ∙ c .before .targets .given .1 in omega (arith, transitions-most (a .format) (a .shape) (a .states) (a .file .now) (a .at) n e, few-targets (a .format), targets-most (a .format) (a .shape) (a .states) (a .file .now) (a .at + 8 * n) (a .alone) m d))
     -- add-t17 444:20
-    (λ c. let a = c .before .before .before .before .before .before .before .before .before .args in let n = c .before .before .before .before .before .transitions .given .0 .0 in let m = c .before .targets .given .0 .0 in let e : transitionsFrom (a .shape) (a .states) (a .file .now) (a .at) ≡ Records n = sym (c .before .before .before .before .before .before .before .transitions-from .ensures) ∙ c .before .before .before .before .before .transitions .given .1 in let d : targetsFrom (a .alone) (a .shape) (a .states) (a .file .now) (a .at + 8 * n) ≡ Records m = sym (c .before .before .before .targets-from .ensures) ∙ c .before .targets .given .1 in omega (arith, transitions-most (a .shape) (a .states) (a .file .now) (a .at) n e, targets-most (a .shape) (a .states) (a .file .now) (a .at + 8 * n) (a .alone) m d))
+    (λ c. let a = c .before .before .before .before .before .before .before .before .before .args in let n = c .before .before .before .before .before .transitions .given .0 .0 in let m = c .before .targets .given .0 .0 in let e : transitionsFrom (a .format) (a .shape) (a .states) (a .file .now) (a .at) ≡ Records n = sym (c .before .before .before .before .before .before .before .transitions-from .ensures) ∙ c .before .before .before .before .before .transitions .given .1 in let d : targetsFrom (a .format) (a .alone) (a .shape) (a .states) (a .file .now) (a .at + 8 * n) ≡ Records m = sym (c .before .before .before .targets-from .ensures) ∙ c .before .targets .given .1 in omega (arith, transitions-most (a .format) (a .shape) (a .states) (a .file .now) (a .at) n e, few-targets (a .format), targets-most (a .format) (a .shape) (a .states) (a .file .now) (a .at + 8 * n) (a .alone) m d))
     -- returns-3 417:1
-    (λ c. let a = c .before .before .before .before .before .before .before .before .before .args in let n = c .before .before .before .before .before .transitions .given .0 .0 in let m = c .before .targets .given .0 .0 in let e : transitionsFrom (a .shape) (a .states) (a .file .now) (a .at) ≡ Records n = sym (c .before .before .before .before .before .before .before .transitions-from .ensures) ∙ c .before .before .before .before .before .transitions .given .1 in let d : targetsFrom (a .alone) (a .shape) (a .states) (a .file .now) (a .at + 8 * n) ≡ Records m = sym (c .before .before .before .targets-from .ensures) ∙ c .before .targets .given .1 in rw (e, d)))
+    (λ c. let a = c .before .before .before .before .before .before .before .before .before .args in let n = c .before .before .before .before .before .transitions .given .0 .0 in let m = c .before .targets .given .0 .0 in let e : transitionsFrom (a .format) (a .shape) (a .states) (a .file .now) (a .at) ≡ Records n = sym (c .before .before .before .before .before .before .before .transitions-from .ensures) ∙ c .before .before .before .before .before .transitions .given .1 in let d : targetsFrom (a .format) (a .alone) (a .shape) (a .states) (a .file .now) (a .at + 8 * n) ≡ Records m = sym (c .before .before .before .targets-from .ensures) ∙ c .before .targets .given .1 in rw (e, d)))

@@ -6,15 +6,17 @@ use Rattle.file_program.proofs.record.check_target.Tie as tie
 pub check-target-spec : {M : Type 1} → statement M
 unfolding targetNumber
 check-target-spec = tie.close (tie.spec
-    -- state-names-requires 247:9
+    -- state-names-requires
     (λ c κs. search needs)
-    -- is-kind-requires 248:26
+    -- is-kind-requires
     (λ c κs. search needs)
-    -- cut-requires 248:48
+    -- cut-requires
     (λ c κs. search needs)
-    -- first-number-requires 248:12
+    -- most-targets-requires
     (λ c κs. search needs)
-    -- answer-requires 248:5
+    -- first-number-requires
     (λ c κs. search needs)
-    -- returns 244:1
-    (λ c. rw (c .answer .ensures, c .before .first-number .ensures, c .before .before .cut .ensures, c .before .before .before .is-kind .ensures, c .before .before .before .before .state-names .ensures)))
+    -- answer-requires
+    (λ c κs. search needs)
+    -- returns
+    (λ c. rw (c .answer .ensures, c .before .first-number .ensures, c .before .before .most-targets .ensures, c .before .before .before .cut .ensures, c .before .before .before .before .is-kind .ensures, c .before .before .before .before .before .state-names .ensures)))

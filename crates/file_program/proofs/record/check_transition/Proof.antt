@@ -6,15 +6,17 @@ use Rattle.file_program.proofs.record.check_transition.Tie as tie
 pub check-transition-spec : {M : Type 1} → statement M
 unfolding transitionNumber
 check-transition-spec = tie.close (tie.spec
-    -- transition-names-requires 219:9
+    -- transition-names-requires
     (λ c κs. search needs)
-    -- is-kind-requires 220:26
+    -- transition-kind-requires
     (λ c κs. search needs)
-    -- cut-requires 220:48
+    -- is-kind-requires
     (λ c κs. search needs)
-    -- first-number-requires 220:12
+    -- cut-requires
     (λ c κs. search needs)
-    -- answer-requires 220:5
+    -- first-number-requires
     (λ c κs. search needs)
-    -- returns 216:1
-    (λ c. rw (c .answer .ensures, c .before .first-number .ensures, c .before .before .cut .ensures, c .before .before .before .is-kind .ensures, c .before .before .before .before .transition-names .ensures)))
+    -- answer-requires
+    (λ c κs. search needs)
+    -- returns
+    (λ c. rw (c .answer .ensures, c .before .first-number .ensures, c .before .before .cut .ensures, c .before .before .before .is-kind .ensures, c .before .before .before .before .transition-kind .ensures, c .before .before .before .before .before .transition-names .ensures)))

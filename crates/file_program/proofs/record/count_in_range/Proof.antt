@@ -9,9 +9,11 @@ unfolding countInRange
 count-in-range-spec = tie.close (tie.spec
     -- value-count-requires
     (λ c κs. search needs)
-    -- in-range-requires
+    -- least-values-requires
+    (λ c κs. search needs)
+    -- both-requires
     (λ c κs. search needs)
     -- returns
-    (λ c. rw (lt-ltb _ _ (c .before .before .if1 .taken), c .in-range .ensures, c .before .value-count .ensures))
+    (λ c. rw (lt-ltb _ _ (c .before .before .before .if1 .taken), c .both .ensures, c .before .least-values .ensures, c .before .before .value-count .ensures))
     -- returns-2
     (λ c. rw (le-ltb _ _ (c .if1 .left))))
