@@ -241,4 +241,4 @@ evidence-exists P R N ts = ⊎-elim inl (λ r. inr (list-found P R N ts (r .0) (
 
 pub found-is-safe : FoundIsSafe
 found-is-safe P R N ts o f =
-    verdict-unique P ts (f .entries) (verdictOf P ts (f .entries)) (safe (length (f .entries))) (verdict-judged P R N (f .entries) (f .of) ts o (f .first)) (refl, f .safe)
+    verdict-unique P ts (f .entries) (verdictOf P ts (f .entries)) (safe (length (f .entries))) (verdict-judged P R (f .entries) (f .of) ts o (f .first) N) (refl, f .safe)

@@ -17,7 +17,7 @@ use Rattle.machine_equal.proofs.Backward.{pso-to-pws}
 use Rattle.machine_equal.proofs.Reachability.{pws-start, permitted-start, takes-visited, same-reachability}
 use Rattle.machine_pso.specs.Runs.{PsoReachable}
 use Rattle.list_theory.specs.Verdict.{target}
-use Rattle.list_theory.proofs.Verdict.{safe-visited}
+use Rattle.list_theory.proofs.Verdict.{list-safety}
 use Rattle.list_exists.specs.Order.{Of}
 use Rattle.list_exists.specs.Evidence.{RunFound, AboveOne, SafeConfigurations, ListFound, NeverBoth, PsoRunFound, PsoEvidenceExists, PsoDecided, PsoDecidedFromAny}
 use Rattle.list_exists.proofs.Evidence.{configurations-exist, evidence-exists}
@@ -29,7 +29,7 @@ use Rattle.list_exists.proofs.Reaching.{reaches-decided}
 -- no run reaches a target that a safe list holds
 no-run : (P : Program) → WellFormed P → (ts : List (ℕ → ℕ)) → ListFound P ts → (memory : List ℕ) (k : ℕ) → k < length ts → PwsReachable P memory (target ts k) → ⊥
 no-run P R ts f memory k l r =
-    safe-visited P R ts (f .entries) (f .safe) (permitted-start P memory (r .first) (r .starts)) (r .steps) (takes-visited (r .takes)) .0 k l (r .reached)
+    list-safety P R ts (f .entries) (f .safe) (r .first) (permitted-start P memory (r .first) (r .starts)) (r .steps) (r .last) (takes-visited (r .takes)) .0 k l (r .reached)
 
 pub never-both : NeverBoth
 never-both P R ts r f = no-run P R ts f (r .memory) (r .number) (r .exists) (r .reachable)

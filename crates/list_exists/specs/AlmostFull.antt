@@ -51,8 +51,8 @@ AboveNone {A} R xs a = (x : A) → List·Memᴰ x xs → R x a → ⊥
 -- a search that adds to its list only what is above none of it ends
 abbrev pub SearchEnds : Type 1
 SearchEnds =
-    (A : Type 0) (R : A → A → Type 0) → AlmostFull R → (Done : List A → Type 0) → ((xs : List A) → Done xs ⊎ ((a : A) × AboveNone R xs a))
-    → (xs : List A) × Done xs
+    (A : Type 0) (R : A → A → Type 0) → AlmostFull R → (Done : List A → Type 0)
+    → ((xs : List A) → Done xs ⊎ ((a : A) × AboveNone R xs a)) → (xs : List A) × Done xs
 
 -- finitely many least elements of the set U: every element of U is above one of them, and what of U is below one of them is also above it
 pub record Basis {A : Type 0} (R : A → A → Type 0) (U : A → Type 0) : Type 0 where
@@ -70,19 +70,22 @@ pub record Decided {A : Type 0} (R : A → A → Type 0) : Type 0 where
 -- Without an axiom: it cannot be that a set has none; and they are found if of every finite list of its elements it is decided whether all
 -- of the set is above it, with an element that is not in hand.
 abbrev pub NotWithoutBasis : Type 1
-NotWithoutBasis = (A : Type 0) (R : A → A → Type 0) → AlmostFull R → Decided R → (U : A → Type 0) → (Basis R U → ⊥) → ⊥
+NotWithoutBasis =
+    (A : Type 0) (R : A → A → Type 0) → AlmostFull R → Decided R → (U : A → Type 0) → (Basis R U → ⊥) → ⊥
 
 abbrev pub BasisFound : Type 1
 BasisFound =
     (A : Type 0) (R : A → A → Type 0) → AlmostFull R → Decided R → (U : A → Type 0)
-    → ((xs : List A) → ((x : A) → List·Memᴰ x xs → U x) → ((a : A) → U a → (x : A) × List·Memᴰ x xs × R x a) ⊎ ((a : A) × U a × AboveNone R xs a))
+    → ((xs : List A) → ((x : A) → List·Memᴰ x xs → U x)
+    → ((a : A) → U a → (x : A) × List·Memᴰ x xs × R x a) ⊎ ((a : A) × U a × AboveNone R xs a))
     → Basis R U
 
 -- No more can be said: that they are found where only membership is decided, of upward closed sets alone, says of every sequence of truth
 -- values whether it has a true one, which has no proof without an axiom.
 abbrev pub BasisAlwaysFound : Type 1
 BasisAlwaysFound =
-    (A : Type 0) (R : A → A → Type 0) → AlmostFull R → Decided R → (U : A → Type 0) → ((x y : A) → R x y → U x → U y) → ((x : A) → Dec (U x)) → Basis R U
+    (A : Type 0) (R : A → A → Type 0) → AlmostFull R → Decided R → (U : A → Type 0)
+    → ((x y : A) → R x y → U x → U y) → ((x : A) → Dec (U x)) → Basis R U
 
 abbrev pub NoMore : Type 1
 NoMore = BasisAlwaysFound → (f : ℕ → Bool) → ((n : ℕ) × T (f n)) ⊎ ((n : ℕ) → T (f n) → ⊥)

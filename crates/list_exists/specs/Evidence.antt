@@ -49,7 +49,8 @@ AboveOne P xs c = (x : Of P) × List·Memᴰ x xs × Below (P .shape) (x .0) c
 
 -- demand 2's sentences of a list, for a list of configurations: they have no FF
 pub record SafeConfigurations (P : Program) (ts : List (ℕ → ℕ)) (xs : List (Of P)) : Type 0 where
-  pub targets : (c : Configuration) → ConfigurationOf P c → (k : ℕ) → k < length ts → InTarget (P .shape) (target ts k) c → AboveOne P xs c
+  pub targets : (c : Configuration) → ConfigurationOf P c → (k : ℕ) → k < length ts → InTarget (P .shape) (target ts k) c
+      → AboveOne P xs c
   pub starts : (c : Configuration) → Start P c → AboveOne P xs c → ⊥
   pub before : (c : Configuration) → ConfigurationOf P c → (s : Step) → T (may P c s) → AboveOne P xs (after P c s) → AboveOne P xs c
 
@@ -65,11 +66,13 @@ pub record ListFound (P : Program) (ts : List (ℕ → ℕ)) : Type 0 where
 
 -- with no bound of any kind
 abbrev pub ConfigurationsExist : Type 0
-ConfigurationsExist = (P : Program) → WellFormed P → (ts : List (ℕ → ℕ)) → RunFound P ts ⊎ ((xs : List (Of P)) × SafeConfigurations P ts xs)
+ConfigurationsExist =
+    (P : Program) → WellFormed P → (ts : List (ℕ → ℕ)) → RunFound P ts ⊎ ((xs : List (Of P)) × SafeConfigurations P ts xs)
 
 -- as a list of entries, if FF is no value
 abbrev pub EvidenceExists : Type 0
-EvidenceExists = (P : Program) → WellFormed P → NoValueIsFF (P .shape) → (ts : List (ℕ → ℕ)) → RunFound P ts ⊎ ListFound P ts
+EvidenceExists =
+    (P : Program) → WellFormed P → NoValueIsFF (P .shape) → (ts : List (ℕ → ℕ)) → RunFound P ts ⊎ ListFound P ts
 
 -- else an entry cannot have the value 255 itself, and it is false
 abbrev pub NoValueIsFFNeeded : Type 0
@@ -98,13 +101,16 @@ abbrev pub PsoUnreachable : Program → List (ℕ → ℕ) → Type 0
 PsoUnreachable P ts = (memory : List ℕ) (k : ℕ) → k < length ts → PsoReachable P memory (target ts k) → ⊥
 
 abbrev pub PsoEvidenceExists : Type 0
-PsoEvidenceExists = (P : Program) → WellFormed P → NoValueIsFF (P .shape) → (ts : List (ℕ → ℕ)) → PsoRunFound P ts ⊎ (ListFound P ts × PsoUnreachable P ts)
+PsoEvidenceExists =
+    (P : Program) → WellFormed P → NoValueIsFF (P .shape) → (ts : List (ℕ → ℕ))
+    → PsoRunFound P ts ⊎ (ListFound P ts × PsoUnreachable P ts)
 
 -- ---- decisions, for every well-formed program
 
 -- from a configuration
 abbrev pub ReachesDecided : Type 0
-ReachesDecided = (P : Program) → WellFormed P → (ts : List (ℕ → ℕ)) (c : Configuration) → ConfigurationOf P c → Dec (Reaches P ts c)
+ReachesDecided =
+    (P : Program) → WellFormed P → (ts : List (ℕ → ℕ)) (c : Configuration) → ConfigurationOf P c → Dec (Reaches P ts c)
 
 -- under partial store order from a given memory (report, 4.2), and from any
 abbrev pub PsoDecided : Type 0

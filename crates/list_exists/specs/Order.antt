@@ -38,7 +38,8 @@ Before P e s c = T (may P c s) × Below (P .shape) (e .0) (after P c s)
 -- least predecessors are computed; so are the least configurations of a target, from which the analysis begins (6.2)
 pub record WellStructured (P : Program) : Type 1 where
   pub order : Decided (BelowOf P)
-  pub monotonic : (c d : Of P) → BelowOf P c d → (s : Step) → T (may P (c .0) s) → (a : Answer P (d .0)) × Below (P .shape) (after P (c .0) s) (a .to)
+  pub monotonic : (c d : Of P) → BelowOf P c d → (s : Step) → T (may P (c .0) s)
+      → (a : Answer P (d .0)) × Below (P .shape) (after P (c .0) s) (a .to)
   pub quasi : AlmostFull (BelowOf P)
   pub pairs : (f : ℕ → Of P) → Pair (BelowOf P) f
   pub wellFounded : (f : ℕ → Of P) → ((i : ℕ) → BelowOf P (f (suc i)) (f i) × (BelowOf P (f i) (f (suc i)) → ⊥)) → ⊥

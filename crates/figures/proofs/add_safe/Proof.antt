@@ -22,7 +22,7 @@ unchanged-requires-2 c κs = search needs
 
 returns-2 : tie.Need-returns-2
 unfolding addSafe
-returns-2 c = rw (sym (c .before .before .before .has-room .ensures) ∙ not-false _ (c .before .before .if1 .left), lt-leb _ _ (c .before .if2 .taken)) (c .unchanged2 .ensures)
+returns-2 c = rw (sym (c .before .before .before .has-room .ensures) ∙ not-false _ (c .before .before .if1 .left), lt-leb (c .before .before .before .before .args .entries) 524288 (omega (arith, c .before .if2 .taken))) (c .unchanged2 .ensures)
 
 add-t6 : tie.Need-add-t6
 add-t6 c = let b = plausible-bounds (c .before .before .before .before .args .c) (room-plausible (c .before .before .before .before .args .c) (sym (c .before .before .before .has-room .ensures) ∙ not-false _ (c .before .before .if1 .left))) in omega arith
@@ -41,7 +41,7 @@ add-t10 c = let b = plausible-bounds (c .before .before .before .before .before 
 
 returns-3 : tie.Need-returns-3
 unfolding addSafe
-returns-3 c = rw (sym (c .before .before .before .before .before .before .has-room .ensures) ∙ not-false _ (c .before .before .before .before .before .if1 .left), le-leb _ _ (c .before .before .before .before .if2 .left)) refl
+returns-3 c = rw (sym (c .before .before .before .before .before .before .has-room .ensures) ∙ not-false _ (c .before .before .before .before .before .if1 .left), le-leb (c .before .before .before .before .before .before .before .args .entries) 524288 (omega (arith, c .before .before .before .before .if2 .left))) refl
 
 pub add-safe-spec : {M : Type 1} → statement M
 add-safe-spec = tie.close (tie.spec has-room-requires unchanged-requires returns unchanged-requires-2 returns-2 add-t6 add-t7 add-t8 mul-t9 add-t10 returns-3)

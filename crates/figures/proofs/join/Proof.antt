@@ -1,3 +1,4 @@
+use Prim.Native.Nat.{_+_}
 use mathlib.Core.Path.{refl, sym, _∙_}
 use borrow.Author.Tests.{not-true, not-false, le-leb, lt-leb}
 use native.Mathlib.Omega.{arith}
@@ -35,7 +36,7 @@ unchanged-requires-3 c κs = search needs
 
 returns-3 : tie.Need-returns-3
 unfolding join
-returns-3 c = rw (sym (c .before .before .before .before .before .before .before .is-plausible .ensures) ∙ not-false _ (c .before .before .before .before .before .before .if1 .left), sym (c .before .before .before .before .before .is-plausible2 .ensures) ∙ not-false _ (c .before .before .before .before .if2 .left), lt-leb _ _ (c .before .if3 .taken)) (c .unchanged3 .ensures)
+returns-3 c = rw (sym (c .before .before .before .before .before .before .before .is-plausible .ensures) ∙ not-false _ (c .before .before .before .before .before .before .if1 .left), sym (c .before .before .before .before .before .is-plausible2 .ensures) ∙ not-false _ (c .before .before .before .before .if2 .left), lt-leb (c .before .before .before .before .before .before .before .before .args .a .results + c .before .before .before .before .before .before .before .before .args .b .results) 4096 (omega (arith, c .before .if3 .taken))) (c .unchanged3 .ensures)
 
 add-t6 : tie.Need-add-t6
 add-t6 c = search needs
@@ -51,7 +52,7 @@ add-t9 c = let a = plausible-bounds (c .before .before .before .before .before .
 
 returns-4 : tie.Need-returns-4
 unfolding join
-returns-4 c = rw (sym (c .before .before .before .before .before .before .before .before .before .before .before .before .before .before .is-plausible .ensures) ∙ not-false _ (c .before .before .before .before .before .before .before .before .before .before .before .before .before .if1 .left), sym (c .before .before .before .before .before .before .before .before .before .before .before .before .is-plausible2 .ensures) ∙ not-false _ (c .before .before .before .before .before .before .before .before .before .before .before .if2 .left), le-leb _ _ (c .before .before .before .before .before .before .before .before .if3 .left)) refl
+returns-4 c = rw (sym (c .before .before .before .before .before .before .before .before .before .before .before .before .before .before .is-plausible .ensures) ∙ not-false _ (c .before .before .before .before .before .before .before .before .before .before .before .before .before .if1 .left), sym (c .before .before .before .before .before .before .before .before .before .before .before .before .is-plausible2 .ensures) ∙ not-false _ (c .before .before .before .before .before .before .before .before .before .before .before .if2 .left), le-leb (c .before .before .before .before .before .before .before .before .before .before .before .before .before .before .before .args .a .results + c .before .before .before .before .before .before .before .before .before .before .before .before .before .before .before .args .b .results) 4096 (omega (arith, c .before .before .before .before .before .before .before .before .if3 .left))) refl
 
 pub join-spec : {M : Type 1} → statement M
 join-spec = tie.close (tie.spec is-plausible-requires unchanged-requires returns is-plausible-requires-2 unchanged-requires-2 returns-2 add-if3 unchanged-requires-3 returns-3 add-t6 add-t7 add-t8 add-t9 returns-4)

@@ -1,5 +1,7 @@
 use Rattle.drawing.specs.Reading.{thirdDigit, secondDigit}
-use mathlib.Core.Path.{sym, ap, _∙_}
+use mathlib.Core.Path.{_≡_, sym, ap, _∙_}
+use mathlib.Core.Bool.{true, false, not, _&&_}
+use lib.Dec.{eqb}
 use Prim.Native.Nat.{ℕ, _+_, _*_}
 use native.Mathlib.Omega.{arith}
 use borrow.Author.Needs.{needs}
@@ -29,11 +31,11 @@ third-digit-requires c κs = (omega (arith, c .before .before .before .before .b
 
 returns : tie.Need-returns
 unfolding secondDigit
-returns c = rw (← c .before .before .before .before .is-digit .ensures, sym (c .before .before .before .both .ensures) ∙ c .before .before .if1 .taken) (c .third-digit .ensures ∙ ap (λ (x : ℕ). thirdDigit (c .before .before .before .before .before .before .args .text .now) (c .before .before .before .before .before .before .args .at + 1) (10 * c .before .before .before .before .before .before .args .a + x)) (c .before .value-at .ensures .0))
+returns c = let e : not (eqb (c .before .before .before .before .before .before .args .a) 0) && c .before .before .before .before .is-digit .result ≡ true = sym (c .before .before .before .both .ensures) ∙ c .before .before .if1 .taken in rw (← c .before .before .before .before .is-digit .ensures, e) (c .third-digit .ensures ∙ ap (λ (x : ℕ). thirdDigit (c .before .before .before .before .before .before .args .text .now) (c .before .before .before .before .before .before .args .at + 1) (10 * c .before .before .before .before .before .before .args .a + x)) (c .before .value-at .ensures .0))
 
 returns-2 : tie.Need-returns-2
 unfolding secondDigit
-returns-2 c = rw (← c .before .before .is-digit .ensures, sym (c .before .both .ensures) ∙ c .if1 .left)
+returns-2 c = let e : not (eqb (c .before .before .before .before .args .a) 0) && c .before .before .is-digit .result ≡ false = sym (c .before .both .ensures) ∙ c .if1 .left in rw (← c .before .before .is-digit .ensures, e)
 
 pub second-digit-spec : {M : Type 1} → statement M
 second-digit-spec =
