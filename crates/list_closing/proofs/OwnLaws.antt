@@ -17,7 +17,6 @@ use Rattle.machine_pws.specs.Configurations.{Fits}
 use Rattle.machine_pws.specs.Order.{Maps, QueueBelow}
 use Rattle.machine_pws.specs.Insertion.{putMessage, up}
 use Rattle.machine_pws.specs.Entries.{entry, noEntry, FF, ValueOrFF, FillValues, FillChannel, channel-cons, filled, Filling, Above}
-use Rattle.machine_pws.proofs.Ranges.{format-no-ff}
 use Rattle.machine_pws.proofs.Facts.{T-or-not, message-new, message-old, proper, put-each, putQueue-same, putQueue-each}
 use Rattle.machine_pws.proofs.Queues.{skip, queue-to, queue-of}
 use Rattle.machine_pws.proofs.Insertion.{insert-top, up-low, up-high, maps-right}
@@ -128,7 +127,7 @@ pub above-held : (S : Shape) (R : ShapeInRange S) (es : List Configuration) → 
     → Fits (ValueOrFF S) S c → ((qs : ℕ → ℕ → List ℕ) (ms : List Message) → Filling S c qs ms → Above S (entry es k) (filled c qs ms)) → held S es c ≡ true
 above-held S R es oes k l c o f =
     ⊎-elim (T-true (held S es c))
-    (λ t. let x = decided-no (held-decided S (R .wellFormed) es oes (format-no-ff R) c o) t in absurd (x .outside (record { number = k; exists = l; above = f (x .queues) (x .channel) (x .filling) })))
+    (λ t. let x = decided-no (held-decided S (R .wellFormed) es oes c o) t in absurd (x .outside (record { number = k; exists = l; above = f (x .queues) (x .channel) (x .filling) })))
     (T-or-not (held S es c))
 
 -- so is a predecessor cube of an entry, if all its fillings are above that entry

@@ -13,7 +13,6 @@ use Rattle.machine_pws.specs.Machine.{Configuration, allBelow, message, noMessa
 use Rattle.machine_pws.specs.declared.Message.{Message}
 use Rattle.machine_pws.specs.Configurations.{Fits}
 use Rattle.machine_pws.specs.Entries.{FF, ValueOrFF, entry, noEntry}
-use Rattle.machine_pws.proofs.Ranges.{format-no-ff}
 use Rattle.machine_pws.proofs.Facts.{putQueue-each}
 use Rattle.list_theory.specs.Lists.{anyOf}
 use Rattle.list_theory.specs.Values.{fills, alike}
@@ -52,16 +51,16 @@ module _ (S : pws.Shape) (R : pws.ShapeInRange S) (es : List Configuration) (oes
   outside-by u false d = refl
 
   held-is : Held S es c → held S es c ≡ true
-  held-is H = held-by H (held S es c) (held-decided S (R .wellFormed) es oes (format-no-ff R) c o)
+  held-is H = held-by H (held S es c) (held-decided S (R .wellFormed) es oes c o)
 
   outside-is : Outside S es c → held S es c ≡ false
-  outside-is u = outside-by u (held S es c) (held-decided S (R .wellFormed) es oes (format-no-ff R) c o)
+  outside-is u = outside-by u (held S es c) (held-decided S (R .wellFormed) es oes c o)
 
   is-held : held S es c ≡ true → Held S es c
-  is-held e = decided-yes (held-decided S (R .wellFormed) es oes (format-no-ff R) c o) (subst T (sym e) tt)
+  is-held e = decided-yes (held-decided S (R .wellFormed) es oes c o) (subst T (sym e) tt)
 
   is-outside : held S es c ≡ false → Outside S es c
-  is-outside e = decided-no (held-decided S (R .wellFormed) es oes (format-no-ff R) c o) (subst (λ (b : Bool). T (not b)) (sym e) tt)
+  is-outside e = decided-no (held-decided S (R .wellFormed) es oes c o) (subst (λ (b : Bool). T (not b)) (sym e) tt)
 
   covered : (k : ℕ) → k < length es → matches S fills (entry es k) c ≡ true → held S es c ≡ true
   covered k l e = held-is (covered-held S (R .wellFormed) es oes c (number-any (λ d. matches S fills d c) noEntry es k l (subst T (sym e) tt)))

@@ -11,7 +11,6 @@ use Rattle.machine_pws.specs.Program as pws
 use Rattle.machine_pws.specs.Machine.{Configuration}
 use Rattle.machine_pws.specs.Configurations.{StatesOf}
 use Rattle.machine_pws.specs.Entries.{EntryOf, entry}
-use Rattle.machine_pws.proofs.Ranges.{format-no-ff}
 use Rattle.list_theory.specs.Verdict.{TargetHeld, target}
 use Rattle.list_theory.specs.Decision.{targetHeld}
 use Rattle.list_theory.proofs.Verdict.{target-yes}
@@ -86,7 +85,7 @@ module _ (g f list sum : List ℕ) (n : ℕ) (p : Program) (R : Ready g f list s
   full-targets H table F (suc m) l =
       full-put P (R .part .program) es (withTargets g p table m) (targetOf g p m) (p .shape) refl (full-targets H table F m (omega arith))
       (subst (TargetHeld P es) (target-again g p m (omega arith))
-      (target-yes P (R .part .program .wellFormed) (format-no-ff (R .part .program .shape)) es oes (target (targetsOf g p) m) (R .part .targets m (omega (arith, targets-length))) (subst T (sym (H m (omega arith))) tt)))
+      (target-yes P (R .part .program .wellFormed) es oes (target (targetsOf g p) m) (R .part .targets m (omega (arith, targets-length))) (subst T (sym (H m (omega arith))) tt)))
 
 -- ---- the entries in turn, with the table beside
 

@@ -187,7 +187,7 @@ module _ (s : Shape) (R : pws.ShapeInRange (shapeOf s)) (f list : List ℕ) (n :
 
   pub recorded-held : ((k : ℕ) → k < n → Fits (ValueOrFF (shapeOf s)) (shapeOf s) (configurationOf (cubeAt f list k))) → Fits (ValueOrFF (shapeOf s)) (shapeOf s) (configurationOf c)
       → held (shapeOf s) es (configurationOf c) ≡ true
-  recorded-held oes o = family-held (shapeOf s) (R .wellFormed) (format-no-ff R) es (listed (shapeOf s) f list n oes) asked (configurationOf (cubeAt f list number)) (configurationOf c) found-full found-in o
+  recorded-held oes o = family-held (shapeOf s) (R .wellFormed) es (listed (shapeOf s) f list n oes) asked (configurationOf (cubeAt f list number)) (configurationOf c) found-full found-in o
 
   module _ (P : pws.Program) (RP : pws.ProgramInRange P) (same : P .shape ≡ shapeOf s) (oes : (k : ℕ) → k < n → Fits (ValueOrFF (shapeOf s)) (shapeOf s) (configurationOf (cubeAt f list k))) where
     fitting : (k : ℕ) → k < length es → Fits (ValueOrFF (P .shape)) (P .shape) (entry es k)

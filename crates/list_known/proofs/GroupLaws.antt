@@ -12,7 +12,6 @@ use Rattle.machine_pws.specs.Program.{ProgramInRange}
 use Rattle.machine_pws.specs.Machine.{Configuration}
 use Rattle.machine_pws.specs.Configurations.{StatesOf}
 use Rattle.machine_pws.specs.Entries.{noEntry, entry}
-use Rattle.machine_pws.proofs.Ranges.{format-no-ff}
 use Rattle.list_theory.specs.Lists.{every}
 use Rattle.list_theory.specs.Shapes.{shapeCubes}
 use Rattle.list_theory.specs.Decision.{held, targetHeld}
@@ -78,7 +77,7 @@ module _ (P : pws.Program) (R : ProgramInRange P) (f list sum : List ℕ) (n : �
       last : (b : Bool) → groupHeld f list sum n s least states ≡ b → Full P es (choose b (λ _. withStates table states) (λ _. table))
       last true e =
           full-put P R es table states s (ap (λ (S : pws.Shape). S .processes) same) F
-          (target-yes P (R .wellFormed) (format-no-ff (R .shape)) es (F .entries) (λ q. getD states q 0) (states-of table F k l)
+          (target-yes P (R .wellFormed) es (F .entries) (λ q. getD states q 0) (states-of table F k l)
           (subst T (sym (ap (λ (S : pws.Shape). every (held S es) (shapeCubes S (λ q. getD states q 0))) same ∙ e)) tt))
       last false e = F
 

@@ -9,7 +9,6 @@ use borrow.Author.Tests.{ne-eqb}
 use Rattle.machine_pws.specs.Machine.{Configuration}
 use Rattle.machine_pws.specs.Configurations.{Fits}
 use Rattle.machine_pws.specs.Entries.{ValueOrFF, noEntry, entry}
-use Rattle.machine_pws.proofs.Ranges.{format-no-ff}
 use Rattle.list_theory.specs.Lists.{every}
 use Rattle.list_theory.specs.Decision.{held}
 use Rattle.file_records.specs.declared.program.Shape.{Shape}
@@ -48,7 +47,7 @@ module _ (s : Shape) (k : ℕ) (f list sum : List ℕ) (n : ℕ) (l : k < n) (h 
 
   pub newest-yes : {r : Bool} → r ≡ every (held (shapeOf s) es) (familyCubes (shapeOf s) own) → r ≡ true → FamilyHeld (shapeOf s) es (clueOf 0) (entry es k)
   unfolding clueOf
-  newest-yes x y = subst (FamilyHeld (shapeOf s) es (clueOf 0)) own-is (family-full (shapeOf s) (h .shape .wellFormed) (format-no-ff (h .shape)) es (listed (shapeOf s) f list n (h .entries)) own (h .entries k l) (sym x ∙ y))
+  newest-yes x y = subst (FamilyHeld (shapeOf s) es (clueOf 0)) own-is (family-full (shapeOf s) (h .shape .wellFormed) es (listed (shapeOf s) f list n (h .entries)) own (h .entries k l) (sym x ∙ y))
 
   module _ (p v x : ℕ) (pe : p < 4) (ve : v < 4) (xe : x < 4) (variable : v < s .variables) (value : x < shapeOf s .values v) where
     clue-is : sees p v x ≡ clueOf (1 + x + 4 * (v + 4 * p))
@@ -67,4 +66,4 @@ module _ (s : Shape) (k : ℕ) (f list sum : List ℕ) (n : ℕ) (l : k < n) (h 
     sight-yes y =
         subst (λ (q : Clue). FamilyHeld (shapeOf s) es q (entry es k)) clue-is
         (subst (FamilyHeld (shapeOf s) es (sees p v x)) own-is
-        (λ d o i. seen-full (shapeOf s) (h .shape .wellFormed) (format-no-ff (h .shape)) es (listed (shapeOf s) f list n (h .entries)) own (h .entries k l) p v x variable value y d o (i .states) (i .queues) (i .clue)))
+        (λ d o i. seen-full (shapeOf s) (h .shape .wellFormed) es (listed (shapeOf s) f list n (h .entries)) own (h .entries k l) p v x variable value y d o (i .states) (i .queues) (i .clue)))

@@ -16,7 +16,6 @@ use Rattle.machine_pws.specs.Machine.{Configuration}
 use Rattle.machine_pws.specs.Configurations.{Fits}
 use Rattle.machine_pws.specs.Entries.{ValueOrFF, noEntry, entry}
 use Rattle.file_again.proofs.Tables.{table-length, table-number}
-use Rattle.machine_pws.proofs.Ranges.{format-no-ff}
 use Rattle.file_contents.specs.Cube.{configurationOf}
 use Rattle.file_again.specs.Again.{cubeAt, entriesOf}
 use Rattle.list_theory.specs.Family.{familyCubes}
@@ -60,5 +59,5 @@ pub family-is : (s : Shape) (k : ℕ) (f list sum : List ℕ) (n : ℕ) (r : Boo
     → Searches f list sum n s → r ≡ every (held (shapeOf s) (entriesOf f list n)) (familyCubes (shapeOf s) (configurationOf (cubeAt f list k)))
 family-is s k f list sum n r l j h =
     let w = family-cubes s (cubeAt f list k) in
-    j .judged h (λ c m. cubes-fit (shapeOf s) (h .shape .wellFormed) (format-no-ff (h .shape)) (entriesOf f list n) (listed (shapeOf s) f list n (h .entries)) (configurationOf (cubeAt f list k)) (h .entries k l) c (subst (List·Memᴰ c) (sym w) m))
+    j .judged h (λ c m. cubes-fit (shapeOf s) (h .shape .wellFormed) (entriesOf f list n) (listed (shapeOf s) f list n (h .entries)) (configurationOf (cubeAt f list k)) (h .entries k l) c (subst (List·Memᴰ c) (sym w) m))
     ∙ ap (every (held (shapeOf s) (entriesOf f list n))) (sym w)

@@ -125,9 +125,9 @@ holds r R t e =
     let q = r .state in
     let f : ℕ × List ℕ → Configuration = λ d. entryWith q (d .0) (d .1) in
     subst (ListJudged P (targetsOf r) (entriesOf r)) e
-    (verdict-judged P R (λ v l. omega arith) (entriesOf r) (by-number (EntryOf P) f (r .entries) (λ d i. entry-of ts q d l (every-yes fine (r .entries) (w .1) d i))) (targetsOf r)
+    (verdict-judged P R (entriesOf r) (by-number (EntryOf P) f (r .entries) (λ d i. entry-of ts q d l (every-yes fine (r .entries) (w .1) d i))) (targetsOf r)
     (elim [ zero ↦ λ a. states-of ts q l | suc k ↦ λ a. absurd (omega arith) ])
-    (by-number (λ c. (p : ℕ) × (p < 1) × (c .memory .pointer p ≡ 1)) f (r .entries) (λ d i. (0, omega arith, refl))))
+    (by-number (λ c. (p : ℕ) × (p < 1) × (c .memory .pointer p ≡ 1)) f (r .entries) (λ d i. (0, omega arith, refl))) (λ v l. omega arith))
 
 -- what is computed of each row holds of it
 data InRange : List Row → Type 0 where

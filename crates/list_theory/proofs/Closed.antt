@@ -33,12 +33,18 @@ use Rattle.list_theory.proofs.NoneExtra.{none-extra, filling-configurat
 abbrev pub StepClosed : Program → List Configuration → Configuration → Step → Type 0
 StepClosed P es e s = (c : Configuration) → ConfigurationOf P c → T (may P c s) → Above (P .shape) e (after P c s) → AboveList (P .shape) es c
 
--- by kind
+-- by kind: what is said of the cubes is said of the configurations
+pub kinds-step : (P : Program) → WellFormed P → (es : List Configuration) (e : Configuration) → EntryOf P e → (s : Step)
+    → ((k : Kind) → T (has P e s k) → Held (P .shape) es (cube P e s k)) → StepClosed P es e s
+kinds-step P R es e oe s H c oc t A =
+    let b = none-missing P R e c oe oc s t A in list-up (H (b .kind) (b .has) (b .above .queues) (b .above .channel) (b .above .filling)) (b .above .below)
+
+-- and the other way round
 pub step-kinds : (P : Program) → WellFormed P → NoValueIsFF (P .shape) → (es : List Configuration) (e : Configuration) → EntryOf P e → (s : Step)
     → StepClosed P es e s ↔ ((k : Kind) → T (has P e s k) → Held (P .shape) es (cube P e s k))
 step-kinds P R N es e oe s = (
   λ C k t qs ms F. let a = none-extra P R e oe N s k t qs ms F in C (filled (cube P e s k) qs ms) (filling-configuration P R e oe s k t qs ms F) (a .may) (a .above),
-  λ H c oc t A. let b = none-missing P R e c oe oc s t A in list-up (H (b .kind) (b .has) (b .above .queues) (b .above .channel) (b .above .filling)) (b .above .below),
+  kinds-step P R es e oe s,
 )
 
 -- by step and kind
@@ -157,17 +163,26 @@ module _ (P : Program) (e : Configuration) where
   predecessor-of s d m = in-cubes s (kinds P e s) d m
 
 -- by the list of its cubes
+pub cubes-step : (P : Program) → WellFormed P → (es : List Configuration) (e : Configuration) → EntryOf P e → (s : Step)
+    → ((d : Configuration) → List·Memᴰ d (predecessors P e s) → Held (P .shape) es d) → StepClosed P es e s
+cubes-step P R es e oe s H = kinds-step P R es e oe s (λ k t. H (cube P e s k) (cube-in P e s (kinds P e s) k (kind-in P e s k t) t))
+
 pub step-cubes : (P : Program) → WellFormed P → NoValueIsFF (P .shape) → (es : List Configuration) (e : Configuration) → EntryOf P e → (s : Step)
     → StepClosed P es e s ↔ ((d : Configuration) → List·Memᴰ d (predecessors P e s) → Held (P .shape) es d)
 step-cubes P R N es e oe s = (
   λ C d m. let r = predecessor-of P e s d m in subst (Held (P .shape) es) (sym (r .2)) (step-kinds P R N es e oe s .0 C (r .0) (r .1)),
-  λ H. step-kinds P R N es e oe s .1 (λ k t. H (cube P e s k) (cube-in P e s (kinds P e s) k (kind-in P e s k t) t)),
+  cubes-step P R es e oe s,
 )
 
 -- by the lists
+pub cubes-closed : (P : Program) → WellFormed P → (es : List Configuration) (e : Configuration) → EntryOf P e
+    → ((s : Step) → List·Memᴰ s (steps P) → (d : Configuration) → List·Memᴰ d (predecessors P e s) → Held (P .shape) es d) → Closed P es e
+cubes-closed P R es e oe H c oc s =
+    kinds-step P R es e oe s (λ k t. H s (step-in P e s k t) (cube P e s k) (cube-in P e s (kinds P e s) k (kind-in P e s k t) t)) c oc
+
 pub closed-cubes : (P : Program) → WellFormed P → NoValueIsFF (P .shape) → (es : List Configuration) (e : Configuration) → EntryOf P e
     → Closed P es e ↔ ((s : Step) → List·Memᴰ s (steps P) → (d : Configuration) → List·Memᴰ d (predecessors P e s) → Held (P .shape) es d)
 closed-cubes P R N es e oe = (
   λ C s i d m. let r = predecessor-of P e s d m in subst (Held (P .shape) es) (sym (r .2)) (closed-kinds P R N es e oe .0 C s (r .0) (r .1)),
-  λ H. closed-kinds P R N es e oe .1 (λ s k t. H s (step-in P e s k t) (cube P e s k) (cube-in P e s (kinds P e s) k (kind-in P e s k t) t)),
+  cubes-closed P R es e oe,
 )

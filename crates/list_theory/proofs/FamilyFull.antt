@@ -35,14 +35,14 @@ use Rattle.list_theory.specs.Family.{Clue, newest, sees, Clued, InFamily
 use Rattle.list_theory.proofs.FamilySteps.{shut-step}
 use Rattle.list_theory.proofs.FamilyIn.{pairwise-values, family-fill, top-newest, family-up}
 
-module _ (S : Shape) (R : WellFormedShape S) (N : NoValueIsFF S) (es : List Configuration) (oes : (k : ℕ) → k < length es → Fits (ValueOrFF S) S (entry es k)) where
+module _ (S : Shape) (R : WellFormedShape S) (es : List Configuration) (oes : (k : ℕ) → k < length es → Fits (ValueOrFF S) S (entry es k)) where
   -- ---- what a full family says
 
   -- a cube in it is held
   pub family-held : (q : Clue) (e c : Configuration) → FamilyHeld S es q e → InFamily S q e c → Fits (ValueOrFF S) S c → held S es c ≡ true
   family-held q e c H i o =
       ⊎-elim (T-true (held S es c))
-      (λ t. let x = decided-no (held-decided S R es oes N c o) t in absurd (x .outside (H (filled c (x .queues) (x .channel)) (x .filling .fits) (family-fill S q e c (x .queues) (x .channel) (x .filling) i))))
+      (λ t. let x = decided-no (held-decided S R es oes c o) t in absurd (x .outside (H (filled c (x .queues) (x .channel)) (x .filling .fits) (family-fill S q e c (x .queues) (x .channel) (x .filling) i))))
       (T-or-not (held S es c))
 
   -- ---- how it is tested, if it is one of newest values
@@ -145,7 +145,7 @@ module _ (S : Shape) (R : WellFormedShape S) (N : NoValueIsFF S) (es : List Conf
     pub family-full : every (held S es) (familyCubes S e) ≡ true → FamilyHeld S es newest e
     family-full y = family-shapes (λ m j.
         let k = Memᴰ·map (familyCube e) j in
-        decided-yes (held-decided S R es oes N (familyCube e m) (cubes-fit (familyCube e m) k)) (every-yes (held S es) (familyCubes S e) (subst T (sym y) tt) (familyCube e m) k))
+        decided-yes (held-decided S R es oes (familyCube e m) (cubes-fit (familyCube e m) k)) (every-yes (held S es) (familyCubes S e) (subst T (sym y) tt) (familyCube e m) k))
 
 -- An update leaves local states, queues and the channel as they are, and takes no LastWrite down: none leads in from outside.
 clued-update : (S : Shape) (q : Clue) (e m : Memory) (p : ℕ) → Clued S q e (point m p (suc (m .pointer p))) → Clued S q e m

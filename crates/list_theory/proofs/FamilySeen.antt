@@ -15,7 +15,7 @@ use Rattle.machine_pws.specs.Machine.{Memory, Configuration, message, lastWrite
 use Rattle.machine_pws.specs.Configurations.{MessageIn, MemoryIn, Fits, ValueOf}
 use Rattle.machine_pws.specs.Order.{Live, Maps}
 use Rattle.machine_pws.specs.Insertion.{putMessage, up, insertInto}
-use Rattle.machine_pws.specs.Entries.{NoValueIsFF, entry, ValueOrFF, values-nil, FillMessage, FillChannel, AboveList, Above}
+use Rattle.machine_pws.specs.Entries.{entry, ValueOrFF, values-nil, FillMessage, FillChannel, AboveList, Above}
 use Rattle.machine_pws.proofs.Facts.{labelled-self, Proper, proper, is-last, live-last}
 use Rattle.machine_pws.proofs.Preorder.{list-up, queue-refl}
 use Rattle.machine_pws.proofs.Steps.{message-set}
@@ -222,7 +222,7 @@ module _ (S : Shape) (R : WellFormedShape S) (e d : Configuration) (od : Fits (V
       let C = above-match S R (bare m) (bare (d .memory)) (bare-fits m (o .memory)) (bare-fits (d .memory) (od .memory)) .0 A in
       above-match S R (withMemory e m) d o od .1 (record { states = states; queues = queues; channel = C .channel })
 
-module _ (S : Shape) (R : WellFormedShape S) (N : NoValueIsFF S) (es : List Configuration) (oes : (k : ℕ) → k < length es → Fits (ValueOrFF S) S (entry es k))
+module _ (S : Shape) (R : WellFormedShape S) (es : List Configuration) (oes : (k : ℕ) → k < length es → Fits (ValueOrFF S) S (entry es k))
     (e : Configuration) (oe : Fits (ValueOrFF S) S e) (p v x : ℕ) (ve : v < S .variables) (xe : x < S .values v) where
   -- one of the cubes has a memory below n, but for its free values
   record Found (n : Memory) : Type 0 where
@@ -254,6 +254,6 @@ module _ (S : Shape) (R : WellFormedShape S) (N : NoValueIsFF S) (es : List Conf
       go s =
           let c = withMemory e (s .memory) in
           let o = seen-fits S R p v x ve xe e oe c (s .in-cubes) in
-          let H = decided-yes (held-decided S R es oes N c o) (every-yes (held S es) (seenCubes S p v x e) (subst T (sym y) tt) c (s .in-cubes)) in
+          let H = decided-yes (held-decided S R es oes c o) (every-yes (held S es) (seenCubes S p v x e) (subst T (sym y) tt) c (s .in-cubes)) in
           let A = above-memory S R e d od states queues (s .memory) o (s .filled) in
           list-up (H (A .queues) (A .channel) (A .filling)) (A .below)

@@ -30,7 +30,7 @@ shut-step P R N es oes c o s h =
     let q = every-no (held (P .shape) es) (predecessors P c s) t in
     let p = predecessor-of P c s (q .0) (q .1) in
     let fits = subst (Fits (ValueOrFF (P .shape)) (P .shape)) (sym (p .2)) (entry-cube P R c o s (p .0) (p .1) .fits) in
-    let x = subst (Outside (P .shape) es) (p .2) (decided-no (held-decided (P .shape) (R .shape) es oes N (q .0) fits) (q .2)) in
+    let x = subst (Outside (P .shape) es) (p .2) (decided-no (held-decided (P .shape) (R .shape) es oes (q .0) fits) (q .2)) in
     let a = none-extra P R c o N s (p .0) (p .1) (x .queues) (x .channel) (x .filling) in
     absurd (x .outside (h (filled (cube P c s (p .0)) (x .queues) (x .channel)) (filling-configuration P R c o s (p .0) (p .1) (x .queues) (x .channel) (x .filling)) (a .may) (a .above))))
     (T-or-not (every (held (P .shape) es) (predecessors P c s)))

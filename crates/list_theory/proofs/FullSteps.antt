@@ -44,5 +44,5 @@ module _ (P : Program) (R : WellFormed P) (N : NoValueIsFF (P .shape)) (es : Lis
 
   pub full-step : (e : Configuration) → EntryOf P e → (s : Step) → TargetHeld P es (statesBefore P e s) → every (held (P .shape) es) (predecessors P e s) ≡ true
   full-step e o s H =
-      ⊎-elim (T-true _) (λ t. let w = step-no P R N es oes e o s t in absurd (w .outside (H (w .configuration) (w .of) (way-states e s w))))
+      ⊎-elim (T-true _) (λ t. let w = step-no P R es oes N e o s t in absurd (w .outside (H (w .configuration) (w .of) (way-states e s w))))
       (T-or-not (every (held (P .shape) es) (predecessors P e s)))

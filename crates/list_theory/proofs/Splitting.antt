@@ -1,12 +1,12 @@
 -- Section 6: a cube with FF at a place is held exactly when all of its parts there are; and a cube that is an entry is held, or has a
 -- filling outside, as `heldAt` says.
 use Prim.Native.Nat.{ℕ, zero, suc, _<_, _≤_}
-use mathlib.Core.Path.{_≡_, refl, sym, ap, subst, _∙_}
+use mathlib.Core.Path.{_≡_, refl, sym, ap, ap₂, subst, _∙_}
 use mathlib.Core.Logic.{_⊎_, inl, inr, ⊎-elim, _≢_, _↔_}
-use mathlib.Core.Bool.{Bool, true, false, cond, not}
+use mathlib.Core.Bool.{Bool, true, false, not}
 use mathlib.Core.List.{List, [], _∷_, _++_, List·Memᴰ, List·Memᴰ·head, List·Memᴰ·tail, List·Memᴰ·not-nil, List·Memᴰ·cases-cons, List·Memᴰ·append-cases, List·Memᴰ·eq-of-singleton, Memᴰ·append-left, Memᴰ·append-right}
 use native.Mathlib.Omega.{arith}
-use native.Mathlib.Decide.{decLt, ℕ-discrete}
+use native.Mathlib.Decide.{ℕ-discrete}
 use lib.ListN.{length, getD, set, length-set}
 use lib.Seq.{getD-set-same, getD-set-other}
 use lib.Dec.{T, eqb}
@@ -15,23 +15,22 @@ use Rattle.machine_pws.specs.declared.Message.{Message}
 use Rattle.machine_pws.specs.Program.{Shape, WellFormedShape}
 use Rattle.machine_pws.specs.Machine.{Configuration, putQueue, message, allBelow}
 use Rattle.machine_pws.specs.Configurations.{All, Fits, ValueOf}
-use Rattle.machine_pws.specs.Entries.{FF, ValueOrFF, NoValueIsFF, Fill, FillValues, filled, Filling, AboveList, noEntry, entry}
-use Rattle.machine_pws.specs.Tagged.{roles, isLive, taggedFrom}
-use Rattle.machine_pws.proofs.Facts.{T-or-not, putQueue-same, putQueue-each, message-old, message-new}
+use Rattle.machine_pws.specs.Entries.{FF, ValueOrFF, FillValues, FillChannel, channel-nil, channel-cons, filled, Filling, AboveList, noEntry, entry}
+use Rattle.machine_pws.proofs.Facts.{T-or-not, putQueue-same, putQueue-each}
 use Rattle.machine_pws.proofs.Steps.{queues-put}
 use Rattle.machine_pws.proofs.Cases.{all-yes}
 use Rattle.list_theory.specs.Lists.{forBelow, anyOf}
 use Rattle.list_theory.specs.Values.{fills, alike}
 use Rattle.list_theory.specs.Cubes.{setValue}
-use Rattle.list_theory.specs.Matching.{Match, matches}
+use Rattle.list_theory.specs.Matching.{matches}
 use Rattle.list_theory.specs.Covering.{Held, Outside, Place, inQueue, inMessage, variableOf, at, split, places}
 use Rattle.list_theory.specs.Decision.{heldAt, held}
 use Rattle.list_theory.proofs.Lists.{in-below, below-in, any-number, number-any, all-no}
-use Rattle.list_theory.proofs.Fillings.{yes-fills, alike-value, fill-length, fill-put, fill-unput, channel-length, some-filling}
+use Rattle.list_theory.proofs.Fillings.{fill-length, fill-each, fill-put, fill-unput, channel-length, some-filling}
 use Rattle.list_theory.proofs.Queues.{unput-left}
 use Rattle.list_theory.proofs.Cubes.{channel-set, channel-unset, memory-set, set-length, set-same, set-other}
-use Rattle.list_theory.proofs.Matching.{Pointwise, none-left, one-more, SameTag, match-change, matches-exact}
-use Rattle.list_theory.proofs.Covering.{covers, meets}
+use Rattle.list_theory.proofs.Matching.{matches-exact}
+use Rattle.list_theory.proofs.Covering.{above-match, covers, meets}
 
 -- ---- places
 
@@ -124,27 +123,29 @@ module _ (S : Shape) (c : Configuration) where
       let e = set-length (c .memory .channel) i v x in
       (λ w. (w .0, omega (arith, w .1), w .2), λ w. (w .0, omega (arith, w .1), w .2))
 
-  set-free : (xs : List ℕ) (j x i : ℕ) → x ≢ FF → j < length xs → getD (set xs j x) i 0 ≡ FF → (getD xs i 0 ≡ FF) × (i ≢ j)
-  set-free xs j x i n l e = elim (ℕ-discrete i j) [
-    | yes d ↦ absurd (n (sym (getD-set-same xs j x 0 l) ∙ ap (λ (k : ℕ). getD (set xs j x) k 0) (sym d) ∙ e))
-    | no d ↦ (sym (getD-set-other xs j i x 0 d) ∙ e, d)
+  set-free : (xs : List ℕ) (j x i : ℕ) → j < length xs → getD (set xs j x) i 0 ≡ FF → ((i ≡ j) × (x ≡ FF)) ⊎ ((getD xs i 0 ≡ FF) × (i ≢ j))
+  set-free xs j x i l e = elim (ℕ-discrete i j) [
+    | yes d ↦ inl (d, sym (getD-set-same xs j x 0 l) ∙ ap (λ (k : ℕ). getD (set xs j x) k 0) (sym d) ∙ e)
+    | no d ↦ inr (sym (getD-set-other xs j i x 0 d) ∙ e, d)
   ]
 
-  free-split : Fits (ValueOrFF S) S c → S .variables ≤ S .room → (a : Place) → Valid S c a → (x : ℕ) → x ≢ FF → (b : Place) → at (split c a x) b ≡ FF → (at c b ≡ FF) × (b ≢ a)
-  free-split o four (inQueue p v j) w x n (inQueue q u i) e =
-      putQueue-each (c .queue) p v (set (c .queue p v) j x) (λ q u zs. getD zs i 0 ≡ FF → (getD (c .queue q u) i 0 ≡ FF) × (inQueue q u i ≢ inQueue p v j)) q u
-      (λ y. let r = set-free (c .queue p v) j x i n (w .2) y in (r .0, λ d. r .1 (cc)))
-      (λ m y. (y, λ d. m (cc, cc))) e
-  free-split o four (inQueue p v j) w x n (inMessage i u) e = (e, λ d. let z : _≡_ {A = ℕ} 0 1 = cc in omega arith)
-  free-split o four (inMessage i v) w x n (inQueue q u j) e = (e, λ d. let z : _≡_ {A = ℕ} 0 1 = cc in omega arith)
-  free-split o four (inMessage i v) w x n (inMessage k u) e = elim (ℕ-discrete k i) [
+  free-split : Fits (ValueOrFF S) S c → S .variables ≤ S .room → (a : Place) → Valid S c a → (x : ℕ) (b : Place) → at (split c a x) b ≡ FF
+      → ((b ≡ a) × (x ≡ FF)) ⊎ ((at c b ≡ FF) × (b ≢ a))
+  free-split o four (inQueue p v j) w x (inQueue q u i) e =
+      putQueue-each (c .queue) p v (set (c .queue p v) j x)
+      (λ q u zs. getD zs i 0 ≡ FF → ((inQueue q u i ≡ inQueue p v j) × (x ≡ FF)) ⊎ ((getD (c .queue q u) i 0 ≡ FF) × (inQueue q u i ≢ inQueue p v j))) q u
+      (λ y. ⊎-elim (λ r. inl (ap (inQueue p v) (r .0), r .1)) (λ r. inr (r .0, λ d. r .1 (cc))) (set-free (c .queue p v) j x i (w .2) y))
+      (λ m y. inr (y, λ d. m (cc, cc))) e
+  free-split o four (inQueue p v j) w x (inMessage i u) e = inr (e, λ d. let z : _≡_ {A = ℕ} 0 1 = cc in omega arith)
+  free-split o four (inMessage i v) w x (inQueue q u j) e = inr (e, λ d. let z : _≡_ {A = ℕ} 0 1 = cc in omega arith)
+  free-split o four (inMessage i v) w x (inMessage k u) e = elim (ℕ-discrete k i) [
     | yes d ↦
         let m = message (c .memory .channel) i in
         let l : v < length (m .snapshot) = omega (arith, o .memory .messages i (w .0) (w .1) .room, w .2) in
-        let r = set-free (m .snapshot) v x u n l (ap (λ (y : Message). getD (y .snapshot) u 0)
-        (sym (set-same (c .memory .channel) i v x (w .0) (w .1)) ∙ ap (message (setValue (c .memory .channel) i v x)) (sym d)) ∙ e) in
-        (ap (λ (y : ℕ). getD (message (c .memory .channel) y .snapshot) u 0) d ∙ r .0, λ y. r .1 (cc))
-    | no d ↦ (ap (λ (y : Message). getD (y .snapshot) u 0) (sym (set-other (c .memory .channel) i v x k d)) ∙ e, λ y. d (cc))
+        ⊎-elim (λ r. inl (ap₂ inMessage d (r .0), r .1)) (λ r. inr (ap (λ (y : ℕ). getD (message (c .memory .channel) y .snapshot) u 0) d ∙ r .0, λ y. r .1 (cc)))
+        (set-free (m .snapshot) v x u l (ap (λ (y : Message). getD (y .snapshot) u 0)
+        (sym (set-same (c .memory .channel) i v x (w .0) (w .1)) ∙ ap (message (setValue (c .memory .channel) i v x)) (sym d)) ∙ e))
+    | no d ↦ inr (ap (λ (y : Message). getD (y .snapshot) u 0) (sym (set-other (c .memory .channel) i v x k d)) ∙ e, λ y. d (cc))
   ]
 
 -- ---- the list of places is complete
@@ -181,37 +182,52 @@ valid-place S c a = (to, go a)
     go (inMessage (suc i) v) w = Memᴰ·append-right waiting (in-below (length (c .memory .channel)) (λ i. forBelow (S .variables) (λ v. inMessage (suc i) v ∷ [])) i (w .1)
         (in-below (S .variables) (λ v. inMessage (suc i) v ∷ []) v (w .2) (List·Memᴰ·head refl)))
 
--- ---- without FF, an entry that may meet a cube covers it
+-- ---- a cube that has FF only where FF is a value is a filling of itself
 
-abbrev Known : ℕ → ℕ → Type 0
-Known a b = (a ≡ b) × (a ≢ FF)
+all-by : (F G : ℕ → Type 0) (xs : List ℕ) → ((j : ℕ) → j < length xs → F (getD xs j 0) → G (getD xs j 0)) → All F xs → All G xs
+all-by F G [] f a = tt
+all-by F G (x ∷ xs) f a = (f 0 (omega arith) (a .0), all-by F G xs (λ j l. f (suc j) (omega arith)) (a .1))
 
-known : (xs : List ℕ) → ((j : ℕ) → j < length xs → getD xs j 0 ≢ FF) → Pointwise Known xs xs
-known [] f = none-left
-known (x ∷ xs) f = one-more (refl, f 0 (omega arith)) (known xs (λ j l. f (suc j) (omega arith)))
+values-own : (xs : List ℕ) → FillValues xs xs
+values-own xs = fill-each xs xs refl (λ j l. inr refl)
 
-module _ (S : Shape) (c : Configuration) (o : Fits (ValueOrFF S) S c) (free : (a : Place) → Valid S c a → at c a ≢ FF) where
-  known-tagged : (xs : List Message) → ((i : ℕ) → 1 ≤ i → i ≤ length xs → (v : ℕ) → v < length (message xs i .snapshot) → getD (message xs i .snapshot) v 0 ≢ FF)
-      → Pointwise (SameTag Known) (taggedFrom S (c .memory) xs) (taggedFrom S (c .memory) xs)
-  known-tagged [] f = none-left
-  known-tagged (x ∷ xs) f = go (isLive S (c .memory) (suc (length xs))) (known-tagged xs (λ i a b. rw (message-old x xs i b) at (f i a (omega arith))))
-    where
-      go : (b : Bool) → Pointwise (SameTag Known) (taggedFrom S (c .memory) xs) (taggedFrom S (c .memory) xs)
-          → Pointwise (SameTag Known) (cond b (record { message = x; roles = roles S (c .memory) (suc (length xs)) } ∷ taggedFrom S (c .memory) xs) [])
-          (cond b (record { message = x; roles = roles S (c .memory) (suc (length xs)) } ∷ taggedFrom S (c .memory) xs) [])
-      go true q = one-more (record { roles = refl; process = refl; variable = refl; values = known (x .snapshot) (rw (message-new x xs) at (f (suc (length xs)) (omega arith) (omega arith))) }) q
-      go false q = none-left
+channel-own : (ms : List Message) → FillChannel ms ms
+channel-own [] = channel-nil
+channel-own (m ∷ ms) = channel-cons (record { process = refl; variable = refl; snapshot = values-own (m .snapshot) }) (channel-own ms)
 
-  meets-covers : (e : Configuration) → Match S alike e c → Match S fills e c
-  meets-covers e M = match-change alike fills {g = Known} (λ a b d t w. yes-fills a d (subst (Fill a) (w .0) (alike-value a b (w .1) t))) M
-      (record {
-        states = λ p a. refl;
-        queues = λ p v a b. known (c .queue p v) (λ j l. free (inQueue p v j) (a, b, l));
-        channel = known-tagged (c .memory .channel) (λ i a b v l. elim (decLt v (S .variables)) [
-          | yes d ↦ free (inMessage i v) (a, b, d)
-          | no d ↦ λ q. omega (arith, q, o .memory .messages i a b .absent v (omega arith))
-        ]);
-      })
+module _ (S : Shape) (c : Configuration) (o : Fits (ValueOrFF S) S c) (own : (a : Place) → Valid S c a → at c a ≡ FF → FF < S .values (variableOf a)) where
+  own-value : (a : Place) → Valid S c a → ValueOrFF S (variableOf a) (at c a) → ValueOf S (variableOf a) (at c a)
+  own-value a w (inl e) = subst (λ (y : ℕ). y < S .values (variableOf a)) (sym e) (own a w e)
+  own-value a w (inr l) = l
+
+  own-fits : Fits (ValueOf S) S c
+  own-fits =
+      record {
+        memory =
+            record {
+              some = o .memory .some;
+              low = o .memory .low;
+              high = o .memory .high;
+              messages = λ i a b.
+                  let m = o .memory .messages i a b in
+                  record {
+                    process = m .process;
+                    variable = m .variable;
+                    room = m .room;
+                    values = λ v ve. own-value (inMessage i v) (a, b, ve) (m .values v ve);
+                    absent = m .absent;
+                  };
+              absent = o .memory .absent;
+            };
+        queues =
+            record {
+              values = λ p v a b. all-by (ValueOrFF S v) (ValueOf S v) (c .queue p v) (λ j l. own-value (inQueue p v j) (a, b, l)) (o .queues .values p v a b);
+              absent = o .queues .absent;
+            };
+      }
+
+  own-filling : Filling S c (c .queue) (c .memory .channel)
+  own-filling = record { queues = λ p v a b. values-own (c .queue p v); channel = channel-own (c .memory .channel); fits = own-fits }
 
 -- ---- section 6 as a whole
 
@@ -246,33 +262,34 @@ module _ (S : Shape) (R : WellFormedShape S) (es : List Configuration) (oes : (k
             (matches-exact S alike (entry es (A .number)) c .1 (meets S R (entry es (A .number)) c (oes (A .number) (A .exists)) _ _ F (A .above))));
       }
 
-  -- all places of a list are the cube's, and all that have FF are in it
+  -- all places of a list are the cube's, and all that have FF are in it, or have it as a value
   record Listed (list : List Place) (c : Configuration) : Type 0 where
     valid : (a : Place) → List·Memᴰ a list → Valid S c a
-    free : (a : Place) → Valid S c a → at c a ≡ FF → List·Memᴰ a list
+    free : (a : Place) → Valid S c a → at c a ≡ FF → List·Memᴰ a list ⊎ (FF < S .values (variableOf a))
 
-  module _ (N : NoValueIsFF S) (a : Place) (rest : List Place) (rec : (c : Configuration) → Fits (ValueOrFF S) S c → Listed rest c → Decided S es c (heldAt S es rest c))
+  module _ (a : Place) (rest : List Place) (rec : (c : Configuration) → Fits (ValueOrFF S) S c → Listed rest c → Decided S es c (heldAt S es rest c))
       (c : Configuration) (o : Fits (ValueOrFF S) S c) (L : Listed (a ∷ rest) c) where
     here : Valid S c a
     here = L .valid a (List·Memᴰ·head refl)
+
+    -- a place that is another is in the rest
+    kept : (b : Place) → b ≢ a → List·Memᴰ b (a ∷ rest) ⊎ (FF < S .values (variableOf b)) → List·Memᴰ b rest ⊎ (FF < S .values (variableOf b))
+    kept b n (inl i) = ⊎-elim (λ q. absurd (n q)) (λ j. inl j) (List·Memᴰ·cases-cons i)
+    kept b n (inr l) = inr l
 
     abbrev parts : Bool
     parts = allBelow (S .values (variableOf a)) (λ x. heldAt S es rest (split c a x))
 
     part : at c a ≡ FF → (x : ℕ) → x < S .values (variableOf a) → Decided S es (split c a x) (heldAt S es rest (split c a x))
     part e x l =
-        let n : x ≢ FF = λ q. omega (arith, small a here) in
         rec (split c a x) (split-fits S c (R .variables) o a here x l)
         (record {
           valid = λ b i. valid-split S c a x b .1 (L .valid b (List·Memᴰ·tail i));
-          free = λ b w d.
-              let r = free-split S c o (R .variables) a here x n b d in
-              ⊎-elim (λ q. absurd (r .1 q)) (λ i. i) (List·Memᴰ·cases-cons (L .free b (valid-split S c a x b .0 w) (r .0)));
+          free = λ b w d. ⊎-elim
+              (λ r. inr (subst (λ (z : Place). FF < S .values (variableOf z)) (sym (r .0)) (subst (λ (y : ℕ). y < S .values (variableOf a)) (r .1) l)))
+              (λ r. kept b (r .1) (L .free b (valid-split S c a x b .0 w) (r .0)))
+              (free-split S c o (R .variables) a here x b d);
         })
-      where
-        small : (a : Place) → Valid S c a → S .values (variableOf a) ≤ FF
-        small (inQueue p v j) w = N v (w .1)
-        small (inMessage i v) w = N v (w .2)
 
     at-parts : at c a ≡ FF → (b : Bool) → parts ≡ b → Decided S es c b
     at-parts e true q = is-held (split-held S c es a here e .1 (λ x l. decided-yes (part e x l)
@@ -287,7 +304,7 @@ module _ (S : Shape) (R : WellFormedShape S) (es : List Configuration) (oes : (k
         rec c o
         (record {
           valid = λ b i. L .valid b (List·Memᴰ·tail i);
-          free = λ b w d. ⊎-elim (λ e. absurd (eqb-false (at c a) FF q (ap (at c) (sym e) ∙ d))) (λ i. i) (List·Memᴰ·cases-cons (L .free b w d));
+          free = λ b w d. kept b (λ e. eqb-false (at c a) FF q (ap (at c) (sym e) ∙ d)) (L .free b w d);
         })
 
     at-met : (b : Bool) → anyOf (λ e. matches S alike e c) es ≡ b → Decided S es c (elim b [ true ↦ elim (eqb (at c a) FF) [ true ↦ parts | false ↦ heldAt S es rest c ] | false ↦ false ])
@@ -305,18 +322,23 @@ module _ (S : Shape) (R : WellFormedShape S) (es : List Configuration) (oes : (k
 
   decide-none : (c : Configuration) → Fits (ValueOrFF S) S c → Listed [] c → (b : Bool) → anyOf (λ e. matches S fills e c) es ≡ b → Decided S es c b
   decide-none c o L true q = is-held (covered-held c (subst T (sym q) tt))
-  decide-none c o L false q = is-outside (unmet-outside c o (λ t.
-      let r = any-number (λ e. matches S alike e c) noEntry es t in
-      let M = meets-covers S c o (λ a w e. List·Memᴰ·not-nil (L .free a w e)) (entry es (r .0)) (matches-exact S alike (entry es (r .0)) c .0 (r .2)) in
-      subst T q (number-any (λ e. matches S fills e c) noEntry es (r .0) (r .1) (matches-exact S fills (entry es (r .0)) c .1 M))))
+  decide-none c o L false q =
+      let F = own-filling S c o (λ a w e. ⊎-elim (λ i. absurd (List·Memᴰ·not-nil i)) (λ l. l) (L .free a w e)) in
+      is-outside (record {
+        queues = c .queue;
+        channel = c .memory .channel;
+        filling = F;
+        outside = λ A. subst T q (number-any (λ e. matches S fills e c) noEntry es (A .number) (A .exists)
+            (matches-exact S fills (entry es (A .number)) c .1 (above-match S R (entry es (A .number)) c (oes (A .number) (A .exists)) (F .fits) .0 (A .above))));
+      })
 
-  decide : NoValueIsFF S → (list : List Place) (c : Configuration) → Fits (ValueOrFF S) S c → Listed list c → Decided S es c (heldAt S es list c)
-  decide N [] c o L = decide-none c o L (anyOf (λ e. matches S fills e c) es) refl
-  decide N (a ∷ rest) c o L = at-cover N a rest (decide N rest) c o L (anyOf (λ e. matches S fills e c) es) refl
+  decide : (list : List Place) (c : Configuration) → Fits (ValueOrFF S) S c → Listed list c → Decided S es c (heldAt S es list c)
+  decide [] c o L = decide-none c o L (anyOf (λ e. matches S fills e c) es) refl
+  decide (a ∷ rest) c o L = at-cover a rest (decide rest) c o L (anyOf (λ e. matches S fills e c) es) refl
 
-  pub held-decided : NoValueIsFF S → (c : Configuration) → Fits (ValueOrFF S) S c → Decided S es c (held S es c)
-  held-decided N c o = decide N (places S c) c o (record { valid = λ a i. valid-place S c a .0 i; free = λ a w e. valid-place S c a .1 w })
+  pub held-decided : (c : Configuration) → Fits (ValueOrFF S) S c → Decided S es c (held S es c)
+  held-decided c o = decide (places S c) c o (record { valid = λ a i. valid-place S c a .0 i; free = λ a w e. inl (valid-place S c a .1 w) })
 
   -- a cube that is an entry is held, or a filling of it in hand is outside
-  pub held-or : NoValueIsFF S → (c : Configuration) → Fits (ValueOrFF S) S c → Held S es c ⊎ Outside S es c
-  held-or N c o = ⊎-elim (λ t. inl (decided-yes (held-decided N c o) t)) (λ t. inr (decided-no (held-decided N c o) t)) (T-or-not (held S es c))
+  pub held-or : (c : Configuration) → Fits (ValueOrFF S) S c → Held S es c ⊎ Outside S es c
+  held-or c o = ⊎-elim (λ t. inl (decided-yes (held-decided c o) t)) (λ t. inr (decided-no (held-decided c o) t)) (T-or-not (held S es c))

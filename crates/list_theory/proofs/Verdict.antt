@@ -28,7 +28,7 @@ use Rattle.list_theory.proofs.Lists.{every-yes, every-no, Lowest, fails
 use Rattle.list_theory.proofs.Cubes.{entry-cube}
 use Rattle.list_theory.proofs.NoneMissing.{none-missing}
 use Rattle.list_theory.proofs.NoneExtra.{none-extra, filling-configuration}
-use Rattle.list_theory.proofs.Closed.{step-in, predecessor-of, step-cubes, closed-cubes}
+use Rattle.list_theory.proofs.Closed.{step-in, predecessor-of, cubes-step, cubes-closed}
 use Rattle.list_theory.proofs.StepOrder.{before-or, steps-order, first-fails, first-lower}
 use Rattle.list_theory.proofs.Targets.{shape-entry, shape-target, shapes-target}
 use Rattle.list_theory.proofs.Starts.{start-above, no-start-above}
@@ -119,12 +119,12 @@ module _ (P : Program) (ts : List (ℕ → ℕ)) (es : List Configuration) where
 
 -- ---- the verdict that is computed
 
-module _ (P : Program) (R : WellFormed P) (N : NoValueIsFF (P .shape)) (es : List Configuration) (oes : (k : ℕ) → k < length es → EntryOf P (entry es k)) where
+module _ (P : Program) (R : WellFormed P) (es : List Configuration) (oes : (k : ℕ) → k < length es → EntryOf P (entry es k)) where
   abbrev S : Shape
   S = P .shape
 
   decided : (c : Configuration) → EntryOf P c → Decided S es c (held S es c)
-  decided c o = held-decided S (R .shape) es (λ k l. oes k l .fits) N c (o .fits)
+  decided c o = held-decided S (R .shape) es (λ k l. oes k l .fits) c (o .fits)
 
   -- number 9
   pub target-yes : (t : ℕ → ℕ) → StatesOf P t → T (targetHeld P es t) → TargetHeld P es t
@@ -147,17 +147,17 @@ module _ (P : Program) (R : WellFormed P) (N : NoValueIsFF (P .shape)) (es : Lis
   predecessor-entry e o s d i = let r = predecessor-of P e s d i in subst (EntryOf P) (sym (r .2)) (entry-cube P R e o s (r .0) (r .1))
 
   pub closed-yes : (e : Configuration) → EntryOf P e → T (closed P es e) → Closed P es e
-  closed-yes e o y = closed-cubes P R N es e o .1 (λ s j d i.
+  closed-yes e o y = cubes-closed P R es e o (λ s j d i.
       decided-yes (decided d (predecessor-entry e o s d i)) (every-yes (held S es) (predecessors P e s) (every-yes (λ s. every (held S es) (predecessors P e s)) (steps P) y s j) d i))
 
   pub step-yes : (e : Configuration) → EntryOf P e → (s : Step) → T (every (held S es) (predecessors P e s)) → WayIn P es e s → ⊥
   step-yes e o s y w =
       w .outside
-      (step-cubes P R N es e o s .1 (λ d i. decided-yes (decided d (predecessor-entry e o s d i)) (every-yes (held S es) (predecessors P e s) y d i))
+      (cubes-step P R es e o s (λ d i. decided-yes (decided d (predecessor-entry e o s d i)) (every-yes (held S es) (predecessors P e s) y d i))
       (w .configuration) (w .of) (w .permitted) (w .above))
 
-  pub step-no : (e : Configuration) → EntryOf P e → (s : Step) → T (not (every (held S es) (predecessors P e s))) → WayIn P es e s
-  step-no e o s y =
+  pub step-no : NoValueIsFF S → (e : Configuration) → EntryOf P e → (s : Step) → T (not (every (held S es) (predecessors P e s))) → WayIn P es e s
+  step-no N e o s y =
       let q = every-no (held S es) (predecessors P e s) y in
       let p = predecessor-of P e s (q .0) (q .1) in
       let x = subst (Outside S es) (p .2) (decided-no (decided (q .0) (predecessor-entry e o s (q .0) (q .1))) (q .2)) in
@@ -174,27 +174,27 @@ module _ (P : Program) (R : WellFormed P) (N : NoValueIsFF (P .shape)) (es : Lis
   way-step : (e : Configuration) → EntryOf P e → (s : Step) → WayIn P es e s → List·Memᴰ s (steps P)
   way-step e o s w = let b = none-missing P R e (w .configuration) o (w .of) s (w .permitted) (w .above) in step-in P e s (b .kind) (b .has)
 
-  pub closed-no : (e : Configuration) → EntryOf P e → T (not (closed P es e)) → LowestWayIn P es e (openStep P es e)
-  closed-no e o y =
+  pub closed-no : NoValueIsFF S → (e : Configuration) → EntryOf P e → T (not (closed P es e)) → LowestWayIn P es e (openStep P es e)
+  closed-no N e o y =
       let test : Step → Bool = λ s. every (held S es) (predecessors P e s) in
       record {
-        way = step-no e o (openStep P es e) (first-fails test (Update 0) (steps P) y);
+        way = step-no N e o (openStep P es e) (first-fails test (Update 0) (steps P) y);
         lower = λ t l w. step-yes e o t (first-lower test (Update 0) (steps P) (steps-order P) y t (way-step e o t w) l) w;
       }
 
   module _ (ts : List (ℕ → ℕ)) (ots : (k : ℕ) → k < length ts → StatesOf P (target ts k))
       (ones : (k : ℕ) → k < length es → (q : ℕ) × (q < P .shape .processes) × (entry es k .memory .pointer q ≡ 1)) where
-    third : TargetsHeld P ts es → NoneStarted P ts es → {o : Option ℕ} → Lowest (closed P es) noEntry es o → ListJudged P ts es (elim o [ some k ↦ entered k (openStep P es (entry es k)) | none ↦ safe (length es) ])
-    third H N (fails k l t a) =
-        record { held = H; unstarted = N; exists = l; lower = λ j i. closed-yes (entry es j) (oes j (omega arith)) (a j i); way = closed-no (entry es k) (oes k l) t }
-    third H N (passes a) = (refl, safe-by-number P ts es .1 (H, N, λ k l. closed-yes (entry es k) (oes k l) (a k l)))
-
     unstarted : (k : ℕ) → k < length es → T (not (looksStarted P (entry es k))) → NoStartAbove P (entry es k)
     unstarted k l t = let q = ones k l in no-start-above P R (entry es k) (oes k l) (q .0) (q .1) (q .2) .0 (T-not (looksStarted P (entry es k)) t)
 
-    second : TargetsHeld P ts es → {o : Option ℕ} → Lowest (λ e. not (looksStarted P e)) noEntry es o
+    third : NoValueIsFF S → TargetsHeld P ts es → NoneStarted P ts es → {o : Option ℕ} → Lowest (closed P es) noEntry es o → ListJudged P ts es (elim o [ some k ↦ entered k (openStep P es (entry es k)) | none ↦ safe (length es) ])
+    third ff H N (fails k l t a) =
+        record { held = H; unstarted = N; exists = l; lower = λ j i. closed-yes (entry es j) (oes j (omega arith)) (a j i); way = closed-no ff (entry es k) (oes k l) t }
+    third ff H N (passes a) = (refl, safe-by-number P ts es .1 (H, N, λ k l. closed-yes (entry es k) (oes k l) (a k l)))
+
+    second : NoValueIsFF S → TargetsHeld P ts es → {o : Option ℕ} → Lowest (λ e. not (looksStarted P e)) noEntry es o
         → ListJudged P ts es (elim o [ some k ↦ started k | none ↦ elim (lowest (closed P es) es) [ some k ↦ entered k (openStep P es (entry es k)) | none ↦ safe (length es) ] ])
-    second H (fails k l t a) =
+    second ff H (fails k l t a) =
         let q = ones k l in
         record {
           held = H;
@@ -202,19 +202,44 @@ module _ (P : Program) (R : WellFormed P) (N : NoValueIsFF (P .shape)) (es : Lis
           lower = λ j i. unstarted j (omega arith) (a j i);
           start = start-above P R (entry es k) (oes k l) (q .0) (q .1) (q .2) .0 (T-not-not (looksStarted P (entry es k)) t);
         }
-    second H (passes a) = third H (λ k l. unstarted k l (a k l)) (lowest-is (closed P es) noEntry es)
+    second ff H (passes a) = third ff H (λ k l. unstarted k l (a k l)) (lowest-is (closed P es) noEntry es)
 
-    first : {o : Option ℕ} → Lowest (targetHeld P es) noTarget ts o
+    first : NoValueIsFF S → {o : Option ℕ} → Lowest (targetHeld P es) noTarget ts o
         → ListJudged P ts es (elim o [
           | some k ↦ unheld k
           | none ↦ elim (lowest (λ e. not (looksStarted P e)) es) [ some k ↦ started k | none ↦ elim (lowest (closed P es) es) [ some k ↦ entered k (openStep P es (entry es k)) | none ↦ safe (length es) ] ]
         ])
-    first (fails k l t a) =
+    first ff (fails k l t a) =
         record { exists = l; lower = λ j i. target-yes (target ts j) (ots j (omega arith)) (a j i); missed = target-no (target ts k) (ots k l) t }
-    first (passes a) = second (λ k l. target-yes (target ts k) (ots k l) (a k l)) (lowest-is (λ e. not (looksStarted P e)) noEntry es)
+    first ff (passes a) = second ff (λ k l. target-yes (target ts k) (ots k l) (a k l)) (lowest-is (λ e. not (looksStarted P e)) noEntry es)
 
-    pub verdict-judged : ListJudged P ts es (verdictOf P ts es)
-    verdict-judged = first (lowest-is (targetHeld P es) noTarget ts)
+    pub verdict-judged : NoValueIsFF S → ListJudged P ts es (verdictOf P ts es)
+    verdict-judged ff = first ff (lowest-is (targetHeld P es) noTarget ts)
+
+    -- ---- what is computed to be safe is safe, whatever the values are
+
+    safe-closed : TargetsHeld P ts es → NoneStarted P ts es → {o : Option ℕ} → Lowest (closed P es) noEntry es o → (n : ℕ)
+        → elim o [ some k ↦ entered k (openStep P es (entry es k)) | none ↦ safe (length es) ] ≡ safe n → SafeList P ts es
+    safe-closed H N (fails k l t a) n e = absurd (let z : _≡_ {A = ℕ} 0 1 = cc in omega arith)
+    safe-closed H N (passes a) n e = safe-by-number P ts es .1 (H, N, λ k l. closed-yes (entry es k) (oes k l) (a k l))
+
+    safe-unstarted : TargetsHeld P ts es → {o : Option ℕ} → Lowest (λ e. not (looksStarted P e)) noEntry es o → (n : ℕ)
+        → elim o [ some k ↦ started k | none ↦ elim (lowest (closed P es) es) [ some k ↦ entered k (openStep P es (entry es k)) | none ↦ safe (length es) ] ] ≡ safe n
+        → SafeList P ts es
+    safe-unstarted H (fails k l t a) n e = absurd (let z : _≡_ {A = ℕ} 0 1 = cc in omega arith)
+    safe-unstarted H (passes a) n e = safe-closed H (λ k l. unstarted k l (a k l)) (lowest-is (closed P es) noEntry es) n e
+
+    safe-held : {o : Option ℕ} → Lowest (targetHeld P es) noTarget ts o → (n : ℕ)
+        → elim o [
+          | some k ↦ unheld k
+          | none ↦ elim (lowest (λ e. not (looksStarted P e)) es) [ some k ↦ started k | none ↦ elim (lowest (closed P es) es) [ some k ↦ entered k (openStep P es (entry es k)) | none ↦ safe (length es) ] ]
+        ] ≡ safe n
+        → SafeList P ts es
+    safe-held (fails k l t a) n e = absurd (let z : _≡_ {A = ℕ} 0 1 = cc in omega arith)
+    safe-held (passes a) n e = safe-unstarted (λ k l. target-yes (target ts k) (ots k l) (a k l)) (lowest-is (λ e. not (looksStarted P e)) noEntry es) n e
+
+    pub computed-safe : (n : ℕ) → verdictOf P ts es ≡ safe n → SafeList P ts es
+    computed-safe n e = safe-held (lowest-is (targetHeld P es) noTarget ts) n e
 
 -- ---- demand 3, first sentence
 

@@ -138,7 +138,7 @@ module _ (u : reading.Input) (area : ℕ) where
 
     pub file-list-judged : lists.ListJudged P ts es (decision.verdictOf P ts es)
     file-list-judged =
-        verdict-judged P (list-range .wellFormed) (format-no-ff (list-range .shape)) es (λ k l. read .entries k l .of) ts (λ k l. read .part .targets k l) (λ k l. read .entries k l .first)
+        verdict-judged P (list-range .wellFormed) es (λ k l. read .entries k l .of) ts (λ k l. read .part .targets k l) (λ k l. read .entries k l .first) (format-no-ff (list-range .shape))
 
   file-judged : (r : reading.FileRead) → Reads r → FileJudged r (ofFile r) × ((v : Verdict) → FileJudged r v → v ≡ ofFile r)
   file-judged (reading.refused w₀ r) q = (refl, λ v e. e)
