@@ -6,6 +6,7 @@ pub mod evidence;
 pub mod lexer;
 pub mod listing;
 pub mod registers;
+pub mod sources;
 
 use crate::contents::{Operation, Program, STATES};
 use std::fmt;
