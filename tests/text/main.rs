@@ -370,7 +370,7 @@ fn main() {
         }
         Some("fuzz") => {
             let mut r = Random(number(1) as u64);
-            let files: Vec<Vec<u8>> = words[3..].iter().map(read).filter(|file| file.len() < 20_000).collect();
+            let files: Vec<Vec<u8>> = words[3..].iter().map(read).filter(|file| file.len() < 1_500).collect();
             let mut taken = 0;
             for count in 0..number(2) {
                 let other = r.below(files.len());
