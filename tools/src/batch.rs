@@ -5,14 +5,24 @@ use std::io::{self, IsTerminal, Write};
 use std::sync::{Condvar, Mutex, MutexGuard, PoisonError};
 use std::time::{Duration, Instant};
 
-struct State<A, T> {
+struct State<A> {
     /// The next job to be begun, and the next whose answer is to be taken.
     next: usize,
     taken: usize,
     /// Answers from `taken` on.
     ready: VecDeque<Option<A>>,
-    take: T,
+    /// Is a thread taking answers? Threads that are too far ahead of it wait.
+    taking: bool,
+    waiting: usize,
     end: Result<(), i32>,
+}
+
+impl<A> State<A> {
+    fn next_ready(&mut self) -> Option<A> {
+        self.ready.front().filter(|answer| answer.is_some())?;
+        self.taken += 1;
+        self.ready.pop_front().flatten()
+    }
 }
 
 fn lock<S>(mutex: &Mutex<S>) -> MutexGuard<'_, S> {
@@ -29,14 +39,17 @@ where
 {
     // No thread gets so far ahead that answers pile up behind a slow file.
     let ahead = 64 * threads;
-    let state = Mutex::new(State { next: 0, taken: 0, ready: VecDeque::new(), take, end: Ok(()) });
+    let state = Mutex::new(State { next: 0, taken: 0, ready: VecDeque::new(), taking: false, waiting: 0, end: Ok(()) });
+    let take = Mutex::new(take);
     let moved = Condvar::new();
     let worker = || {
         let mut room = room();
         let mut guard = lock(&state);
         loop {
             while guard.next >= guard.taken + ahead && guard.end.is_ok() {
+                guard.waiting += 1;
                 guard = moved.wait(guard).unwrap_or_else(PoisonError::into_inner);
+                guard.waiting -= 1;
             }
             let number = guard.next;
             let Some(job) = jobs.get(number).filter(|_| guard.end.is_ok()) else { return };
@@ -47,17 +60,23 @@ where
             guard = lock(&state);
             let at = number - guard.taken;
             guard.ready[at] = Some(answer);
-            if at == 0 {
-                let State { taken, ready, take, end, .. } = &mut *guard;
-                while let Some(Some(_)) = ready.front() {
-                    let answer = ready.pop_front().flatten();
-                    *taken += 1;
-                    if end.is_ok() {
-                        *end = answer.map_or(Ok(()), &mut *take);
-                    }
-                }
-                moved.notify_all();
+            if guard.taking {
+                continue;
             }
+            // Whoever finds an answer that is due takes all that are, while the others go on.
+            guard.taking = true;
+            while let Some(answer) = guard.next_ready() {
+                if guard.waiting > 0 {
+                    moved.notify_all();
+                }
+                if guard.end.is_ok() {
+                    drop(guard);
+                    let end = lock(&take)(answer);
+                    guard = lock(&state);
+                    guard.end = guard.end.and(end);
+                }
+            }
+            guard.taking = false;
         }
     };
     std::thread::scope(|scope| {

@@ -2,7 +2,7 @@
 //! only if the file did not change while it was made.
 
 use std::ffi::OsStr;
-use std::fs::{File, FileType};
+use std::fs::{File, FileType, Metadata};
 use std::io::{self, Read, Seek};
 use std::os::fd::AsFd;
 use std::os::unix::ffi::OsStrExt;
@@ -14,8 +14,10 @@ use std::time::{Duration, SystemTime, UNIX_EPOCH};
 /// 4,096 targets 22,549.
 pub const MOST: usize = 332_000_000;
 
-/// The kernel's clock for files ticks in up to 10 ms: two changes within a tick have the same time.
+/// The kernel's clock for files ticks in up to 10 ms, and some file systems keep whole seconds, or every second one: two changes within a tick have
+/// the same time.
 const TICK: Duration = Duration::from_millis(20);
+const COARSE_TICK: Duration = Duration::from_millis(2_100);
 
 /// What tells a file that was written to from one that was not.
 #[derive(PartialEq)]
@@ -26,9 +28,8 @@ struct Stamp {
 }
 
 impl Stamp {
-    fn of(file: &File) -> io::Result<Stamp> {
-        let about = file.metadata()?;
-        Ok(Stamp { size: about.size(), modified: (about.mtime(), about.mtime_nsec()), changed: (about.ctime(), about.ctime_nsec()) })
+    fn of(about: &Metadata) -> Stamp {
+        Stamp { size: about.size(), modified: (about.mtime(), about.mtime_nsec()), changed: (about.ctime(), about.ctime_nsec()) }
     }
 
     /// Could a change now leave the times as they are?
@@ -36,29 +37,31 @@ impl Stamp {
         let Ok(now) = SystemTime::now().duration_since(UNIX_EPOCH) else { return false };
         let (seconds, nanoseconds) = self.modified.max(self.changed);
         let then = i128::from(seconds) * 1_000_000_000 + i128::from(nanoseconds);
-        (now.as_nanos() as i128 - then).unsigned_abs() < TICK.as_nanos()
+        let tick = if nanoseconds == 0 { COARSE_TICK } else { TICK };
+        (now.as_nanos() as i128 - then).unsigned_abs() < tick.as_nanos()
     }
 }
 
 /// All bytes of a file, of a pipe, or, for `-`, of standard input; or what went wrong.
 pub fn read(name: &OsStr) -> Result<Vec<u8>, String> {
-    let open = || -> io::Result<File> {
-        if is_standard_input(name) {
-            Ok(File::from(io::stdin().as_fd().try_clone_to_owned()?))
-        } else {
-            File::open(name)
-        }
+    let open = || -> io::Result<(File, Metadata)> {
+        let file = match is_standard_input(name) {
+            true => File::from(io::stdin().as_fd().try_clone_to_owned()?),
+            false => File::open(name)?,
+        };
+        let about = file.metadata()?;
+        Ok((file, about))
     };
-    let file = open().map_err(|error| in_words(&error))?;
-    let about = file.metadata().map_err(|error| in_words(&error))?;
+    let (mut file, about) = open().map_err(|error| in_words(&error))?;
     if about.is_dir() {
         return Err("Is a directory".to_string());
     }
-    if about.is_file() {
-        read_regular(file)
-    } else {
-        read_stream(file)
+    if !about.is_file() {
+        return read_stream(file);
     }
+    // Somebody may have read a part of standard input already.
+    let start = if is_standard_input(name) { file.stream_position().map_err(|error| in_words(&error))? } else { 0 };
+    read_regular(&file, start, Stamp::of(&about))
 }
 
 pub fn is_standard_input(name: &OsStr) -> bool {
@@ -86,10 +89,8 @@ fn read_stream(mut file: File) -> Result<Vec<u8>, String> {
 
 /// A file that was written to a moment ago is left alone until the clock has gone on: from then on a write shows in the file's times. And each byte is
 /// read twice, and the two passes must agree, for a writer that maps the file, which shows in its times only now and then.
-fn read_regular(mut file: File) -> Result<Vec<u8>, String> {
-    let start = file.stream_position().map_err(|error| in_words(&error))?;
-    let stamp = || Stamp::of(&file).map_err(|error| in_words(&error));
-    let before = stamp()?;
+fn read_regular(file: &File, start: u64, before: Stamp) -> Result<Vec<u8>, String> {
+    let stamp = || file.metadata().map(|about| Stamp::of(&about)).map_err(|error| in_words(&error));
     while before.is_fresh() {
         std::thread::sleep(TICK);
         if stamp()? != before {
@@ -104,13 +105,13 @@ fn read_regular(mut file: File) -> Result<Vec<u8>, String> {
     let mut bytes = Vec::new();
     loop {
         let from = more_room(&mut bytes, guess)?;
-        let n = read_at(&file, bytes.get_mut(from..).unwrap_or(&mut []), start + from as u64)?;
+        let n = read_at(file, bytes.get_mut(from..).unwrap_or(&mut []), start + from as u64)?;
         bytes.truncate(from + n);
         if n == 0 || guess > 0 && bytes.len() == guess {
             break;
         }
     }
-    let same = same_again(&file, start, &bytes)?;
+    let same = same_again(file, start, &bytes)?;
     if !same || stamp()? != before {
         return Err(changed());
     }

@@ -173,8 +173,8 @@ fn draw(options: &Options, file: &[u8], output: &mut Output) -> Result<i32, i32>
         return Err(2);
     };
     if v.about_records() {
-        let in_program = program.is_some() && v.record_file == library::PROGRAM_FILE;
-        let drawn = if in_program { " in its program file".to_string() } else { String::new() };
+        let in_program = options.program.as_ref().filter(|_| v.record_file == library::PROGRAM_FILE);
+        let drawn = in_program.map_or(String::new(), |program| format!(" in {}", quoted(program.as_bytes())));
         return Err(refused(Refused { number: v.first, place: v.second, drawn, why: explain::why(lent, v) }));
     }
     let (taken, drawn) = match (v.is_refused(), v.first) {

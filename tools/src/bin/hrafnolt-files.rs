@@ -16,6 +16,7 @@ use hrafnolt_tools::words;
 use std::collections::HashMap;
 use std::ffi::{OsStr, OsString};
 use std::os::unix::ffi::{OsStrExt, OsStringExt};
+use std::panic::AssertUnwindSafe;
 use std::process::exit;
 use std::sync::Arc;
 use std::time::{Duration, Instant};
@@ -114,7 +115,13 @@ impl Options {
         Answer { lines, errors: format!("{}: {what}\n", quoted(of.as_bytes())), verdict: None }
     }
 
+    /// A fault of this program is an error of the file that it happens on, and of no other.
     fn answer(&self, room: &mut Room, job: &Job) -> Answer {
+        let answer = std::panic::catch_unwind(AssertUnwindSafe(|| self.judged(room, job)));
+        answer.unwrap_or_else(|_| self.failed(job, &job.name, "a fault in hrafnolt-files, and no verdict"))
+    }
+
+    fn judged(&self, room: &mut Room, job: &Job) -> Answer {
         if let Some(what) = &job.problem {
             return self.failed(job, &job.name, what);
         }
@@ -135,9 +142,7 @@ impl Options {
         match verdict {
             Ok(verdict) => self.show(job, lent, verdict),
             Err(Failed::Other(what)) => self.failed(job, &job.name, &what),
-            Err(Failed::Late) => {
-                self.failed(job, &job.name, &format!("no verdict within {} seconds", self.timeout.unwrap_or_default().as_secs()))
-            }
+            Err(Failed::Late) => self.failed(job, &job.name, &format!("no verdict within {}", self.limit())),
         }
     }
 
@@ -183,9 +188,16 @@ impl Options {
         answer
     }
 
+    fn limit(&self) -> String {
+        match self.timeout.unwrap_or_default().as_secs() {
+            1 => "a second".to_string(),
+            seconds => format!("{seconds} seconds"),
+        }
+    }
+
     fn why_not(&self, stop: Stop) -> String {
         match stop {
-            Stop::Late => format!("no configuration that it lacks was found within {} seconds", self.timeout.unwrap_or_default().as_secs()),
+            Stop::Late => format!("no configuration that it lacks was found within {}", self.limit()),
             Stop::NoMemory => "no memory to look for what it lacks".to_string(),
             Stop::Unread => "what it lacks can't be looked for: its bytes are not as the judge read them".to_string(),
         }
@@ -287,10 +299,10 @@ fn jobs(options: &Options) -> Result<Vec<Job>, i32> {
             Some(Arc::new(Program { name: name.clone(), bytes: Ok(bytes) }))
         }
     };
-    let mut jobs = Vec::new();
-    for name in &options.files {
+    let mut jobs = Vec::with_capacity(options.files.len());
+    for (name, is_folder) in options.files.iter().zip(folders(options)?) {
         let mut add = |name: OsString, problem: Option<String>| jobs.push(Job { program: program.clone(), name, problem });
-        if input::is_standard_input(name) || !std::path::Path::new(name).is_dir() {
+        if !is_folder {
             add(name.clone(), None);
             continue;
         }
@@ -303,6 +315,24 @@ fn jobs(options: &Options) -> Result<Vec<Job>, i32> {
         }
     }
     Ok(jobs)
+}
+
+/// Which names are folders. Each takes a call, so they are shared out too.
+fn folders(options: &Options) -> Result<Vec<bool>, i32> {
+    let is_folder = |name: &OsString| !input::is_standard_input(name) && std::path::Path::new(name).is_dir();
+    let parts: Vec<&[OsString]> = options.files.chunks(256).collect();
+    let mut all = Vec::with_capacity(options.files.len());
+    batch::run(
+        &parts,
+        options.threads.min(parts.len()),
+        || (),
+        |_, part| part.iter().map(is_folder).collect::<Vec<bool>>(),
+        |part| {
+            all.extend(part);
+            Ok(())
+        },
+    )?;
+    Ok(all)
 }
 
 /// Each line has a program file, a tab and an evidence file; or each name has a NUL byte behind it. A program file is read once.
