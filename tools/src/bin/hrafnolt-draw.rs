@@ -1,6 +1,6 @@
 //! hrafnolt-draw: a run as a picture, in SVG (man/hrafnolt-draw.1).
-//! Exit status: 0 if the run is accepted, 1 if it is drawn and not accepted or there is none, 2 if a file can't be read or written, or the options are
-//! wrong.
+//! Exit status: 0 if the run is accepted, 1 if it is drawn and not accepted or there is none, 2 if a file can't be read
+//! or written, or the options are wrong.
 
 use hrafnolt_tools::input::in_words;
 use hrafnolt_tools::names::quoted;
@@ -52,12 +52,17 @@ struct Options {
 
 fn read_options() -> Result<Options, i32> {
     let misuse = |what: &str| misused(NAME, what, USAGE);
-    let (mut given, mut output, mut title, mut width, mut files) = (Given::default(), None, None, picture::WIDTH, Vec::new());
+    let (mut given, mut output, mut title, mut width, mut files) =
+        (Given::default(), None, None, picture::WIDTH, Vec::new());
     for word in options::read(&CHOICES, std::env::args_os().skip(1)).map_err(|what| misuse(&what))? {
         match word {
             Word::File(name) => files.push(name),
-            Word::Option("help", _) => return Err(print_and_end(&format!("{USAGE}{ABOUT}{}{STATUS}", options::help(&CHOICES)))),
-            Word::Option("version", _) => return Err(print_and_end(&format!("{NAME} {}\n", hrafnolt_tools::version()))),
+            Word::Option("help", _) => {
+                return Err(print_and_end(&format!("{USAGE}{ABOUT}{}{STATUS}", options::help(&CHOICES))))
+            }
+            Word::Option("version", _) => {
+                return Err(print_and_end(&format!("{NAME} {}\n", hrafnolt_tools::version())))
+            }
             Word::Option("output", value) => output = Some(value),
             Word::Option("title", value) => title = Some(value.to_string_lossy().into_owned()),
             Word::Option("width", value) => {
@@ -83,7 +88,10 @@ fn drawn(options: &Options) -> Result<(String, i32), Failure> {
     }
     let runs = loaded.contents.runs(loaded.program.as_ref());
     let Some((mark, program, run)) = runs.first() else { return Err((1, format!("{name}: holds no run"))) };
-    let file = Path::new(&options.file).file_name().filter(|_| options.file != "-").map(|name| name.to_string_lossy().into_owned());
+    let file = Path::new(&options.file)
+        .file_name()
+        .filter(|_| options.file != "-")
+        .map(|name| name.to_string_lossy().into_owned());
     let mut title = options.title.clone().or(file).unwrap_or_default();
     if let Some(mark) = mark {
         title.push_str(&format!(" with the fence t{mark} as a nop"));

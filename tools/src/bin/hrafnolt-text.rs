@@ -1,6 +1,6 @@
 //! hrafnolt-text: programs and evidence in words, and back; runs step by step (man/hrafnolt-text.1).
-//! Exit status: 0 if it was written, 1 if the text or the file is wrong or its run is not accepted, 2 if a file can't be read or written, or the options
-//! are wrong.
+//! Exit status: 0 if it was written, 1 if the text or the file is wrong or its run is not accepted, 2 if a file can't
+//! be read or written, or the options are wrong.
 
 use hrafnolt_tools::input::in_words;
 use hrafnolt_tools::names::quoted;
@@ -56,8 +56,12 @@ fn read_options() -> Result<Options, i32> {
     for word in options::read(&CHOICES, std::env::args_os().skip(1)).map_err(|what| misuse(&what))? {
         match word {
             Word::File(name) => files.push(name),
-            Word::Option("help", _) => return Err(print_and_end(&format!("{USAGE}{ABOUT}{}{STATUS}", options::help(&CHOICES)))),
-            Word::Option("version", _) => return Err(print_and_end(&format!("{NAME} {}\n", hrafnolt_tools::version()))),
+            Word::Option("help", _) => {
+                return Err(print_and_end(&format!("{USAGE}{ABOUT}{}{STATUS}", options::help(&CHOICES))))
+            }
+            Word::Option("version", _) => {
+                return Err(print_and_end(&format!("{NAME} {}\n", hrafnolt_tools::version())))
+            }
             Word::Option("letters", _) => by_letter = true,
             Word::Option("output", value) => output = Some(value),
             Word::Option("expand", _) => given.expand = true,
@@ -102,7 +106,11 @@ fn made(options: &Options) -> Result<(Vec<u8>, i32), Failure> {
         if let Some(mark) = mark {
             text.push_str(&format!("with the fence t{mark} as a nop:\n"));
         }
-        let told = if options.command == "trace" { trace::lines(&program, &loaded.names, run) } else { trace::steps(&program, &loaded.names, run) };
+        let told = if options.command == "trace" {
+            trace::lines(&program, &loaded.names, run)
+        } else {
+            trace::steps(&program, &loaded.names, run)
+        };
         told.lines.iter().for_each(|line| text.extend([line, "\n"]));
         accepted &= told.accepted;
     }

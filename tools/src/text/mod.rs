@@ -1,10 +1,13 @@
-//! Programs and evidence in words: `assemble` takes a text to what a file holds, `listing` takes that back to a text, and `registers` writes the program
-//! without registers (N8). The notation is that of hrafnolt-text(1).
+//! Programs and evidence in words: `assemble` takes a text to what a file holds, `listing` takes that back to a text,
+//! and `registers` writes the program without registers (N8). The notation is that of hrafnolt-text(1).
 
 pub mod assemble;
 pub mod evidence;
+pub mod fences;
 pub mod lexer;
 pub mod listing;
+pub mod operations;
+mod patterns;
 pub mod registers;
 pub mod sources;
 
@@ -48,19 +51,22 @@ const MADE_UP: [&str; 4] = ["x", "y", "z", "w"];
 impl Names {
     /// p0, p1 ..; x, y, z, w; q0, q1 ..; r.
     pub fn made_up(program: Option<&Program>) -> Names {
-        let (processes, variables, states) = program.map_or((4, 4, [STATES; 4]), |p| (p.processes, p.variables, p.states));
+        let (processes, variables, states) =
+            program.map_or((4, 4, [STATES; 4]), |p| (p.processes, p.variables, p.states));
         let state = |s| StateName { name: format!("q{s}"), labelled: true };
         Names {
             processes: (0..processes).map(|p| format!("p{p}")).collect(),
             variables: MADE_UP.iter().take(variables).map(|name| name.to_string()).collect(),
-            registers: (0..processes).map(|p| program.filter(|program| program.has_register(p)).map(|_| String::from("r"))).collect(),
+            registers: (0..processes)
+                .map(|p| program.filter(|program| program.has_register(p)).map(|_| String::from("r")))
+                .collect(),
             states: states.iter().take(processes).map(|count| (0..*count).map(state).collect()).collect(),
             memory: None,
         }
     }
 
-    /// These names as far as the program has what they name, and names made up for the rest. If a process has another number of states than the
-    /// text's, the text's states are others.
+    /// These names as far as the program has what they name, and names made up for the rest. If a process has another
+    /// number of states than the text's, the text's states are others.
     pub fn for_program(&self, program: &Program) -> Names {
         let mut names = Names::made_up(Some(program));
         if self.processes.len() == program.processes {
@@ -126,7 +132,8 @@ impl Names {
 
     /// `module at open, page at wait`.
     pub fn places(&self, states: &[u8; 4]) -> String {
-        let one = |(p, name): (usize, &String)| format!("{name} at {}", self.state(p, states.get(p).copied().unwrap_or(0)));
+        let one =
+            |(p, name): (usize, &String)| format!("{name} at {}", self.state(p, states.get(p).copied().unwrap_or(0)));
         self.processes.iter().enumerate().map(one).collect::<Vec<_>>().join(", ")
     }
 }

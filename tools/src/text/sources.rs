@@ -1,6 +1,8 @@
-//! What the programs of words and pictures are given: a file or a text, maybe a program for its evidence, and maybe names. What fails is an exit status and a line.
+//! What the programs of words and pictures are given: a file or a text, maybe a program for its evidence, and maybe
+//! names. What fails is an exit status and a line.
 
-use super::assemble::{assemble, Assembled, Choice};
+use super::assemble::{assemble, Assembled};
+use super::fences::Choice;
 use super::{registers, Names};
 use crate::contents::{self, Contents, Program};
 use crate::input;
@@ -12,10 +14,15 @@ use std::os::unix::ffi::OsStrExt;
 pub type Failure = (i32, String);
 
 /// The options that these programs share.
-pub const FENCE: options::Choice =
-    options::choice('f', "fence", "PLACE=FENCE", "what stands at a place for a fence: out, nop, sfence or mfence\n(PROCESS.PLACE for one process)");
+pub const FENCE: options::Choice = options::choice(
+    'f',
+    "fence",
+    "PLACE=FENCE",
+    "what stands at a place for a fence: out, nop, sfence or mfence\n(PROCESS.PLACE for one process)",
+);
 pub const NAMES: options::Choice = options::choice('n', "names", "TEXT", "take the names from this text");
-pub const PROGRAM: options::Choice = options::choice('p', "program", "PROGRAM", "the program of evidence alone, a file or a text");
+pub const PROGRAM: options::Choice =
+    options::choice('p', "program", "PROGRAM", "the program of evidence alone, a file or a text");
 
 #[derive(Default)]
 pub struct Given {
@@ -61,10 +68,14 @@ impl Given {
         match name {
             "fence" => {
                 let choice = value.to_str().and_then(Choice::parse);
-                self.choices.push(choice.ok_or_else(|| format!("--fence {}: it is PLACE=out, nop, sfence or mfence", quoted(value.as_bytes())))?);
+                self.choices.push(choice.ok_or_else(|| {
+                    format!("--fence {}: it is PLACE=out, nop, sfence or mfence", quoted(value.as_bytes()))
+                })?);
             }
             "names" => self.names = Some(value.to_os_string()),
-            "program" if self.program.is_some() => return Err(String::from("there is one program, and -p was given twice")),
+            "program" if self.program.is_some() => {
+                return Err(String::from("there is one program, and -p was given twice"))
+            }
             "program" => self.program = Some(value.to_os_string()),
             _ => return Ok(false),
         }
@@ -72,7 +83,8 @@ impl Given {
     }
 
     fn assembled(&self, name: &OsStr, text: &[u8], given: Option<(&Program, &Names)>) -> Result<Assembled, Failure> {
-        assemble(text, &self.choices, given).map_err(|complaint| (1, format!("{}:{complaint}", quoted(name.as_bytes()))))
+        assemble(text, &self.choices, given)
+            .map_err(|complaint| (1, format!("{}:{complaint}", quoted(name.as_bytes()))))
     }
 
     /// The program that was given, without registers, since evidence is for that one, and its names.
@@ -101,7 +113,8 @@ impl Given {
             let text = self.assembled(name, &bytes, program.as_ref().map(|(program, names)| (program, names)))?;
             (text.contents, text.contents_names)
         } else {
-            let contents = contents::read(&bytes, program.as_ref().map(|p| &p.0)).map_err(|fault| failed(name, fault))?;
+            let contents =
+                contents::read(&bytes, program.as_ref().map(|p| &p.0)).map_err(|fault| failed(name, fault))?;
             let names = match (&contents.program, &program) {
                 (None, Some((_, names))) => names.clone(),
                 (own, _) => Names::made_up(own.as_ref()),
