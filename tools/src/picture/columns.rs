@@ -67,7 +67,7 @@ impl Picture<'_> {
         }
         if let Some(change) = self.change_in(number) {
             crosses(change.variable);
-            needs[8] = needs[8].max(5.0 + length(&format!("#{}", change.message)) * 5.5);
+            needs[8] = needs[8].max(8.0 + length(&format!("#{}", change.message)) * 5.5);
             needs[4 + change.variable.min(3) as usize] = self.change_half(change);
         }
         needs

@@ -403,7 +403,7 @@ impl Picture<'_> {
             self.svg.text(x, y + 4.0, &text, &format!("text-anchor=\"middle\" fill=\"{strong}\""));
             if self.story.machine == Machine::Pws {
                 let style = format!("font-size=\"9\" text-anchor=\"end\" fill=\"{}\"", GREY.0);
-                self.svg.text(x - 5.0, memory - 4.0, &format!("#{}", change.message), &style);
+                self.svg.text(x - 8.0, memory - 4.0, &format!("#{}", change.message), &style);
             }
         }
         let text = cut(&column.text, MOST_LETTERS);

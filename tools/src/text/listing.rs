@@ -189,39 +189,45 @@ fn program_text(out: &mut String, program: &Program, names: &Names, mut named: N
 /// Targets as lines: those that follow each other and differ only in that a process is in each of its states are one
 /// line that does not name it; of these, targets that there are already may be missing.
 fn groups(program: &Program) -> Vec<([bool; 4], [u8; 4])> {
-    let free_sets: Vec<usize> = {
-        let several = |set: usize| (0..4).all(|p| set >> p & 1 == 0 || p < program.processes && program.states[p] > 1);
-        let size =
-            |set: usize| (0..4).filter(|p| set >> p & 1 == 1).map(|p| program.states[p] as usize).product::<usize>();
-        let mut sets: Vec<usize> =
-            (1..16).filter(|set| several(*set) && set.count_ones() < program.processes as u32).collect();
-        sets.sort_by_key(|set| (std::cmp::Reverse(size(*set)), *set));
-        sets
-    };
+    // The processes that a line may leave out, most targets first.
+    let states = |p: usize| program.states.get(p).copied().unwrap_or(1);
+    let mut free_sets: Vec<(usize, Vec<usize>)> = (1usize..16)
+        .map(|set| (0..4).filter(|p| set >> p & 1 == 1).collect::<Vec<usize>>())
+        .filter(|free| free.len() < program.processes && free.iter().all(|p| *p < program.processes && states(*p) > 1))
+        .map(|free| (free.iter().map(|p| states(*p) as usize).product(), free))
+        .filter(|(size, _)| *size <= program.targets.len())
+        .collect();
+    free_sets.sort_by(|a, b| b.0.cmp(&a.0).then_with(|| a.1.cmp(&b.1)));
     let mut groups = Vec::new();
     let mut rest = &program.targets[..];
     let mut known: HashSet<[u8; 4]> = HashSet::new();
     while let Some(first) = rest.first() {
-        let fits = |set: usize| {
-            let mut expanded = vec![*first];
-            for p in (0..program.processes).filter(|p| set >> p & 1 == 1) {
-                let with = |target: &[u8; 4], state: u8| {
-                    let mut next = *target;
-                    next[p] = state;
-                    next
-                };
-                expanded = expanded
-                    .iter()
-                    .flat_map(|target| (0..program.states[p]).map(move |state| with(target, state)))
-                    .collect();
+        // How many of the next targets are those of a line that leaves these processes out.
+        let fits = |free: &[usize]| {
+            let mut target = *first;
+            free.iter().for_each(|p| target[*p] = 0);
+            let mut length = 0;
+            loop {
+                if !known.contains(&target) {
+                    if rest.get(length) != Some(&target) {
+                        return None;
+                    }
+                    length += 1;
+                }
+                // The next one: the last process changes fastest.
+                let next = free.iter().rev().find(|p| {
+                    target[**p] = (target[**p] + 1) % states(**p);
+                    target[**p] != 0
+                });
+                if next.is_none() {
+                    return (length > 0).then_some(length);
+                }
             }
-            expanded.retain(|target| !known.contains(target));
-            (!expanded.is_empty() && rest.starts_with(&expanded)).then_some(expanded.len())
         };
-        let found = free_sets.iter().find_map(|set| fits(*set).map(|length| (*set, length)));
-        let (set, length) = found.unwrap_or((0, 1));
+        let found = free_sets.iter().find_map(|(_, free)| fits(free).map(|length| (&free[..], length)));
+        let (free, length) = found.unwrap_or((&[], 1));
         let mut named = [false; 4];
-        (0..program.processes).for_each(|p| named[p] = set >> p & 1 == 0);
+        (0..program.processes).for_each(|p| named[p] = !free.contains(&p));
         groups.push((named, *first));
         known.extend(&rest[..length]);
         rest = &rest[length..];

@@ -75,15 +75,20 @@ impl Names {
                 if let Some(states) = self.states.get(p).filter(|states| states.len() == program.states[p] as usize) {
                     names.states[p] = states.clone();
                 }
-                if let (Some(named), Some(place)) = (self.registers.get(p), names.registers.get_mut(p)) {
-                    *place = named.clone().or(place.take());
-                }
             }
         }
         if self.variables.len() == program.variables {
             names.variables = self.variables.clone();
             let in_range = |memory: &[u8; 4]| (0..program.variables).all(|v| memory[v] < program.values[v]);
             names.memory = self.memory.filter(in_range);
+        }
+        // No register has a variable's name.
+        for p in 0..if program.registers { program.processes } else { 0 } {
+            let mut name = self.registers.get(p).and_then(Option::clone).unwrap_or_else(|| String::from("r"));
+            while names.variables.contains(&name) {
+                name.push('_');
+            }
+            names.registers[p] = Some(name);
         }
         names
     }
