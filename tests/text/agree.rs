@@ -1,5 +1,6 @@
-//! agree SEED COUNT FILE..: of damaged files, and of each cut at its claim, the reading for words gives the numbers 1 to 7 and the places of the separate judge, and
-//! the two machines stop a run where it does. (Of targets the separate judge may allow fewer: such files are passed over.)
+//! agree SEED COUNT FILE..: of damaged files, and of each cut at its claim, the reading for words gives the numbers 1
+//! to 7 and the places of the separate judge, and the two machines stop a run where it does. (Of targets the separate
+//! judge may allow fewer: such files are passed over.)
 
 use hrafnolt_tools::contents::{self, Evidence, Fault, Program};
 use hrafnolt_tools::text::Names;
@@ -26,7 +27,11 @@ fn line(read: Result<(Program, Evidence), Fault>) -> Option<String> {
             let last = told.lines.last().cloned().unwrap_or_default();
             let target = last.rsplit(' ').next().unwrap_or("");
             let kind = if run.machine == contents::Machine::Pws { "reachable" } else { "pso" };
-            Some(if told.accepted { format!("{kind} {} {target}", run.steps.len()) } else { last.split(':').next().unwrap_or("").to_string() })
+            Some(if told.accepted {
+                format!("{kind} {} {target}", run.steps.len())
+            } else {
+                last.split(':').next().unwrap_or("").to_string()
+            })
         }
         Ok(_) => None,
     }
@@ -38,7 +43,10 @@ fn compare(name: &str, lent: Lent, file: &[u8], mine: Option<String>) -> bool {
         Ok((program, reference::Evidence::Run(run))) => reference::replay(&program, &run).to_string(),
         Ok(_) => return mine.is_none() || fail(format!("{name}: a list, read as {mine:?}")),
     };
-    let of_targets = theirs.strip_prefix("refused 5 ").and_then(|place| place.parse::<usize>().ok()).is_some_and(|place| file.get(place) == Some(&4));
+    let of_targets = theirs
+        .strip_prefix("refused 5 ")
+        .and_then(|place| place.parse::<usize>().ok())
+        .is_some_and(|place| file.get(place) == Some(&4));
     match mine {
         Some(mine) if mine == theirs => true,
         _ if of_targets => false,
@@ -60,7 +68,13 @@ fn main() {
             match next(&mut state) % 6 {
                 0 => file.truncate(at),
                 1 => drop(file.drain(at..(at + 1 + next(&mut state) % 8).min(file.len()))),
-                2 => file.splice(at..at, [[1, 2, 3, 4, 0x0f, 0x10, 0x11, 0x12, 0x1f, 0x20, 0x21, 0x22, 5, 0x13, 0x30, 7][next(&mut state) % 16]]).for_each(drop),
+                2 => file
+                    .splice(
+                        at..at,
+                        [[1, 2, 3, 4, 0x0f, 0x10, 0x11, 0x12, 0x1f, 0x20, 0x21, 0x22, 5, 0x13, 0x30, 7]
+                            [next(&mut state) % 16]],
+                    )
+                    .for_each(drop),
                 3 => {
                     let part = file[at..(at + 20).min(file.len())].to_vec();
                     file.extend(part);

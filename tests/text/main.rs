@@ -1,5 +1,6 @@
-//! Text and bytes, back and forth: `round FILE..` for files, `pair PROGRAM EVIDENCE` for two, `random SEED COUNT` for random ones of every kind, `fuzz SEED COUNT FILE..` for
-//! damaged ones; and `walk SEED PROCESSES VARIABLES STEPS pws|pso` makes a file with a random run. Ends in status 1 with a line if something does not come back.
+//! Text and bytes, back and forth: `round FILE..` for files, `pair PROGRAM EVIDENCE` for two, `random SEED COUNT` for
+//! random ones of every kind, `fuzz SEED COUNT FILE..` for damaged ones; and `walk SEED PROCESSES VARIABLES STEPS
+//! pws|pso` makes a file with a random run. Ends in status 1 with a line if something does not come back.
 
 use hrafnolt_tools::contents::{
     self, Clue, Contents, Entry, Evidence, Item, Machine, Message, Operation, Pattern, Program, Run, Step, Transition,
@@ -43,7 +44,8 @@ fn text_again(name: &str, text: &str, given: Option<(&Program, &Names)>) -> Asse
     assembled
 }
 
-/// Bytes that were read: they come back from their text, by name and by letter, and their runs can be told and drawn. `names` are made up.
+/// Bytes that were read: they come back from their text, by name and by letter, and their runs can be told and drawn.
+/// `names` are made up.
 fn bytes_again(name: &str, bytes: &[u8], contents: &Contents, given: Option<&Program>) {
     if contents.bytes() != bytes {
         fail(format!("{name}: what was read is written otherwise"));
@@ -106,9 +108,11 @@ fn damaged(r: &mut Random, from: &[u8], other: &[u8]) -> Vec<u8> {
             9..=11 => {
                 // A word, or a number, by another one of the file.
                 let word = |b: &u8| b.is_ascii_alphanumeric() || *b == b'_';
-                let starts: Vec<usize> = (0..out.len()).filter(|i| word(&out[*i]) && (*i == 0 || !word(&out[i - 1]))).collect();
+                let starts: Vec<usize> =
+                    (0..out.len()).filter(|i| word(&out[*i]) && (*i == 0 || !word(&out[i - 1]))).collect();
                 if starts.len() > 1 {
-                    let end = |start: usize| out[start..].iter().position(|b| !word(b)).map_or(out.len(), |n| start + n);
+                    let end =
+                        |start: usize| out[start..].iter().position(|b| !word(b)).map_or(out.len(), |n| start + n);
                     let (to, from) = (starts[r.below(starts.len())], starts[r.below(starts.len())]);
                     let (range, taken) = (to..end(to), out[from..end(from)].to_vec());
                     out.splice(range, taken);
@@ -128,7 +132,20 @@ fn damaged(r: &mut Random, from: &[u8], other: &[u8]) -> Vec<u8> {
                 out.splice(at..at, other[from..(from + 20).min(other.len())].iter().copied());
             }
             6 => {
-                let words: [&[u8]; 12] = [b" -> ", b"or ", b"process p again\n", b":", b"*", b"\n", b"fence a\n", b"never ", b"99999999999", b"\xff", b"run\n", b"#"];
+                let words: [&[u8]; 12] = [
+                    b" -> ",
+                    b"or ",
+                    b"process p again\n",
+                    b":",
+                    b"*",
+                    b"\n",
+                    b"fence a\n",
+                    b"never ",
+                    b"99999999999",
+                    b"\xff",
+                    b"run\n",
+                    b"#",
+                ];
                 let word = words[r.below(words.len())];
                 out.splice(at..at, word.iter().copied());
             }
@@ -138,7 +155,11 @@ fn damaged(r: &mut Random, from: &[u8], other: &[u8]) -> Vec<u8> {
                 let lines: Vec<Vec<u8>> = out.split_inclusive(|b| *b == b'\n').map(<[u8]>::to_vec).collect();
                 let which = r.below(lines.len().max(1));
                 let twice = r.below(2) == 0;
-                out = lines.iter().enumerate().flat_map(|(i, line)| line.repeat(if i == which { 2 * twice as usize } else { 1 })).collect();
+                out = lines
+                    .iter()
+                    .enumerate()
+                    .flat_map(|(i, line)| line.repeat(if i == which { 2 * twice as usize } else { 1 }))
+                    .collect();
             }
         }
     }
@@ -160,7 +181,11 @@ fn random(r: &mut Random) -> Contents {
         targets: Vec::new(),
     };
     let most = [2, 4, 32][r.below(3)];
-    program.values.iter_mut().take(variables).for_each(|count| *count = if registers { 4 } else { 1 + r.below(4) as u8 });
+    program
+        .values
+        .iter_mut()
+        .take(variables)
+        .for_each(|count| *count = if registers { 4 } else { 1 + r.below(4) as u8 });
     for p in 0..processes {
         program.states[p] = 1 + r.below(most) as u8;
         program.initial[p] = if r.below(2) == 0 { 0 } else { r.below(program.states[p] as usize) as u8 };
@@ -196,7 +221,12 @@ fn random(r: &mut Random) -> Contents {
             _ => Operation::Test { value },
         };
         let count = states_of[process as usize] as usize;
-        program.transitions.push(Transition { process, from: r.below(count) as u8, operation, to: r.below(count) as u8 });
+        program.transitions.push(Transition {
+            process,
+            from: r.below(count) as u8,
+            operation,
+            to: r.below(count) as u8,
+        });
     }
     if sorted {
         program.transitions.sort_by_key(|t| (t.process, t.from));
@@ -237,9 +267,17 @@ fn random(r: &mut Random) -> Contents {
             let mut counts = [[0; 4]; 4];
             let messages = 1 + r.below(16);
             for _ in 0..messages {
-                items.push(Item::Message(Message { process: r.below(processes) as u8, variable: r.below(variables) as u8, values: values(r, true) }));
+                items.push(Item::Message(Message {
+                    process: r.below(processes) as u8,
+                    variable: r.below(variables) as u8,
+                    values: values(r, true),
+                }));
                 for _ in 0..r.below(3) {
-                    items.extend(waiting(r, &mut counts).map(|(process, variable, value)| Item::Waiting { process, variable, value }));
+                    items.extend(waiting(r, &mut counts).map(|(process, variable, value)| Item::Waiting {
+                        process,
+                        variable,
+                        value,
+                    }));
                 }
             }
             let mut pointers = [0; 4];
@@ -349,7 +387,12 @@ fn walk(r: &mut Random, processes: usize, variables: usize, length: usize, machi
 
 fn main() {
     let words: Vec<String> = std::env::args().skip(1).collect();
-    let number = |at: usize| words.get(at).and_then(|word| word.parse::<usize>().ok()).unwrap_or_else(|| fail(String::from("round|pair|random|fuzz|walk ..")));
+    let number = |at: usize| {
+        words
+            .get(at)
+            .and_then(|word| word.parse::<usize>().ok())
+            .unwrap_or_else(|| fail(String::from("round|pair|random|fuzz|walk ..")))
+    };
     let read = |name: &String| std::fs::read(name).unwrap_or_else(|error| fail(format!("{name}: {error}")));
     match words.first().map(String::as_str) {
         Some("round") => {
@@ -362,7 +405,10 @@ fn main() {
         }
         Some("pair") => {
             let (first, second) = (read(&words[1]), read(&words[2]));
-            let program = contents::read(&first, None).ok().and_then(|c| c.program).unwrap_or_else(|| fail(format!("{}: no program", words[1])));
+            let program = contents::read(&first, None)
+                .ok()
+                .and_then(|c| c.program)
+                .unwrap_or_else(|| fail(format!("{}: no program", words[1])));
             match contents::read(&second, Some(&program)) {
                 Ok(contents) => bytes_again(&words[2], &second, &contents, Some(&program)),
                 Err(fault) => fail(format!("{}: {fault}", words[2])),
@@ -370,7 +416,7 @@ fn main() {
         }
         Some("fuzz") => {
             let mut r = Random(number(1) as u64);
-            let files: Vec<Vec<u8>> = words[3..].iter().map(read).filter(|file| file.len() < 20_000).collect();
+            let files: Vec<Vec<u8>> = words[3..].iter().map(read).filter(|file| file.len() < 1_500).collect();
             let mut taken = 0;
             for count in 0..number(2) {
                 let other = r.below(files.len());

@@ -1,5 +1,6 @@
-//! The two machines, for traces and pictures: the PWS machine (document 01, "The machine") and the PSO machine (document 02, N7). A step that
-//! can't be taken says why. Numbers of transitions, processes and variables outside the program are refused and never index anything.
+//! The two machines, for traces and pictures: the PWS machine (document 01, "The machine") and the PSO machine
+//! (document 02, N7). A step that can't be taken says why. Numbers of transitions, processes and variables outside the
+//! program are refused and never index anything.
 
 use crate::contents::{Machine, Message, Operation, Program, Step};
 
@@ -61,7 +62,8 @@ pub struct Configuration {
     pub states: [u8; 4],
     /// By process and variable, oldest first.
     pub queues: [[Vec<Waiting>; 4]; 4],
-    /// Oldest first; message number n at n - 1. Of the PSO machine only the last one is memory, and all before it are what it was.
+    /// Oldest first; message number n at n - 1. Of the PSO machine only the last one is memory, and all before it are
+    /// what it was.
     pub channel: Vec<Message>,
     /// Message numbers, counted from 1; 0 of absent processes, and for the PSO machine.
     pub pointers: [usize; 4],
@@ -111,7 +113,10 @@ impl Configuration {
     pub fn last_write(&self, process: usize, variable: usize) -> usize {
         let pointer = self.pointers.get(process).copied().unwrap_or(0);
         let labelled = |m: &Message| (m.process as usize, m.variable as usize) == (process, variable);
-        (pointer + 1..=self.channel.len()).rev().find(|number| self.channel.get(number - 1).is_some_and(labelled)).unwrap_or(pointer)
+        (pointer + 1..=self.channel.len())
+            .rev()
+            .find(|number| self.channel.get(number - 1).is_some_and(labelled))
+            .unwrap_or(pointer)
     }
 
     /// Where p reads v, and the value there.
@@ -176,7 +181,9 @@ impl Configuration {
                 }
             }
             Step::Transition(number) => {
-                let Some(transition) = program.transitions.get(number as usize).copied() else { return Err(Cause::Absent) };
+                let Some(transition) = program.transitions.get(number as usize).copied() else {
+                    return Err(Cause::Absent);
+                };
                 let p = transition.process as usize;
                 if p >= program.processes || p >= 4 || transition.operation.uses_register() {
                     return Err(Cause::Absent);

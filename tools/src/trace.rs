@@ -1,5 +1,5 @@
-//! A run in words, step by step, of either machine: short (`steps`) or with every process after each step (`lines`). A refused run is told up to
-//! the step that fails, with the reason.
+//! A run in words, step by step, of either machine: short (`steps`) or with every process after each step (`lines`). A
+//! refused run is told up to the step that fails, with the reason.
 
 use crate::contents::{self, Evidence, Machine, Operation, Program, Run, Step};
 use crate::machine::{Cause, Configuration, Done, Source};
@@ -34,11 +34,14 @@ pub fn why(names: &Names, c: &Configuration, process: usize, cause: Cause) -> St
     let variable = |v: u8| names.variable(v as usize);
     let waiting = |v: u8| {
         let queue = c.queues.get(process).and_then(|queues| queues.get(v as usize));
-        let values = queue.into_iter().flatten().map(|w| w.value.map_or(String::from("a mark"), |value| value.to_string()));
+        let values =
+            queue.into_iter().flatten().map(|w| w.value.map_or(String::from("a mark"), |value| value.to_string()));
         values.collect::<Vec<_>>().join(", ")
     };
     match cause {
-        Cause::State { is, wanted } => format!("{name} is at {}, and not at {}", names.state(process, is), names.state(process, wanted)),
+        Cause::State { is, wanted } => {
+            format!("{name} is at {}, and not at {}", names.state(process, is), names.state(process, wanted))
+        }
         Cause::Queue { variable: v } => format!("{name} still has {} waiting for {}", waiting(v), variable(v)),
         Cause::Pointer { is, newest } => format!("{name} sees message {is}, and not yet the newest, {newest}"),
         Cause::Value { variable: v, is, wanted, from } => {
@@ -53,7 +56,9 @@ pub fn why(names: &Names, c: &Configuration, process: usize, cause: Cause) -> St
         Cause::Newest => format!("{name} sees the newest message already, {}", c.newest()),
         Cause::Mark => format!("the mark of an sfence of {name} comes first there"),
         Cause::NoMark { variable: v } => match waiting(v) {
-            nothing if nothing.is_empty() => format!("no mark comes first in every buffer of {name}: nothing waits for {}", variable(v)),
+            nothing if nothing.is_empty() => {
+                format!("no mark comes first in every buffer of {name}: nothing waits for {}", variable(v))
+            }
             values => format!("no mark comes first in every buffer of {name}: {} has {values}", variable(v)),
         },
         Cause::Absent => String::from("the program has no such step"),
@@ -65,7 +70,8 @@ fn waits(program: &Program, names: &Names, c: &Configuration, p: usize) -> Strin
     let mut parts = Vec::new();
     for v in 0..program.variables.min(4) {
         if let Some(queue) = c.queues.get(p).and_then(|queues| queues.get(v)).filter(|queue| !queue.is_empty()) {
-            let values: Vec<String> = queue.iter().map(|w| w.value.map_or(String::from("|"), |value| value.to_string())).collect();
+            let values: Vec<String> =
+                queue.iter().map(|w| w.value.map_or(String::from("|"), |value| value.to_string())).collect();
             parts.push(format!("{} {}", names.variable(v), values.join(" ")));
         }
     }
@@ -94,7 +100,9 @@ fn done_words(program: &Program, names: &Names, c: &Configuration, step: Step, d
         }
         Step::Transition(number) => match program.transitions.get(number as usize).map(|t| t.operation) {
             Some(Operation::Write { .. }) => format!("{words}, waits"),
-            Some(Operation::Read { .. }) if done.read == Some(Source::Waiting) => format!("{words}, its own waiting store"),
+            Some(Operation::Read { .. }) if done.read == Some(Source::Waiting) => {
+                format!("{words}, its own waiting store")
+            }
             Some(Operation::Arw { .. }) if c.machine == Machine::Pws => format!("{words}: message {}", c.newest()),
             _ => words,
         },
@@ -103,7 +111,8 @@ fn done_words(program: &Program, names: &Names, c: &Configuration, step: Step, d
 
 fn head(program: &Program, names: &Names, run: &Run) -> Vec<String> {
     let count = |n: usize, one: &str| format!("{n} {one}{}", if n == 1 { "" } else { "es" });
-    let variables = (0..program.variables.min(4)).map(|v| format!("{} 0..{}", names.variable(v), program.values[v].saturating_sub(1)));
+    let variables = (0..program.variables.min(4))
+        .map(|v| format!("{} 0..{}", names.variable(v), program.values[v].saturating_sub(1)));
     let mut lines = vec![format!(
         "{} ({}), variables {}",
         count(program.processes, "process"),
@@ -127,13 +136,20 @@ fn tail(program: &Program, names: &Names, run: &Run, c: &Configuration) -> (Stri
     let places = names.places(&c.states);
     match program.target(&c.states) {
         Some(number) => (format!("ends after {count} with {places}: target {number}"), true),
-        None => (format!("refused 13 {}: ends after {count} with {places}, which is no target", run.steps.len()), false),
+        None => {
+            (format!("refused 13 {}: ends after {count} with {places}, which is no target", run.steps.len()), false)
+        }
     }
 }
 
 fn refused(names: &Names, c: &Configuration, program: &Program, number: usize, step: Step, cause: Cause) -> String {
     let (process, words) = step_words(program, names, c.machine, step);
-    format!("refused {} {number}: {} can't take {step} ({words}): {}", cause.number(), names.process(process), why(names, c, process, cause))
+    format!(
+        "refused {} {number}: {} can't take {step} ({words}): {}",
+        cause.number(),
+        names.process(process),
+        why(names, c, process, cause)
+    )
 }
 
 /// A run, a line for each step, with what waits behind it.
@@ -144,7 +160,9 @@ pub fn steps(program: &Program, names: &Names, run: &Run) -> Told {
     let mut told: Vec<(String, String)> = Vec::new();
     let mut stopped = None;
     for (number, step) in run.steps.iter().enumerate() {
-        let before = |process: usize, words: &str| format!("{number:4}  {:5} {:width$}  {words}", step.to_string(), names.process(process));
+        let before = |process: usize, words: &str| {
+            format!("{number:4}  {:5} {:width$}  {words}", step.to_string(), names.process(process))
+        };
         match c.take(program, *step) {
             Err(cause) => {
                 let (process, words) = step_words(program, names, run.machine, *step);
@@ -174,13 +192,24 @@ pub fn steps(program: &Program, names: &Names, run: &Run) -> Told {
 }
 
 /// Where every process is, what waits for it and what it sees; `*` before what the step changed.
-fn processes(program: &Program, names: &Names, c: &Configuration, before: Option<&Configuration>, lines: &mut Vec<String>) {
+fn processes(
+    program: &Program,
+    names: &Names,
+    c: &Configuration,
+    before: Option<&Configuration>,
+    lines: &mut Vec<String>,
+) {
     let width = |texts: &mut dyn Iterator<Item = &str>| texts.map(|text| text.chars().count()).max().unwrap_or(0);
     let name_width = width(&mut names.processes.iter().map(String::as_str));
     let state_width = width(&mut names.states.iter().flatten().map(|state| state.name.as_str()));
     for p in 0..program.processes.min(4) {
         let view = |c: &Configuration| match c.machine {
-            Machine::Pws => format!("sees message {} of {}: {}", c.pointers[p], c.newest(), names.memory(&c.snapshot(c.pointers[p]))),
+            Machine::Pws => format!(
+                "sees message {} of {}: {}",
+                c.pointers[p],
+                c.newest(),
+                names.memory(&c.snapshot(c.pointers[p]))
+            ),
             Machine::Pso => String::new(),
         };
         let moved = |changed: bool| if changed { '*' } else { ' ' };
@@ -201,9 +230,15 @@ fn processes(program: &Program, names: &Names, c: &Configuration, before: Option
     }
     if c.machine == Machine::Pso {
         let changed = before.is_some_and(|b| b.snapshot(b.newest()) != c.snapshot(c.newest()));
-        lines.push(format!("        {}memory {}", if changed { '*' } else { ' ' }, names.memory(&c.snapshot(c.newest()))));
+        lines.push(format!(
+            "        {}memory {}",
+            if changed { '*' } else { ' ' },
+            names.memory(&c.snapshot(c.newest()))
+        ));
     } else if before.is_some_and(|b| b.newest() != c.newest()) {
-        let label = c.channel.last().map_or(String::new(), |m| format!("{} of {}", names.variable(m.variable as usize), names.process(m.process as usize)));
+        let label = c.channel.last().map_or(String::new(), |m| {
+            format!("{} of {}", names.variable(m.variable as usize), names.process(m.process as usize))
+        });
         lines.push(format!("        *message {}, {label}: {}", c.newest(), names.memory(&c.snapshot(c.newest()))));
     }
 }
@@ -228,8 +263,8 @@ pub fn lines(program: &Program, names: &Names, run: &Run) -> Told {
     Told { lines, accepted }
 }
 
-/// The trace of a file or a pair of files as the judge takes them, with names made up. Why there is none, in words: the file's fault, or that
-/// it holds no run.
+/// The trace of a file or a pair of files as the judge takes them, with names made up. Why there is none, in words: the
+/// file's fault, or that it holds no run.
 pub fn of_files(file: &[u8], evidence: Option<&[u8]>) -> Result<Told, String> {
     let read = match evidence {
         None => contents::read_combined(file).map_err(|fault| fault.words),

@@ -1,139 +1,120 @@
-//! hrafnolt-draw: a run as a picture.
+//! hrafnolt-draw: a run as a picture, in SVG (man/hrafnolt-draw.1).
+//! Exit status: 0 if the run is accepted, 1 if it is drawn and not accepted or there is none, 2 if a file can't be read
+//! or written, or the options are wrong.
 
-use hrafnolt_tools::contents::{self, Contents, Program};
-use hrafnolt_tools::text::assemble::{assemble, Choice};
-use hrafnolt_tools::text::{registers, Names};
+use hrafnolt_tools::input::in_words;
+use hrafnolt_tools::names::quoted;
+use hrafnolt_tools::options::{self, choice, Choice, Word, NO_LETTER};
+use hrafnolt_tools::output::{misused, print_and_end, say, Output};
 use hrafnolt_tools::picture;
-use std::io::{Read, Write};
+use hrafnolt_tools::text::sources::{Failure, Given, FENCE, NAMES, PROGRAM};
+use std::ffi::OsString;
+use std::os::unix::ffi::OsStrExt;
+use std::path::Path;
 use std::process::exit;
 
-const USAGE: &str = "usage: hrafnolt-draw [OPTION..] FILE [EVIDENCE]";
-const HELP: &str = "\
-Draws the run in a combined file, or in an evidence file for a program file, as SVG.
-  -f PLACE=FENCE  what stands at a place for a fence of the text: out, nop, sfence or mfence (PROCESS.PLACE for one process)
-  -n TEXT         take the names from this text
-  -o FILE         write to this file
-  -t TITLE        the title; else the name of the file
-  -w WIDTH        how wide rows are, 300 to 20000; else 1200
-  --help          print this
-  --version       print the version
-  --              no option follows
-A file may be `-`, standard input. A run that the machine can't take is drawn up to the step that fails, with exit status 1.
+const NAME: &str = "hrafnolt-draw";
+
+const USAGE: &str = "usage: hrafnolt-draw [OPTION..] FILE
 ";
-/// No report is longer, and no other file that holds a run.
-const LONGEST: u64 = 1 << 29;
 
-fn fail(status: i32, words: String) -> ! {
-    let _ = writeln!(std::io::stderr(), "hrafnolt-draw: {words}");
-    exit(status)
+const ABOUT: &str = "Draws the run in FILE as SVG: a combined file, a text, or with -p evidence alone.
+FILE may be -, standard input. A run that the machine can't take is drawn up to the step that fails.
+
+";
+
+const STATUS: &str = "
+Exit status: 0 if the run is accepted, 1 if it is not or FILE is wrong, 2 if a file can't be read or written.
+";
+
+/// How wide rows can be.
+const NARROWEST: u64 = 300;
+const WIDEST: u64 = 20_000;
+
+static CHOICES: [Choice; 8] = [
+    FENCE,
+    NAMES,
+    choice('o', "output", "FILE", "write to this file"),
+    PROGRAM,
+    choice('t', "title", "TITLE", "the title; else it is the name of the file"),
+    choice('w', "width", "WIDTH", "how wide rows are, 300 to 20000; else 1200"),
+    choice(NO_LETTER, "help", "", "this text"),
+    choice(NO_LETTER, "version", "", "the version"),
+];
+
+struct Options {
+    given: Given,
+    output: Option<OsString>,
+    title: Option<String>,
+    width: usize,
+    file: OsString,
 }
 
-fn shown(name: &str) -> String {
-    name.chars().map(|c| if c.is_control() { '?' } else { c }).collect()
-}
-
-fn input(name: &str) -> Vec<u8> {
-    let mut bytes = Vec::new();
-    // A first byte that begins no file and no text is enough: /dev/zero has no end.
-    let read = |source: &mut dyn Read, bytes: &mut Vec<u8>| {
-        source.take(1).read_to_end(bytes)?;
-        match bytes.first() {
-            Some(0x00 | 0x02..=0x08 | 0x0e | 0x10..=0x1f) => Ok(0),
-            _ => source.take(LONGEST).read_to_end(bytes),
-        }
-    };
-    let result = if name == "-" {
-        read(&mut std::io::stdin().lock(), &mut bytes)
-    } else {
-        std::fs::File::open(name).and_then(|mut file| read(&mut file, &mut bytes))
-    };
-    if let Err(error) = result {
-        fail(2, format!("{}: {error}", shown(name)));
-    }
-    if bytes.len() as u64 > LONGEST {
-        fail(2, format!("{}: longer than {LONGEST} bytes", shown(name)));
-    }
-    bytes
-}
-
-fn contents(name: &str, program: Option<&Program>) -> Contents {
-    contents::read(&input(name), program).unwrap_or_else(|fault| fail(1, format!("{}: {fault}", shown(name))))
-}
-
-fn main() {
-    let (mut files, mut choices) = (Vec::new(), Vec::new());
-    let (mut names, mut output, mut title) = (None, None, None);
-    let mut words = std::env::args_os().skip(1).map(|word| word.to_string_lossy().into_owned());
-    let (mut ended, mut width) = (false, picture::WIDTH);
-    while let Some(word) = words.next() {
-        let mut value = || words.next().unwrap_or_else(|| fail(2, format!("{word} needs a word behind it\n{USAGE}")));
-        match word.as_str() {
-            "--" if !ended => ended = true,
-            "--help" if !ended => {
-                print!("{USAGE}\n{HELP}");
-                return;
+fn read_options() -> Result<Options, i32> {
+    let misuse = |what: &str| misused(NAME, what, USAGE);
+    let (mut given, mut output, mut title, mut width, mut files) =
+        (Given::default(), None, None, picture::WIDTH, Vec::new());
+    for word in options::read(&CHOICES, std::env::args_os().skip(1)).map_err(|what| misuse(&what))? {
+        match word {
+            Word::File(name) => files.push(name),
+            Word::Option("help", _) => {
+                return Err(print_and_end(&format!("{USAGE}{ABOUT}{}{STATUS}", options::help(&CHOICES))))
             }
-            "--version" if !ended => {
-                println!("hrafnolt-draw {}", hrafnolt_tools::version());
-                return;
+            Word::Option("version", _) => {
+                return Err(print_and_end(&format!("{NAME} {}\n", hrafnolt_tools::version())))
             }
-            "-n" if !ended => names = Some(value()),
-            "-o" if !ended => output = Some(value()),
-            "-t" if !ended => title = Some(value()),
-            "-w" if !ended => {
-                let word = value();
-                match word.parse() {
-                    Ok(number) if (300..=20_000).contains(&number) => width = number,
-                    _ => fail(2, format!("-w {}: expected a number from 300 to 20000\n{USAGE}", shown(&word))),
-                }
+            Word::Option("output", value) => output = Some(value),
+            Word::Option("title", value) => title = Some(value.to_string_lossy().into_owned()),
+            Word::Option("width", value) => {
+                let number = options::number("width", &value, WIDEST).ok().filter(|number| *number >= NARROWEST);
+                width = number.ok_or_else(|| misuse("--width needs a number from 300 to 20000"))? as usize;
             }
-            "-f" if !ended => {
-                let choice = value();
-                match Choice::parse(&choice) {
-                    Some(choice) => choices.push(choice),
-                    None => fail(2, format!("-f {}: expected PLACE=out, nop, sfence or mfence\n{USAGE}", shown(&choice))),
-                }
-            }
-            option if !ended && option.starts_with('-') && option != "-" => fail(2, format!("unknown option {}\n{USAGE}", shown(option))),
-            _ => files.push(word),
+            Word::Option(name, value) => drop(given.option(name, &value).map_err(|what| misuse(&what))?),
         }
     }
-    if !(1..=2).contains(&files.len()) {
-        fail(2, String::from(USAGE));
+    let mut files = files.into_iter();
+    match (files.next(), files.next()) {
+        (Some(file), None) => Ok(Options { given, output, title, width, file }),
+        _ => Err(misuse("one file is drawn")),
     }
-    let first = contents(&files[0], None);
-    let second = files.get(1).map(|name| contents(name, first.program.as_ref()));
-    let last = files.last().map_or("", String::as_str);
-    let Some(program) = &first.program else { fail(1, format!("{}: has no program; a program file comes before it", shown(&files[0]))) };
-    let runs = second.as_ref().unwrap_or(&first).runs(Some(program));
-    let Some((mark, program, run)) = runs.first() else { fail(1, format!("{}: holds no run", shown(last))) };
-    let names = match names {
-        None => Names::made_up(Some(program)),
-        Some(text) => match assemble(&input(&text), &choices, None) {
-            Err(complaint) => fail(1, format!("{}:{complaint}", shown(&text))),
-            Ok(text) => match text.program.as_ref().filter(|own| own.registers) {
-                Some(own) => registers::names(own, &text.names).for_program(program),
-                None => text.names.for_program(program),
-            },
-        },
-    };
-    let base = last.rsplit('/').next().unwrap_or(last);
-    let mut title = title.unwrap_or(String::from(if base == "-" { "" } else { base }));
+}
+
+/// The picture, and the exit status then.
+fn drawn(options: &Options) -> Result<(String, i32), Failure> {
+    let loaded = options.given.load(&options.file)?;
+    let name = quoted(options.file.as_bytes());
+    if loaded.any_program().is_none() {
+        return Err((1, format!("{name}: has no program; -p gives one")));
+    }
+    let runs = loaded.contents.runs(loaded.program.as_ref());
+    let Some((mark, program, run)) = runs.first() else { return Err((1, format!("{name}: holds no run"))) };
+    let file = Path::new(&options.file)
+        .file_name()
+        .filter(|_| options.file != "-")
+        .map(|name| name.to_string_lossy().into_owned());
+    let mut title = options.title.clone().or(file).unwrap_or_default();
     if let Some(mark) = mark {
         title.push_str(&format!(" with the fence t{mark} as a nop"));
     }
-    let (svg, accepted) = picture::draw(program, &names, run, &title, width);
-    let result = match &output {
-        Some(name) => std::fs::write(name, svg),
-        None => {
-            let mut out = std::io::stdout().lock();
-            out.write_all(svg.as_bytes()).and_then(|()| out.flush())
+    let (svg, accepted) = picture::draw(program, &loaded.names, run, &title, options.width);
+    Ok((svg, !accepted as i32))
+}
+
+fn main() {
+    let run = || {
+        let options = read_options()?;
+        let (svg, status) = drawn(&options).map_err(|(status, line)| {
+            say(&line);
+            status
+        })?;
+        match &options.output {
+            None => Output::new()?.write(svg.as_bytes())?,
+            Some(name) => std::fs::write(name, svg).map_err(|error| {
+                say(&format!("{}: {}", quoted(name.as_bytes()), in_words(&error)));
+                2
+            })?,
         }
+        Ok(status)
     };
-    if let Err(error) = result {
-        fail(2, format!("{}: {error}", output.as_deref().map_or(String::from("standard output"), shown)));
-    }
-    if !accepted {
-        exit(1);
-    }
+    exit(run().unwrap_or_else(|status: i32| status));
 }

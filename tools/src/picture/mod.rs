@@ -1,9 +1,12 @@
-//! A run as a picture: a lane for each process with its operations, a lane for memory with the messages as they come out, waiting stores as
-//! bars, and for each read where its value comes from. `story` follows the run, `layout` places it, `svg` writes it.
+//! A run as a picture: a lane for each process with its operations, a lane for memory with the messages as they come
+//! out, waiting stores as bars, and for each read where its value comes from. `story` follows the run, `layout` places
+//! it, `svg` writes it.
 
-pub mod layout;
+mod bars;
+mod columns;
+mod layout;
 pub mod story;
-pub mod svg;
+mod svg;
 
 use crate::contents::{Program, Run};
 use crate::text::Names;

@@ -129,7 +129,8 @@ pub fn follow(program: &Program, names: &Names, run: &Run) -> Story {
             Err(cause) => {
                 let why = trace::why(names, &c, process, cause);
                 let (name, text) = (names.process(process), &column.text);
-                story.refused = Some(format!("refused {} {number}: {name} can't take {step} ({text}): {why}", cause.number()));
+                story.refused =
+                    Some(format!("refused {} {number}: {name} can't take {step} ({text}): {why}", cause.number()));
                 story.columns.push(column);
                 break;
             }
@@ -155,7 +156,8 @@ pub fn follow(program: &Program, names: &Names, run: &Run) -> Story {
             (_, Some(Operation::Read { variable, .. })) => {
                 let from = match done.read {
                     Some(Source::Waiting) => {
-                        let own = |bar: &Bar| bar.process == process && bar.variable == Some(variable) && bar.end.is_none();
+                        let own =
+                            |bar: &Bar| bar.process == process && bar.variable == Some(variable) && bar.end.is_none();
                         story.bars.iter().rposition(own).map(From::Bar)
                     }
                     Some(Source::Message(message)) => Some(From::Change(latest(&story, variable, message))),
@@ -180,7 +182,11 @@ pub fn follow(program: &Program, names: &Names, run: &Run) -> Story {
     if story.refused.is_none() {
         story.target = program.target(&c.states);
         if story.target.is_none() {
-            story.refused = Some(format!("refused 13 {}: ends with {}, which is no target", run.steps.len(), names.places(&c.states)));
+            story.refused = Some(format!(
+                "refused 13 {}: ends with {}, which is no target",
+                run.steps.len(),
+                names.places(&c.states)
+            ));
         }
     }
     story

@@ -55,7 +55,8 @@ impl Svg {
     }
 
     pub fn dot(&mut self, x: f64, y: f64, radius: f64, style: &str) {
-        let _ = writeln!(self.body, "<circle cx=\"{}\" cy=\"{}\" r=\"{}\" {style}/>", number(x), number(y), number(radius));
+        let _ =
+            writeln!(self.body, "<circle cx=\"{}\" cy=\"{}\" r=\"{}\" {style}/>", number(x), number(y), number(radius));
     }
 
     /// A way along these points; with `round`, its corners are.
@@ -72,7 +73,16 @@ impl Svg {
                         (from.0 + (to.0 - from.0) * part, from.1 + (to.1 - from.1) * part)
                     };
                     let (a, b) = (towards(*corner, before), towards(*corner, *next));
-                    let _ = write!(d, "L{} {}Q{} {} {} {}", number(a.0), number(a.1), number(corner.0), number(corner.1), number(b.0), number(b.1));
+                    let _ = write!(
+                        d,
+                        "L{} {}Q{} {} {} {}",
+                        number(a.0),
+                        number(a.1),
+                        number(corner.0),
+                        number(corner.1),
+                        number(b.0),
+                        number(b.1)
+                    );
                 }
                 _ => {
                     let _ = write!(d, "L{} {}", number(corner.0), number(corner.1));

@@ -1,47 +1,17 @@
 //! From a text to what a file holds. The program part stands here, the evidence part in `evidence`.
 
 use super::evidence::{Context, Section};
+use super::fences::{Choice, Fence};
 use super::lexer::{Cursor, Kind, Lines, Token};
+use super::operations::{assignments, operation, process_state};
 use super::{registers, Complaint, Names, StateName};
-use crate::contents::{Contents, Operation, Program, Transition, MARKS, REGISTER_TARGETS, STATES, TARGETS, TRANSITIONS};
+use crate::contents::{
+    Contents, Operation, Program, Transition, MARKS, REGISTER_TARGETS, STATES, TARGETS, TRANSITIONS,
+};
 use std::collections::{HashMap, HashSet};
 
-/// What stands at a place for a fence.
-#[derive(Clone, Copy, PartialEq, Eq, Debug)]
-pub enum Fence {
-    /// Left out: a nop only where the line has a label, an arrow or an `or`.
-    Out,
-    Is(Operation),
-}
-
-/// What is asked for at the places of one name, of one process or of all.
-#[derive(Clone, PartialEq, Eq, Debug)]
-pub struct Choice {
-    pub process: Option<String>,
-    pub place: String,
-    pub fence: Fence,
-}
-
-impl Choice {
-    /// `a=sfence` or `module.a=nop`.
-    pub fn parse(word: &str) -> Option<Choice> {
-        let (place, fence) = word.split_once('=')?;
-        let fence = match fence {
-            "out" => Fence::Out,
-            "nop" => Fence::Is(Operation::Nop),
-            "sfence" => Fence::Is(Operation::Sfence),
-            "mfence" => Fence::Is(Operation::Mfence),
-            _ => return None,
-        };
-        let (process, place) = match place.split_once('.') {
-            Some((process, place)) => (Some(process.to_string()), place),
-            None => (None, place),
-        };
-        Some(Choice { process, place: place.to_string(), fence })
-    }
-}
-
-/// What a text holds. A program with registers stands as it is in `program`; evidence is for the program without them, which `contents` has then.
+/// What a text holds. A program with registers stands as it is in `program`; evidence is for the program without them,
+/// which `contents` has then.
 #[derive(Clone, PartialEq, Eq, Debug)]
 pub struct Assembled {
     pub program: Option<Program>,
@@ -55,8 +25,23 @@ pub struct Assembled {
 const OPERATIONS: [&str; 6] = ["or", "nop", "cas", "sfence", "mfence", "fence"];
 /// Words that a line begins with, which no process can be named.
 const STATEMENTS: [&str; 17] = [
-    "variables", "process", "never", "memory", "needed", "run", "pso", "list", "patterns", "entry", "message", "waits", "pattern", "empty",
-    "ends", "reads", "newest",
+    "variables",
+    "process",
+    "never",
+    "memory",
+    "needed",
+    "run",
+    "pso",
+    "list",
+    "patterns",
+    "entry",
+    "message",
+    "waits",
+    "pattern",
+    "empty",
+    "ends",
+    "reads",
+    "newest",
 ];
 
 enum What<'a> {
@@ -95,102 +80,6 @@ struct Assembler<'a> {
     names: Names,
     registers: bool,
     marks: Vec<u8>,
-}
-
-/// The operation of a line: what stands behind its label and before its arrow. A nop may be left out before an arrow.
-pub fn operation<'a>(
-    cursor: &mut Cursor<'_, 'a>,
-    variables: &dyn Fn(&str) -> Option<(u8, u8)>,
-    register: Option<&str>,
-) -> Result<Operation, Complaint> {
-    let value = |cursor: &mut Cursor<'_, 'a>, name: &str, count: u8| {
-        let expected = format!("a value of {name}, 0 to {}", count.saturating_sub(1));
-        let value = cursor.number(&expected)?;
-        if value < count as u32 {
-            Ok(value as u8)
-        } else {
-            cursor.complain_back(&expected)
-        }
-    };
-    if cursor.ahead(0, "->") || cursor.eat("nop") {
-        return Ok(Operation::Nop);
-    }
-    if cursor.eat("sfence") {
-        return Ok(Operation::Sfence);
-    }
-    if cursor.eat("mfence") {
-        return Ok(Operation::Mfence);
-    }
-    let variable = |cursor: &mut Cursor<'_, 'a>| {
-        let name = cursor.name("a variable")?;
-        match variables(name.text) {
-            Some((number, count)) => Ok((name.text, number, count)),
-            None => cursor.complain_back("a variable"),
-        }
-    };
-    if cursor.eat("cas") {
-        let (name, variable, count) = variable(cursor)?;
-        let old = value(cursor, name, count)?;
-        let new = value(cursor, name, count)?;
-        return Ok(Operation::Arw { variable, old, new });
-    }
-    let expected = "an operation (VARIABLE := VALUE, VARIABLE = VALUE, cas, mfence, sfence, nop) or `->`";
-    let name = cursor.name(expected)?;
-    if register == Some(name.text) {
-        if cursor.eat("=") {
-            return Ok(Operation::Test { value: value(cursor, name.text, 4)? });
-        }
-        if !cursor.eat(":=") {
-            return cursor.complain("`:=` or `=`");
-        }
-        let (_, variable, _) = variable(cursor)?;
-        return Ok(Operation::Load { variable });
-    }
-    let Some((number, count)) = variables(name.text) else { return cursor.complain_back(expected) };
-    if cursor.eat("=") {
-        return Ok(Operation::Read { variable: number, value: value(cursor, name.text, count)? });
-    }
-    if !cursor.eat(":=") {
-        return cursor.complain("`:=` or `=`");
-    }
-    if register.is_some_and(|register| cursor.ahead(0, register)) {
-        cursor.at += 1;
-        return Ok(Operation::Save { variable: number });
-    }
-    Ok(Operation::Write { variable: number, value: value(cursor, name.text, count)? })
-}
-
-/// `gate=0 tick=1`, commas between them or not; what is not named is as in `values`.
-pub fn assignments(
-    cursor: &mut Cursor,
-    variables: &dyn Fn(&str) -> Option<(u8, u8)>,
-    values: &mut [u8; 4],
-    any: bool,
-) -> Result<(), Complaint> {
-    let mut named = [false; 4];
-    while cursor.peek().is_some() {
-        let name = cursor.name("VARIABLE=VALUE")?;
-        let Some((variable, count)) = variables(name.text) else { return cursor.complain_back("a variable") };
-        let (Some(named), Some(place)) = (named.get_mut(variable as usize), values.get_mut(variable as usize)) else {
-            return cursor.complain_back("a variable");
-        };
-        if std::mem::replace(named, true) {
-            return cursor.complain_back("a variable that has no value yet");
-        }
-        cursor.expect("=")?;
-        let expected = format!("a value of {}, 0 to {}{}", name.text, count.saturating_sub(1), if any { ", or `*`" } else { "" });
-        if any && cursor.eat("*") {
-            *place = crate::contents::ANY;
-        } else {
-            let value = cursor.number(&expected)?;
-            if value >= count as u32 {
-                return cursor.complain_back(&expected);
-            }
-            *place = value as u8;
-        }
-        cursor.eat(",");
-    }
-    Ok(())
 }
 
 impl<'a> Assembler<'a> {
@@ -245,10 +134,13 @@ impl<'a> Assembler<'a> {
         if cursor.eat("with") {
             let register = cursor.name("a register's name")?;
             if self.variable(register.text).is_some() || OPERATIONS.contains(&register.text) {
-                return cursor.complain_back("a register's name that is no variable's and that no operation begins with");
+                return cursor
+                    .complain_back("a register's name that is no variable's and that no operation begins with");
             }
             if let Some((name, count)) = self.variables.iter().find(|(_, count)| *count != 4) {
-                return cursor.complain_back(&format!("four values for every variable of a program with registers ({name} has {count})"));
+                return cursor.complain_back(&format!(
+                    "four values for every variable of a program with registers ({name} has {count})"
+                ));
             }
             process.register = Some(register.text);
             self.registers = true;
@@ -297,7 +189,8 @@ impl<'a> Assembler<'a> {
         while let Some(mut body) = rest.next() {
             if let What::Fence(place) = body.what {
                 let process = self.processes.get(body.process).map_or("", |p| p.name);
-                let meant = |c: &&Choice| c.place == place.text && c.process.as_ref().map_or(true, |name| name == process);
+                let meant =
+                    |c: &&Choice| c.place == place.text && c.process.as_ref().map_or(true, |name| name == process);
                 match choices.iter().rev().find(meant).map_or(Fence::Out, |c| c.fence) {
                     Fence::Is(operation) => body.what = What::Way(operation),
                     Fence::Out => {
@@ -330,7 +223,13 @@ impl<'a> Assembler<'a> {
             let bare = before.filter(|j| matches!(self.bodies[*j].what, What::Bare));
             let known = match (body.or, body.label, before, bare) {
                 (true, _, Some(j), None) => Some(state_of[j]),
-                (true, ..) => return complain(body.line, body.column, String::from("expected a way on from a state before its `or`")),
+                (true, ..) => {
+                    return complain(
+                        body.line,
+                        body.column,
+                        String::from("expected a way on from a state before its `or`"),
+                    )
+                }
                 (false, Some(label), ..) => labels.get(label.text).copied(),
                 (false, None, _, Some(j)) => Some(state_of[j]),
                 (false, None, _, None) => None,
@@ -340,7 +239,11 @@ impl<'a> Assembler<'a> {
                 None => {
                     let state = states.len() as u8;
                     if state >= STATES {
-                        return complain(body.line, body.column, format!("expected at most {STATES} states in a process"));
+                        return complain(
+                            body.line,
+                            body.column,
+                            format!("expected at most {STATES} states in a process"),
+                        );
                     }
                     states.push((body.label.map(|label| label.text), body.line));
                     if let Some(label) = body.label {
@@ -365,7 +268,13 @@ impl<'a> Assembler<'a> {
             *place = *count;
         }
         let wanted = |p: usize, token: Token, line: usize| {
-            let words = || format!("expected a state of {}, found `{}`", self.processes[p].name, super::lexer::shortened(token.text));
+            let words = || {
+                format!(
+                    "expected a state of {}, found `{}`",
+                    self.processes[p].name,
+                    super::lexer::shortened(token.text)
+                )
+            };
             labels[p].get(token.text).copied().ok_or_else(|| Complaint { line, column: token.column, words: words() })
         };
         for (p, process) in self.processes.iter().enumerate() {
@@ -382,10 +291,19 @@ impl<'a> Assembler<'a> {
             let to = match body.arrow {
                 Some(arrow) => wanted(body.process, arrow, body.line)?,
                 None => {
-                    let next = self.bodies[i + 1..].iter().position(|next| next.block != body.block || !next.or).map(|n| i + 1 + n);
+                    let next = self.bodies[i + 1..]
+                        .iter()
+                        .position(|next| next.block != body.block || !next.or)
+                        .map(|n| i + 1 + n);
                     match next.filter(|j| self.bodies[*j].block == body.block) {
                         Some(j) => state_of[j],
-                        None => return complain(body.line, body.end, String::from("expected `->` and a state, since no line follows that it could lead to")),
+                        None => {
+                            return complain(
+                                body.line,
+                                body.end,
+                                String::from("expected `->` and a state, since no line follows that it could lead to"),
+                            )
+                        }
                     }
                 }
             };
@@ -405,7 +323,9 @@ impl<'a> Assembler<'a> {
             let mut named: Vec<StateName> = Vec::new();
             for (label, line) in states {
                 let mut name = label.map_or_else(|| format!("line{line}"), str::to_string);
-                while label.is_none() && (labels[p].contains_key(name.as_str()) || named.iter().any(|state| state.name == name)) {
+                while label.is_none()
+                    && (labels[p].contains_key(name.as_str()) || named.iter().any(|state| state.name == name))
+                {
                     name.push('_');
                 }
                 named.push(StateName { name, labelled: label.is_some() });
@@ -416,8 +336,8 @@ impl<'a> Assembler<'a> {
         Ok(())
     }
 
-    /// `never P STATE, Q STATE`: a process that is not named may be in any state, process 0's changing slowest; of these, targets that there are
-    /// already are not given again.
+    /// `never P STATE, Q STATE`: a process that is not named may be in any state, process 0's changing slowest; of
+    /// these, targets that there are already are not given again.
     fn never_line(&mut self, cursor: &mut Cursor<'_, 'a>) -> Result<(), Complaint> {
         let Some(program) = &mut self.program else { return cursor.complain("`process`") };
         let mut named: [Option<u8>; 4] = [None; 4];
@@ -457,19 +377,6 @@ impl<'a> Assembler<'a> {
     }
 }
 
-/// `PROCESS STATE`.
-pub fn process_state(cursor: &mut Cursor, names: &Names) -> Result<(usize, u8), Complaint> {
-    let name = cursor.name("a process")?;
-    let Some(p) = names.processes.iter().position(|known| known == name.text) else { return cursor.complain_back("a process") };
-    let expected = format!("a state of {}", name.text);
-    let state = cursor.name(&expected)?;
-    let position = names.states.get(p).and_then(|states| states.iter().position(|known| known.name == state.text));
-    match position {
-        Some(state) if p < 4 => Ok((p, state as u8)),
-        _ => cursor.complain_back(&expected),
-    }
-}
-
 /// A text, with what is asked for at its places for fences. Evidence alone is for the program that is given.
 pub fn assemble(source: &[u8], choices: &[Choice], given: Option<(&Program, &Names)>) -> Result<Assembled, Complaint> {
     let mut lines = Lines::new(source);
@@ -499,12 +406,18 @@ pub fn assemble(source: &[u8], choices: &[Choice], given: Option<(&Program, &Nam
                 cursor.at += 1;
                 it.never_line(&mut cursor)?;
             }
-            "memory" if evidence.is_none() && memory.is_none() && (it.program.is_some() || it.variables.is_empty() && given.is_some()) => {
+            "memory"
+                if evidence.is_none()
+                    && memory.is_none()
+                    && (it.program.is_some() || it.variables.is_empty() && given.is_some()) =>
+            {
                 cursor.at += 1;
                 let mut values = [0; 4];
                 let given = given.filter(|_| it.variables.is_empty());
                 let variable = |name: &str| match given {
-                    Some((program, names)) => names.variables.iter().position(|known| known == name).map(|v| (v as u8, program.values[v & 3])),
+                    Some((program, names)) => {
+                        names.variables.iter().position(|known| known == name).map(|v| (v as u8, program.values[v & 3]))
+                    }
                     None => it.variable(name),
                 };
                 assignments(&mut cursor, &variable, &mut values, false)?;
@@ -516,9 +429,12 @@ pub fn assemble(source: &[u8], choices: &[Choice], given: Option<(&Program, &Nam
                 while cursor.peek().is_some() || it.marks.is_empty() {
                     let expected = format!("the number of a transition, t0 to t{}", transitions.saturating_sub(1));
                     let name = cursor.name(&expected)?;
-                    let number = name.text.strip_prefix('t').and_then(|n| n.parse::<usize>().ok()).filter(|n| *n < transitions);
+                    let number =
+                        name.text.strip_prefix('t').and_then(|n| n.parse::<usize>().ok()).filter(|n| *n < transitions);
                     let Some(number) = number.filter(|_| it.marks.len() < MARKS && !it.registers) else {
-                        return cursor.complain_back(&format!("{expected}, at most {MARKS} of them, in a program without registers"));
+                        return cursor.complain_back(&format!(
+                            "{expected}, at most {MARKS} of them, in a program without registers"
+                        ));
                     };
                     it.marks.push(number as u8);
                     cursor.eat(",");
@@ -547,7 +463,9 @@ pub fn assemble(source: &[u8], choices: &[Choice], given: Option<(&Program, &Nam
                 (None, Some(process)) if it.program.is_none() => it.body_line(&mut cursor, process)?,
                 _ => {
                     let expected = match (it.variables.is_empty(), it.processes.is_empty(), &it.program) {
-                        (true, ..) if given.is_some() => "`variables`, or evidence: `run`, `pso run`, `list` or `patterns`",
+                        (true, ..) if given.is_some() => {
+                            "`variables`, or evidence: `run`, `pso run`, `list` or `patterns`"
+                        }
                         (true, ..) => "`variables`, or evidence by letters: `run`, `pso run`, `list` or `patterns`",
                         (false, true, _) => "`process`",
                         (false, false, None) => "`process`, a line of a process or `never`",
@@ -559,7 +477,9 @@ pub fn assemble(source: &[u8], choices: &[Choice], given: Option<(&Program, &Nam
         }
     }
     let end = (lines.number() + 1, 1);
-    let complain = |words: &str| Err(Complaint { line: end.0, column: end.1, words: format!("expected {words}, found the end of the text") });
+    let complain = |words: &str| {
+        Err(Complaint { line: end.0, column: end.1, words: format!("expected {words}, found the end of the text") })
+    };
     if it.program.is_none() && !it.variables.is_empty() {
         return complain(if it.processes.is_empty() { "`process`" } else { "`never`" });
     }

@@ -1,10 +1,11 @@
 //! The evidence part of a text: runs, lists, patterns.
 
-use super::assemble::{assignments, operation, process_state};
 use super::lexer::{Cursor, Token};
+use super::operations::{assignments, operation, process_state};
 use super::{Complaint, Names};
 use crate::contents::{
-    Clue, Entry, Evidence, Item, Machine, Message, Operation, Pattern, Program, Run, Step, ANY, ENTRIES, MESSAGES, READS, STEPS, TRANSITIONS, WAITING,
+    Clue, Entry, Evidence, Item, Machine, Message, Operation, Program, Run, Step, ANY, ENTRIES, MESSAGES, STEPS,
+    TRANSITIONS, WAITING,
 };
 
 #[derive(Clone, Copy, PartialEq, Eq, Debug)]
@@ -18,25 +19,28 @@ pub enum Section {
 /// What evidence is assembled for, and what there is of it.
 pub struct Context {
     program: Option<Program>,
-    names: Names,
+    pub(super) names: Names,
     memory: [u8; 4],
     /// Of a report: its list comes first, and then so many runs.
     marks: usize,
-    parts: Vec<Evidence>,
+    pub(super) parts: Vec<Evidence>,
     pub section: Section,
     /// In a run, where each process is.
     states: [u8; 4],
     /// Line and column of the latest entry or pattern.
-    place: (usize, usize),
-    waiting: [[usize; 4]; 4],
+    pub(super) place: (usize, usize),
+    pub(super) waiting: [[usize; 4]; 4],
 }
 
-/// The transitions that a step by name can be: those of this process with this operation, and if one is named to this state; from where
-/// the process is, or else from anywhere.
+/// The transitions that a step by name can be: those of this process with this operation, and if one is named to this
+/// state; from where the process is, or else from anywhere.
 pub fn candidates(program: &Program, at: u8, process: usize, operation: Operation, to: Option<u8>) -> Vec<u8> {
     let fits = |here: bool| -> Vec<u8> {
         let all = program.transitions.iter().enumerate().filter(|(_, t)| {
-            t.process as usize == process && t.operation == operation && to.map_or(true, |to| to == t.to) && (!here || t.from == at)
+            t.process as usize == process
+                && t.operation == operation
+                && to.map_or(true, |to| to == t.to)
+                && (!here || t.from == at)
         });
         all.map(|(number, _)| number as u8).collect()
     };
@@ -81,7 +85,7 @@ impl Context {
         self.program.as_ref().map_or(TRANSITIONS, |p| p.transitions.len())
     }
 
-    fn variable(&self, name: &str) -> Option<(u8, u8)> {
+    pub(super) fn variable(&self, name: &str) -> Option<(u8, u8)> {
         let v = self.names.variables.iter().position(|known| known == name)?;
         Some((v as u8, self.program.as_ref().map_or(4, |p| p.values.get(v).copied().unwrap_or(0))))
     }
@@ -96,7 +100,13 @@ impl Context {
             _ => "the end of the report",
         };
         let (pso, report) = (cursor.eat("pso"), self.marks > 0);
-        let allowed = |run: bool| if report { self.parts.len() <= self.marks && (self.parts.is_empty() != run) && !pso } else { self.parts.is_empty() };
+        let allowed = |run: bool| {
+            if report {
+                self.parts.len() <= self.marks && (self.parts.is_empty() != run) && !pso
+            } else {
+                self.parts.is_empty()
+            }
+        };
         if cursor.ahead(0, "run") && allowed(true) {
             cursor.at += 1;
             let mut memory = self.memory;
@@ -150,7 +160,7 @@ impl Context {
         Ok((self.program, self.names, self.parts))
     }
 
-    fn process(&self, cursor: &mut Cursor) -> Result<usize, Complaint> {
+    pub(super) fn process(&self, cursor: &mut Cursor) -> Result<usize, Complaint> {
         let name = cursor.name("a process")?;
         match self.names.processes.iter().position(|known| known == name.text) {
             Some(p) if p < 4 => Ok(p),
@@ -158,7 +168,7 @@ impl Context {
         }
     }
 
-    fn known_variable(&self, cursor: &mut Cursor) -> Result<(usize, u8), Complaint> {
+    pub(super) fn known_variable(&self, cursor: &mut Cursor) -> Result<(usize, u8), Complaint> {
         let name = cursor.name("a variable")?;
         match self.variable(name.text) {
             Some((v, count)) if v < 4 => Ok((v as usize, count)),
@@ -213,16 +223,23 @@ impl Context {
             return self.push(cursor, Step::Update(p as u8));
         }
         if !cursor.eat(":") {
-            return cursor.complain(if pso { "`:`, `writes out` or `removes its mark`" } else { "`:`, `writes out` or `looks up`" });
+            return cursor.complain(if pso {
+                "`:`, `writes out` or `removes its mark`"
+            } else {
+                "`:`, `writes out` or `looks up`"
+            });
         }
-        let Some(program) = &self.program else { return cursor.complain("a step by letter, since no program is given") };
+        let Some(program) = &self.program else {
+            return cursor.complain("a step by letter, since no program is given");
+        };
         let start = cursor.at;
         let operation = operation(cursor, &|name| self.variable(name), None)?;
         let mut to = None;
         if cursor.eat("->") {
             let expected = format!("a state of {}", self.names.process(p));
             let name = cursor.name(&expected)?;
-            let state = self.names.states.get(p).and_then(|states| states.iter().position(|known| known.name == name.text));
+            let state =
+                self.names.states.get(p).and_then(|states| states.iter().position(|known| known.name == name.text));
             match state {
                 Some(state) => to = Some(state as u8),
                 None => return cursor.complain_back(&expected),
@@ -260,7 +277,7 @@ impl Context {
     }
 
     /// An entry has a message, its pointers name messages, and one names the first; of patterns, number 7.
-    fn end_of_item(&self) -> Result<(), Complaint> {
+    pub(super) fn end_of_item(&self) -> Result<(), Complaint> {
         let complain = |words: String| Err(Complaint { line: self.place.0, column: self.place.1, words });
         match self.parts.last() {
             Some(Evidence::List(entries)) => {
@@ -269,7 +286,10 @@ impl Context {
                 if messages == 0 {
                     return complain(String::from("expected a `message` in this entry"));
                 }
-                let present = |p: usize| p < self.names.processes.len() && (self.program.is_some() || entry.pointers[p] != 0 || entry.states[p] != 0);
+                let present = |p: usize| {
+                    p < self.names.processes.len()
+                        && (self.program.is_some() || entry.pointers[p] != 0 || entry.states[p] != 0)
+                };
                 for p in (0..4).filter(|p| present(*p)) {
                     if !(1..=messages).contains(&(entry.pointers[p] as usize)) {
                         return complain(format!(
@@ -294,15 +314,22 @@ impl Context {
                                 matches!(clue, Clue::Waiting { process: p, variable: v, .. } if (*p, *v) == (process, variable))
                             });
                             if word != ends {
-                                let (p, v) = (self.names.process(process as usize), self.names.variable(variable as usize));
+                                let (p, v) =
+                                    (self.names.process(process as usize), self.names.variable(variable as usize));
                                 let what = if ends { "a `waits` beside" } else { "no `waits` beside" };
-                                return complain(format!("expected {what} the `{}` of {p} {v} in this pattern", if ends { "ends" } else { "empty" }));
+                                return complain(format!(
+                                    "expected {what} the `{}` of {p} {v} in this pattern",
+                                    if ends { "ends" } else { "empty" }
+                                ));
                             }
                         }
                         Clue::Read { process, own, .. } => {
                             let Some(seen) = read.get_mut(process as usize) else { continue };
                             if own && !*seen {
-                                return complain(format!("expected a first read of {} that is not own in this pattern", self.names.process(process as usize)));
+                                return complain(format!(
+                                    "expected a first read of {} that is not own in this pattern",
+                                    self.names.process(process as usize)
+                                ));
                             }
                             *seen = true;
                         }
@@ -316,7 +343,12 @@ impl Context {
     }
 
     /// `P STATE at N, Q STATE at N`, or without `at N`.
-    fn states(&self, cursor: &mut Cursor, pointers: Option<&mut [u8; 4]>, last: Option<&str>) -> Result<[u8; 4], Complaint> {
+    pub(super) fn states(
+        &self,
+        cursor: &mut Cursor,
+        pointers: Option<&mut [u8; 4]>,
+        last: Option<&str>,
+    ) -> Result<[u8; 4], Complaint> {
         let mut states = [0; 4];
         let mut named = [false; 4];
         let mut pointers = pointers;
@@ -339,7 +371,10 @@ impl Context {
                 break;
             }
             if !cursor.eat(",") {
-                return cursor.complain(&format!("`,`{} or the end of the line", last.map_or(String::new(), |word| format!(", `{word}`"))));
+                return cursor.complain(&format!(
+                    "`,`{} or the end of the line",
+                    last.map_or(String::new(), |word| format!(", `{word}`"))
+                ));
             }
         }
         if self.program.is_some() {
@@ -380,7 +415,9 @@ impl Context {
             cursor.done("`:` and values, or the end of the line")?;
             items.push(Item::Message(Message { process: p as u8, variable: v as u8, values }));
             let Some(Evidence::List(entries)) = self.parts.last() else { return Ok(()) };
-            let before = entries.last().map_or(0, |entry| entry.items.iter().filter(|item| matches!(item, Item::Message(_))).count());
+            let before = entries
+                .last()
+                .map_or(0, |entry| entry.items.iter().filter(|item| matches!(item, Item::Message(_))).count());
             if before == MESSAGES {
                 cursor.at = 0;
                 return cursor.complain(&format!("at most {MESSAGES} messages in an entry"));
@@ -401,7 +438,7 @@ impl Context {
     }
 
     /// `P VARIABLE: 1 2 *`, behind `waits`.
-    fn waits(&mut self, cursor: &mut Cursor) -> Result<Vec<(u8, u8, u8)>, Complaint> {
+    pub(super) fn waits(&mut self, cursor: &mut Cursor) -> Result<Vec<(u8, u8, u8)>, Complaint> {
         let p = self.process(cursor)?;
         let (v, count) = self.known_variable(cursor)?;
         cursor.expect(":")?;
@@ -423,78 +460,5 @@ impl Context {
             all.push((p as u8, v as u8, value));
         }
         Ok(all)
-    }
-
-    fn pattern_line(&mut self, cursor: &mut Cursor) -> Result<(), Complaint> {
-        let column = cursor.column();
-        if cursor.eat("pattern") {
-            self.end_of_item()?;
-            let states = self.states(cursor, None, Some("newest"))?;
-            let mut newest = [0; 4];
-            newest.iter_mut().take(self.names.variables.len()).for_each(|value| *value = ANY);
-            if cursor.eat("newest") {
-                let variable = |name: &str| self.variable(name);
-                assignments(cursor, &variable, &mut newest, true)?;
-            }
-            let Some(Evidence::Patterns(patterns)) = self.parts.last_mut() else { return Ok(()) };
-            if patterns.len() == ENTRIES {
-                cursor.at = 0;
-                return cursor.complain(&format!("at most {ENTRIES} patterns"));
-            }
-            patterns.push(Pattern { states, newest, clues: Vec::new() });
-            self.place = (cursor.line.number, column);
-            self.waiting = [[0; 4]; 4];
-            return Ok(());
-        }
-        let clues_so_far = match self.parts.last() {
-            Some(Evidence::Patterns(patterns)) => patterns.last().map(|pattern| pattern.clues.clone()),
-            _ => None,
-        };
-        let Some(so_far) = clues_so_far else { return cursor.complain("`pattern`") };
-        let mut clues = Vec::new();
-        if cursor.eat("waits") {
-            for (process, variable, value) in self.waits(cursor)? {
-                clues.push(Clue::Waiting { process, variable, value });
-            }
-        } else if cursor.ahead(0, "empty") || cursor.ahead(0, "ends") {
-            let ends = cursor.ahead(0, "ends");
-            cursor.at += 1;
-            let p = self.process(cursor)?;
-            let (v, _) = self.known_variable(cursor)?;
-            let twice = |clue: &Clue| matches!(clue, Clue::Queue { process, variable, .. } if (*process as usize, *variable as usize) == (p, v));
-            if so_far.iter().any(twice) {
-                return cursor.complain_back("one `empty` or `ends` for a queue");
-            }
-            cursor.done("the end of the line")?;
-            clues.push(Clue::Queue { process: p as u8, variable: v as u8, ends });
-        } else if cursor.eat("reads") {
-            let p = self.process(cursor)?;
-            cursor.expect(":")?;
-            let before = so_far.iter().filter(|clue| matches!(clue, Clue::Read { process, .. } if *process as usize == p)).count();
-            while cursor.peek().is_some() || clues.is_empty() {
-                let own = cursor.ahead(0, "own") && !cursor.ahead(1, "=");
-                cursor.at += own as usize;
-                let (v, count) = self.known_variable(cursor)?;
-                cursor.expect("=")?;
-                let expected = format!("a value of {}, 0 to {}", self.names.variable(v), count.saturating_sub(1));
-                let value = cursor.number(&expected)?;
-                if value >= count as u32 {
-                    return cursor.complain_back(&expected);
-                }
-                if before + clues.len() == READS {
-                    return cursor.complain_back(&format!("at most {READS} reads of a process"));
-                }
-                clues.push(Clue::Read { process: p as u8, variable: v as u8, value: value as u8, own });
-                cursor.eat(",");
-            }
-        } else {
-            return cursor.complain("`pattern`, `waits`, `empty`, `ends` or `reads`");
-        }
-        if let Some(Evidence::Patterns(patterns)) = self.parts.last_mut() {
-            if let Some(pattern) = patterns.last_mut() {
-                pattern.clues.extend(clues);
-            }
-        }
-        Ok(())
     }
 }

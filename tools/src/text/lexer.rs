@@ -134,8 +134,13 @@ impl<'l, 'a> Cursor<'l, 'a> {
     }
 
     pub fn complain<T>(&self, expected: &str) -> Result<T, Complaint> {
-        let found = self.peek().map_or(String::from("the end of the line"), |token| format!("`{}`", shortened(token.text)));
-        Err(Complaint { line: self.line.number, column: self.column(), words: format!("expected {expected}, found {found}") })
+        let found =
+            self.peek().map_or(String::from("the end of the line"), |token| format!("`{}`", shortened(token.text)));
+        Err(Complaint {
+            line: self.line.number,
+            column: self.column(),
+            words: format!("expected {expected}, found {found}"),
+        })
     }
 
     /// The token just passed is wrong.

@@ -2,7 +2,9 @@
 
 use super::evidence::candidates;
 use super::Names;
-use crate::contents::{Clue, Contents, Entry, Evidence, Item, Machine, Operation, Pattern, Program, Run, Step, Transition, ANY};
+use crate::contents::{
+    Clue, Contents, Entry, Evidence, Item, Machine, Operation, Pattern, Program, Run, Step, Transition, ANY,
+};
 use std::collections::HashSet;
 use std::fmt::Write;
 
@@ -32,7 +34,8 @@ fn rows(program: &Program) -> Vec<Row> {
     let mut rows = Vec::new();
     let mut declared = [0u8; 4];
     let (mut opened, mut current) = (0, usize::MAX);
-    let last: Vec<Option<usize>> = (0..4).map(|p| program.transitions.iter().rposition(|t| t.process as usize == p)).collect();
+    let last: Vec<Option<usize>> =
+        (0..4).map(|p| program.transitions.iter().rposition(|t| t.process as usize == p)).collect();
     let open = |rows: &mut Vec<Row>, opened: &mut usize, declared: &mut [u8; 4]| {
         let process = *opened;
         rows.push(Row::Process { process, again: false });
@@ -122,7 +125,8 @@ fn program_text(out: &mut String, program: &Program, names: &Names, mut named: N
         }
     }
     let label = |p: usize, s: u8| {
-        let wanted = names.labelled(p, s) || named.get(p).and_then(|states| states.get(s as usize)).copied().unwrap_or(true);
+        let wanted =
+            names.labelled(p, s) || named.get(p).and_then(|states| states.get(s as usize)).copied().unwrap_or(true);
         wanted.then(|| format!("{}:", names.state(p, s)))
     };
     let width: Vec<usize> = (0..program.processes)
@@ -170,46 +174,60 @@ fn program_text(out: &mut String, program: &Program, names: &Names, mut named: N
         }
     }
     for (named_processes, target) in &groups {
-        let places = (0..program.processes).filter(|p| named_processes[*p]).map(|p| format!("{} {}", names.process(p), names.state(p, target[p])));
+        let places = (0..program.processes)
+            .filter(|p| named_processes[*p])
+            .map(|p| format!("{} {}", names.process(p), names.state(p, target[p])));
         let _ = writeln!(out, "never {}", places.collect::<Vec<_>>().join(", "));
     }
     if let Some(memory) = names.memory.filter(|memory| memory.iter().any(|value| *value != 0)) {
-        let set = (0..program.variables).filter(|v| memory[*v] != 0).map(|v| format!("{}={}", names.variable(v), memory[v]));
+        let set =
+            (0..program.variables).filter(|v| memory[*v] != 0).map(|v| format!("{}={}", names.variable(v), memory[v]));
         let _ = writeln!(out, "memory {}", set.collect::<Vec<_>>().join(" "));
     }
 }
 
-/// Targets as lines: those that follow each other and differ only in that a process is in each of its states are one line that does not name it;
-/// of these, targets that there are already may be missing.
+/// Targets as lines: those that follow each other and differ only in that a process is in each of its states are one
+/// line that does not name it; of these, targets that there are already may be missing.
 fn groups(program: &Program) -> Vec<([bool; 4], [u8; 4])> {
-    let free_sets: Vec<usize> = {
-        let several = |set: usize| (0..4).all(|p| set >> p & 1 == 0 || p < program.processes && program.states[p] > 1);
-        let size = |set: usize| (0..4).filter(|p| set >> p & 1 == 1).map(|p| program.states[p] as usize).product::<usize>();
-        let mut sets: Vec<usize> = (1..16).filter(|set| several(*set) && set.count_ones() < program.processes as u32).collect();
-        sets.sort_by_key(|set| (std::cmp::Reverse(size(*set)), *set));
-        sets
-    };
+    // The processes that a line may leave out, most targets first.
+    let states = |p: usize| program.states.get(p).copied().unwrap_or(1);
+    let mut free_sets: Vec<(usize, Vec<usize>)> = (1usize..16)
+        .map(|set| (0..4).filter(|p| set >> p & 1 == 1).collect::<Vec<usize>>())
+        .filter(|free| free.len() < program.processes && free.iter().all(|p| *p < program.processes && states(*p) > 1))
+        .map(|free| (free.iter().map(|p| states(*p) as usize).product(), free))
+        .filter(|(size, _)| *size <= program.targets.len())
+        .collect();
+    free_sets.sort_by(|a, b| b.0.cmp(&a.0).then_with(|| a.1.cmp(&b.1)));
     let mut groups = Vec::new();
     let mut rest = &program.targets[..];
     let mut known: HashSet<[u8; 4]> = HashSet::new();
     while let Some(first) = rest.first() {
-        let fits = |set: usize| {
-            let mut expanded = vec![*first];
-            for p in (0..program.processes).filter(|p| set >> p & 1 == 1) {
-                let with = |target: &[u8; 4], state: u8| {
-                    let mut next = *target;
-                    next[p] = state;
-                    next
-                };
-                expanded = expanded.iter().flat_map(|target| (0..program.states[p]).map(move |state| with(target, state))).collect();
+        // How many of the next targets are those of a line that leaves these processes out.
+        let fits = |free: &[usize]| {
+            let mut target = *first;
+            free.iter().for_each(|p| target[*p] = 0);
+            let mut length = 0;
+            loop {
+                if !known.contains(&target) {
+                    if rest.get(length) != Some(&target) {
+                        return None;
+                    }
+                    length += 1;
+                }
+                // The next one: the last process changes fastest.
+                let next = free.iter().rev().find(|p| {
+                    target[**p] = (target[**p] + 1) % states(**p);
+                    target[**p] != 0
+                });
+                if next.is_none() {
+                    return (length > 0).then_some(length);
+                }
             }
-            expanded.retain(|target| !known.contains(target));
-            (!expanded.is_empty() && rest.starts_with(&expanded)).then_some(expanded.len())
         };
-        let found = free_sets.iter().find_map(|set| fits(*set).map(|length| (*set, length)));
-        let (set, length) = found.unwrap_or((0, 1));
+        let found = free_sets.iter().find_map(|(_, free)| fits(free).map(|length| (&free[..], length)));
+        let (free, length) = found.unwrap_or((&[], 1));
         let mut named = [false; 4];
-        (0..program.processes).for_each(|p| named[p] = set >> p & 1 == 0);
+        (0..program.processes).for_each(|p| named[p] = !free.contains(&p));
         groups.push((named, *first));
         known.extend(&rest[..length]);
         rest = &rest[length..];
@@ -218,9 +236,17 @@ fn groups(program: &Program) -> Vec<([bool; 4], [u8; 4])> {
 }
 
 /// A step by name, or by letters where there is no name for it. What comes back is the state that it names, too.
-fn step_text(program: &Program, names: &Names, machine: Machine, states: &[u8; 4], step: Step) -> (String, Option<(usize, u8)>) {
+fn step_text(
+    program: &Program,
+    names: &Names,
+    machine: Machine,
+    states: &[u8; 4],
+    step: Step,
+) -> (String, Option<(usize, u8)>) {
     match step {
-        Step::Serialise(p, v) => (format!("{} writes out {}", names.process(p as usize), names.variable(v as usize)), None),
+        Step::Serialise(p, v) => {
+            (format!("{} writes out {}", names.process(p as usize), names.variable(v as usize)), None)
+        }
         Step::Update(p) if machine == Machine::Pws => (format!("{} looks up", names.process(p as usize)), None),
         Step::Update(p) => (format!("{} removes its mark", names.process(p as usize)), None),
         Step::Transition(number) => {
@@ -288,15 +314,22 @@ fn value(value: u8) -> String {
 
 /// The values that are given; any other is free.
 fn given(names: &Names, values: &[u8; 4]) -> String {
-    let one = |(v, name): (usize, &String)| values.get(v).filter(|value| **value != ANY).map(|value| format!(" {name}={value}"));
+    let one = |(v, name): (usize, &String)| {
+        values.get(v).filter(|value| **value != ANY).map(|value| format!(" {name}={value}"))
+    };
     names.variables.iter().enumerate().filter_map(one).collect()
 }
 
 fn list_text(out: &mut String, names: &Names, entries: &[Entry]) {
     let _ = writeln!(out, "list");
     for entry in entries {
-        let places = names.processes.iter().enumerate().filter(|(p, _)| entry.pointers.get(*p).is_some_and(|pointer| *pointer != 0));
-        let places = places.map(|(p, name)| format!("{name} {} at {}", names.state(p, entry.states[p & 3]), entry.pointers[p & 3]));
+        let places = names
+            .processes
+            .iter()
+            .enumerate()
+            .filter(|(p, _)| entry.pointers.get(*p).is_some_and(|pointer| *pointer != 0));
+        let places = places
+            .map(|(p, name)| format!("{name} {} at {}", names.state(p, entry.states[p & 3]), entry.pointers[p & 3]));
         let _ = writeln!(out, "entry {}", places.collect::<Vec<_>>().join(", "));
         let mut queue = None;
         for item in &entry.items {
@@ -305,7 +338,12 @@ fn list_text(out: &mut String, names: &Names, entries: &[Entry]) {
                     end_queue(out, &mut queue);
                     let values = given(names, &m.values);
                     let colon = if values.is_empty() { "" } else { ":" };
-                    let _ = writeln!(out, "  message {} {}{colon}{values}", names.process(m.process as usize), names.variable(m.variable as usize));
+                    let _ = writeln!(
+                        out,
+                        "  message {} {}{colon}{values}",
+                        names.process(m.process as usize),
+                        names.variable(m.variable as usize)
+                    );
                 }
                 Item::Waiting { process, variable, value } => waits(out, names, &mut queue, process, variable, value),
             }
@@ -334,7 +372,8 @@ fn patterns_text(out: &mut String, names: &Names, patterns: &[Pattern]) {
     let _ = writeln!(out, "patterns");
     for pattern in patterns {
         let places = names.processes.iter().enumerate();
-        let places = places.map(|(p, name)| format!("{name} {}", names.state(p, pattern.states.get(p).copied().unwrap_or(0))));
+        let places =
+            places.map(|(p, name)| format!("{name} {}", names.state(p, pattern.states.get(p).copied().unwrap_or(0))));
         let newest = given(names, &pattern.newest);
         let word = if newest.is_empty() { "" } else { " newest" };
         let _ = writeln!(out, "pattern {}{word}{newest}", places.collect::<Vec<_>>().join(", "));
@@ -352,7 +391,12 @@ fn patterns_text(out: &mut String, names: &Names, patterns: &[Pattern]) {
                 Clue::Waiting { process, variable, value } => waits(out, names, &mut queue, process, variable, value),
                 Clue::Queue { process, variable, ends } => {
                     let word = if ends { "ends" } else { "empty" };
-                    let _ = writeln!(out, "  {word} {} {}", names.process(process as usize), names.variable(variable as usize));
+                    let _ = writeln!(
+                        out,
+                        "  {word} {} {}",
+                        names.process(process as usize),
+                        names.variable(variable as usize)
+                    );
                 }
                 Clue::Read { process, variable, value, own } => {
                     if reader.is_none() {
@@ -361,7 +405,8 @@ fn patterns_text(out: &mut String, names: &Names, patterns: &[Pattern]) {
                         out.push(',');
                     }
                     reader = Some(process);
-                    let _ = write!(out, "{} {}={value}", if own { " own" } else { "" }, names.variable(variable as usize));
+                    let _ =
+                        write!(out, "{} {}={value}", if own { " own" } else { "" }, names.variable(variable as usize));
                 }
             }
         }
@@ -372,7 +417,8 @@ fn patterns_text(out: &mut String, names: &Names, patterns: &[Pattern]) {
     }
 }
 
-/// The text of a file. Evidence alone is told in the words of the program that is given, or by letters. The names are those of the program.
+/// The text of a file. Evidence alone is told in the words of the program that is given, or by letters. The names are
+/// those of the program.
 pub fn list(contents: &Contents, given: Option<&Program>, names: &Names, by_letter: bool) -> String {
     let program = contents.program.as_ref().or(given);
     let mut evidence = String::new();

@@ -1,11 +1,15 @@
-//! Programs and evidence in words: `assemble` takes a text to what a file holds, `listing` takes that back to a text, and `registers` writes the program
-//! without registers (N8). The notation is that of hrafnolt-text(1).
+//! Programs and evidence in words: `assemble` takes a text to what a file holds, `listing` takes that back to a text,
+//! and `registers` writes the program without registers (N8). The notation is that of hrafnolt-text(1).
 
 pub mod assemble;
 pub mod evidence;
+pub mod fences;
 pub mod lexer;
 pub mod listing;
+pub mod operations;
+mod patterns;
 pub mod registers;
+pub mod sources;
 
 use crate::contents::{Operation, Program, STATES};
 use std::fmt;
@@ -47,19 +51,22 @@ const MADE_UP: [&str; 4] = ["x", "y", "z", "w"];
 impl Names {
     /// p0, p1 ..; x, y, z, w; q0, q1 ..; r.
     pub fn made_up(program: Option<&Program>) -> Names {
-        let (processes, variables, states) = program.map_or((4, 4, [STATES; 4]), |p| (p.processes, p.variables, p.states));
+        let (processes, variables, states) =
+            program.map_or((4, 4, [STATES; 4]), |p| (p.processes, p.variables, p.states));
         let state = |s| StateName { name: format!("q{s}"), labelled: true };
         Names {
             processes: (0..processes).map(|p| format!("p{p}")).collect(),
             variables: MADE_UP.iter().take(variables).map(|name| name.to_string()).collect(),
-            registers: (0..processes).map(|p| program.filter(|program| program.has_register(p)).map(|_| String::from("r"))).collect(),
+            registers: (0..processes)
+                .map(|p| program.filter(|program| program.has_register(p)).map(|_| String::from("r")))
+                .collect(),
             states: states.iter().take(processes).map(|count| (0..*count).map(state).collect()).collect(),
             memory: None,
         }
     }
 
-    /// These names as far as the program has what they name, and names made up for the rest. If a process has another number of states than the
-    /// text's, the text's states are others.
+    /// These names as far as the program has what they name, and names made up for the rest. If a process has another
+    /// number of states than the text's, the text's states are others.
     pub fn for_program(&self, program: &Program) -> Names {
         let mut names = Names::made_up(Some(program));
         if self.processes.len() == program.processes {
@@ -68,15 +75,20 @@ impl Names {
                 if let Some(states) = self.states.get(p).filter(|states| states.len() == program.states[p] as usize) {
                     names.states[p] = states.clone();
                 }
-                if let (Some(named), Some(place)) = (self.registers.get(p), names.registers.get_mut(p)) {
-                    *place = named.clone().or(place.take());
-                }
             }
         }
         if self.variables.len() == program.variables {
             names.variables = self.variables.clone();
             let in_range = |memory: &[u8; 4]| (0..program.variables).all(|v| memory[v] < program.values[v]);
             names.memory = self.memory.filter(in_range);
+        }
+        // No register has a variable's name.
+        for p in 0..if program.registers { program.processes } else { 0 } {
+            let mut name = self.registers.get(p).and_then(Option::clone).unwrap_or_else(|| String::from("r"));
+            while names.variables.contains(&name) {
+                name.push('_');
+            }
+            names.registers[p] = Some(name);
         }
         names
     }
@@ -125,7 +137,8 @@ impl Names {
 
     /// `module at open, page at wait`.
     pub fn places(&self, states: &[u8; 4]) -> String {
-        let one = |(p, name): (usize, &String)| format!("{name} at {}", self.state(p, states.get(p).copied().unwrap_or(0)));
+        let one =
+            |(p, name): (usize, &String)| format!("{name} at {}", self.state(p, states.get(p).copied().unwrap_or(0)));
         self.processes.iter().enumerate().map(one).collect::<Vec<_>>().join(", ")
     }
 }

@@ -1,4 +1,5 @@
-//! A program with registers written without them (document 02, N8). The library's own function is the proved one; this one keeps the names.
+//! A program with registers written without them (document 02, N8). The library's own function is the proved one; this
+//! one keeps the names.
 
 use super::{Names, StateName};
 use crate::contents::{Operation, Program, Transition, STATES, TRANSITIONS};
@@ -11,8 +12,8 @@ pub struct TooLarge {
     pub words: String,
 }
 
-/// The program without registers. Local states are pairs, numbered by state and then by register; each transition becomes one for each register
-/// value that it can start from, then each value it can read.
+/// The program without registers. Local states are pairs, numbered by state and then by register; each transition
+/// becomes one for each register value that it can start from, then each value it can read.
 pub fn without(program: &Program) -> Result<Program, TooLarge> {
     let has: Vec<bool> = (0..4).map(|p| program.has_register(p)).collect();
     let mut out = Program { registers: false, transitions: Vec::new(), targets: Vec::new(), ..program.clone() };
@@ -30,14 +31,18 @@ pub fn without(program: &Program) -> Result<Program, TooLarge> {
     for (number, t) in program.transitions.iter().enumerate() {
         let process = t.process as usize;
         let with = has.get(process).copied().unwrap_or(false);
-        let mut add = |from: u8, operation: Operation, to: u8| out.transitions.push(Transition { process: t.process, from, operation, to });
+        let mut add = |from: u8, operation: Operation, to: u8| {
+            out.transitions.push(Transition { process: t.process, from, operation, to })
+        };
         if !with {
             add(t.from, t.operation, t.to);
         }
         for r in 0..if with { 4 } else { 0 } {
             let (from, to) = (4 * t.from + r, 4 * t.to + r);
             match t.operation {
-                Operation::Load { variable } => (0..4).for_each(|x| add(from, Operation::Read { variable, value: x }, 4 * t.to + x)),
+                Operation::Load { variable } => {
+                    (0..4).for_each(|x| add(from, Operation::Read { variable, value: x }, 4 * t.to + x))
+                }
                 Operation::Save { variable } => add(from, Operation::Write { variable, value: r }, to),
                 Operation::Test { value } if value == r => add(from, Operation::Nop, to),
                 Operation::Test { .. } => {}
