@@ -31,7 +31,13 @@ fn lock<S>(mutex: &Mutex<S>) -> MutexGuard<'_, S> {
 
 /// Does `work` for each job, with a `room` for each thread, and hands the answers to `take` in the order of the jobs, each as soon as all before it
 /// are taken. Ends early if `take` gives an error.
-pub fn run<J, R, A, T>(jobs: &[J], threads: usize, room: impl Fn() -> R + Sync, work: impl Fn(&mut R, &J) -> A + Sync, take: T) -> Result<(), i32>
+pub fn run<J, R, A, T>(
+    jobs: &[J],
+    threads: usize,
+    room: impl Fn() -> R + Sync,
+    work: impl Fn(&mut R, &J) -> A + Sync,
+    take: T,
+) -> Result<(), i32>
 where
     J: Sync,
     A: Send,

@@ -190,7 +190,11 @@ fn end_words(program: &Program, c: &Configuration, steps: usize) -> Option<Strin
     let apart = |target: &[u8; 4]| (0..processes).filter(|p| target[*p] != c.states[*p]).collect::<Vec<_>>();
     let (number, target) = program.targets.iter().enumerate().min_by_key(|(_, target)| apart(target).len())?;
     let wanted: Vec<String> = apart(target).iter().map(|p| format!("process {p} in state {}", target[*p])).collect();
-    let nearest = if program.targets.len() == 1 { "the target".to_string() } else { format!("target {number}, the nearest of {},", program.targets.len()) };
+    let nearest = if program.targets.len() == 1 {
+        "the target".to_string()
+    } else {
+        format!("target {number}, the nearest of {},", program.targets.len())
+    };
     let ended = if steps == 1 { "1 step".to_string() } else { format!("{steps} steps") };
     Some(format!("after {ended} the local states are {}; {nearest} wants {}", numbers(&c.states[..processes]), wanted.join(" and ")))
 }
@@ -227,7 +231,9 @@ fn cause_words(program: &Program, c: &Configuration, step: Step, cause: Cause) -
     };
     Some(match cause {
         Cause::State { is, wanted } => format!("process {p} is in state {is}, and this starts in state {wanted}"),
-        Cause::Queue { variable } => format!("the {held} of process {p} and variable {variable} must be empty, and has {}", waits(variable)),
+        Cause::Queue { variable } => {
+            format!("the {held} of process {p} and variable {variable} must be empty, and has {}", waits(variable))
+        }
         Cause::Pointer { is, newest } => format!("the pointer of process {p} is at message {is}, and the newest is {newest}"),
         Cause::Value { variable, is, from: Source::Waiting, .. } => {
             format!("its own newest store is found, {is}; {held} of variable {variable}: {}", waits(variable))

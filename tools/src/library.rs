@@ -116,9 +116,7 @@ pub fn judge(lent: Lent, area: &mut Area) -> Option<Verdict> {
     Some(unsafe {
         match lent.program {
             None => hrafnolt_judge(file.as_ptr(), file.len(), work.as_mut_ptr(), work.len()),
-            Some(program) => {
-                hrafnolt_judge_pair(program.as_ptr(), program.len(), file.as_ptr(), file.len(), work.as_mut_ptr(), work.len())
-            }
+            Some(program) => hrafnolt_judge_pair(program.as_ptr(), program.len(), file.as_ptr(), file.len(), work.as_mut_ptr(), work.len()),
         }
     })
 }

@@ -78,7 +78,11 @@ fn by_name(choices: &'static [Choice], name: &[u8]) -> Result<&'static Choice, S
     match meant.as_slice() {
         [one] => Ok(one),
         [] => Err(format!("there is no option --{}", crate::names::quoted(name))),
-        many => Err(format!("--{} may be {}", crate::names::quoted(name), many.iter().map(|c| format!("--{}", c.long)).collect::<Vec<_>>().join(" or "))),
+        many => Err(format!(
+            "--{} may be {}",
+            crate::names::quoted(name),
+            many.iter().map(|c| format!("--{}", c.long)).collect::<Vec<_>>().join(" or ")
+        )),
     }
 }
 

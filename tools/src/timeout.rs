@@ -91,8 +91,7 @@ fn from_bytes(bytes: &[u8; 72]) -> Verdict {
 }
 
 fn to_bytes(v: Verdict) -> Vec<u8> {
-    let words =
-        [v.kind, v.first, v.second, v.step_kind, v.step_first, v.step_second, v.record_file, v.record_at, v.record_length];
+    let words = [v.kind, v.first, v.second, v.step_kind, v.step_first, v.step_second, v.record_file, v.record_at, v.record_length];
     words.iter().flat_map(|word| word.to_le_bytes()).collect()
 }
 

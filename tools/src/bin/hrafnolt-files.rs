@@ -28,7 +28,8 @@ const USAGE: &str = "usage: hrafnolt-files [OPTION].. FILE..
        hrafnolt-files [OPTION].. --pairs LIST
 ";
 
-const ABOUT: &str = "Judges evidence files of any size and prints `NAME: LINE` for each. A FILE may be -, standard input, and a folder stands for
+const ABOUT: &str =
+    "Judges evidence files of any size and prints `NAME: LINE` for each. A FILE may be -, standard input, and a folder stands for
 the files below it.
 
 ";
@@ -391,11 +392,7 @@ fn judge_all() -> Result<i32, i32> {
     if options.figures {
         output.write(if options.json { figures.json() } else { figures.lines(options.explain) }.as_bytes())?;
     }
-    Ok(if incomplete {
-        2
-    } else {
-        i32::from(figures.any_refused())
-    })
+    Ok(if incomplete { 2 } else { i32::from(figures.any_refused()) })
 }
 
 fn main() {
