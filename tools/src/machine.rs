@@ -40,7 +40,7 @@ impl Cause {
     }
 }
 
-/// Where a value that is read stands: its own waiting store, or this message (PSO: memory, as message 0).
+/// Where a value that is read stands: its own waiting store, or this message; for the PSO machine that is memory as it is.
 #[derive(Clone, Copy, PartialEq, Eq, Debug)]
 pub enum Source {
     Waiting,
