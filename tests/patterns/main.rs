@@ -29,7 +29,7 @@ impl Random {
 }
 
 fn random_program(random: &mut Random) -> Program {
-    let (processes, variables) = [(1, 1), (1, 2), (2, 1), (2, 2), (2, 2), (3, 1)][random.below(6)];
+    let (processes, variables) = [(1, 1), (1, 2), (1, 2), (2, 1), (2, 2), (2, 2), (2, 2), (3, 1)][random.below(8)];
     let mut values = [0; 4];
     for v in 0..variables {
         values[v] = 2 + random.one_in(6) as u8;
@@ -128,12 +128,12 @@ fn random_pattern(program: &Program, random: &mut Random, d: &Configuration) -> 
     }
     for p in 0..program.processes {
         let mut at = 0;
-        for _ in 0..random.below(4) {
+        for _ in 0..random.below(5) {
             let x = random.below(program.variables);
             let low = d.last_write(p, x).max(at);
-            let i = low + random.below(n + 1 - low);
+            let i = if random.one_in(2) { low } else { low + random.below(n + 1 - low) };
             let message = d.channel[i - 1];
-            let own = at > 0 && i > at && message.is_labelled(p, x) && random.one_in(2);
+            let own = at > 0 && i > at && message.is_labelled(p, x) && !random.one_in(4);
             a.paths[p].push(Read { variable: x, value: message.snapshot[x], own });
             at = i;
         }
@@ -164,6 +164,46 @@ fn leads_in(program: &Program, a: &Pattern, step: Step, c: &Configuration) -> bo
     false
 }
 
+/// A pattern like a: a value, an own or a read is changed or left out here and there.
+fn near(program: &Program, random: &mut Random, a: &Pattern) -> Pattern {
+    let mut b = a.clone();
+    for v in 0..program.variables {
+        if random.one_in(3) {
+            b.newest[v] = FF;
+        }
+    }
+    for clue in &mut b.clues {
+        if let Clue::Contains(word) | Clue::Ends(word) = clue {
+            if random.one_in(2) && !word.is_empty() {
+                let i = random.below(word.len());
+                let value = [0, 1, FF][random.below(3)];
+                match random.below(3) {
+                    0 if i + 1 < word.len() => word[i] = value,
+                    1 if i + 1 == word.len() && value != FF => word[i] = value,
+                    _ if word.len() > 1 => {
+                        word.remove(0);
+                    }
+                    _ => *clue = Clue::Contains(Vec::new()),
+                }
+            }
+        }
+    }
+    for path in &mut b.paths {
+        if random.one_in(2) && !path.is_empty() {
+            let i = random.below(path.len());
+            if i > 0 && random.one_in(2) {
+                path[i].own = !path[i].own;
+            } else {
+                path.remove(i);
+            }
+        }
+        if let Some(first) = path.first_mut() {
+            first.own = false;
+        }
+    }
+    b
+}
+
 fn rules(seed: u64, programs: usize) -> bool {
     let mut random = Random(seed.wrapping_mul(0x9e37_79b9_7f4a_7c15) | 1);
     let (mut into, mut out_of, mut held) = (0, 0, 0);
@@ -171,23 +211,32 @@ fn rules(seed: u64, programs: usize) -> bool {
         let program = random_program(&mut random);
         let steps = program.all_steps();
         let pool = visited(&program, &mut random, 40);
-        for _ in 0..60 {
+        for _ in 0..40 {
+            // A step into a pattern comes from a predecessor that is not dropped.
             let c = &pool[random.below(pool.len())];
+            let may: Vec<(Step, Configuration)> = steps.iter().filter_map(|step| after(&program, c, *step).map(|d| (*step, d))).collect();
+            if may.is_empty() {
+                continue;
+            }
+            for (step, d) in &may {
+                let a = random_pattern(&program, &mut random, d);
+                if !fits(&program, &a, d) {
+                    println!("patterns: program {}: a configuration does not fit the pattern made from it: {:?} {:?} {:?}", number, program, a, d);
+                    return false;
+                }
+                into += 1;
+                let before = predecessors(&program, &a, *step);
+                if !fits(&program, &a, c) && !before.iter().any(|b| !dropped(&program, b) && fits(&program, b, c)) {
+                    println!("patterns: program {}: {} leads into a pattern from no predecessor: {:?} {:?} {:?}", number, step, program, a, c);
+                    return false;
+                }
+            }
+            // A predecessor leads in.
+            let e = &pool[random.below(pool.len())];
+            let a = random_pattern(&program, &mut random, e);
             let step = steps[random.below(steps.len())];
-            let Some(d) = after(&program, c, step) else { continue };
-            let a = random_pattern(&program, &mut random, &d);
-            if !fits(&program, &a, &d) {
-                println!("patterns: program {}: a configuration does not fit the pattern made from it: {:?} {:?} {:?}", number, program, a, d);
-                return false;
-            }
-            let before = predecessors(&program, &a, step);
-            into += 1;
-            if !fits(&program, &a, c) && !before.iter().any(|b| !dropped(&program, b) && fits(&program, b, c)) {
-                println!("patterns: program {}: {} leads into a pattern from no predecessor: {:?} {:?} {:?}", number, step, program, a, c);
-                return false;
-            }
-            for b in &before {
-                for c in pool.iter().filter(|c| fits(&program, b, c)).take(3) {
+            for b in &predecessors(&program, &a, step) {
+                for c in pool.iter().filter(|c| fits(&program, b, c)).take(2) {
                     out_of += 1;
                     if !leads_in(&program, &a, step, c) {
                         println!("patterns: program {}: a predecessor under {} does not lead in: {:?} {:?} {:?} {:?}", number, step, program, a, b, c);
@@ -195,13 +244,16 @@ fn rules(seed: u64, programs: usize) -> bool {
                     }
                 }
             }
-            let b = random_pattern(&program, &mut random, &d);
-            if within(&program, &a, &b) {
-                for c in pool.iter().filter(|c| fits(&program, &a, c)) {
-                    held += 1;
-                    if !fits(&program, &b, c) {
-                        println!("patterns: program {}: within, and does not fit: {:?} {:?} {:?} {:?}", number, program, a, b, c);
-                        return false;
+            // What fits a pattern fits whatever it is within.
+            for _ in 0..4 {
+                let b = near(&program, &mut random, &a);
+                if within(&program, &a, &b) {
+                    for c in pool.iter().filter(|c| fits(&program, &a, c)) {
+                        held += 1;
+                        if !fits(&program, &b, c) {
+                            println!("patterns: program {}: within, and does not fit: {:?} {:?} {:?} {:?}", number, program, a, b, c);
+                            return false;
+                        }
                     }
                 }
             }
