@@ -11,6 +11,7 @@ use hrafnolt_tools::names::{hex, json_name, json_string, quoted};
 use hrafnolt_tools::options::{self, choice, Choice, Word, NO_LETTER};
 use hrafnolt_tools::output::{misused, print_and_end, say, Output};
 use hrafnolt_tools::outside::{outside, Stop};
+use hrafnolt_tools::trace;
 use hrafnolt_tools::timeout::{self, Failed, Other};
 use hrafnolt_tools::words;
 use std::collections::HashMap;
@@ -38,12 +39,13 @@ const STATUS: &str = "
 Exit status: 0 if all were accepted, 1 if any was refused, 2 if a file can't be read.
 ";
 
-static CHOICES: [Choice; 14] = [
+static CHOICES: [Choice; 15] = [
     choice('p', "program", "PROGRAM", "judge evidence files against this program file; a refusal that stands in it ends\nin `in PROGRAM`"),
     choice(NO_LETTER, "pairs", "LIST", "judge pairs: each line of LIST has a program file, a tab and an evidence file"),
     choice('r', "record", "", "under each refusal 1 to 7 the offending record, in hexadecimal digits"),
     choice('e', "explain", "", "under each refusal why it is refused, in a sentence"),
     choice('w', "outside", "", "under each refusal 9 or 11 a configuration that the list lacks, in words"),
+    choice('t', "trace", "", "under each run its configurations, step by step, up to the step that fails"),
     choice('s', "figures", "", "at the end counts, the mean and variance of entries per safe file, and the share\nof safe files"),
     choice('q', "quiet", "", "no line for a file that is accepted"),
     choice('j', "jobs", "N", "judge N files at a time; the lines keep their order"),
@@ -63,6 +65,7 @@ struct Options {
     records: bool,
     explain: bool,
     outside: bool,
+    trace: bool,
     figures: bool,
     quiet: bool,
     json: bool,
@@ -172,19 +175,29 @@ impl Options {
                 }
             }
         }
+        if self.trace && !v.about_records() {
+            // What holds no run has no trace.
+            let told = match lent.program {
+                Some(program) => trace::of_files(program, Some(lent.file)),
+                None => trace::of_files(lent.file, None),
+            };
+            shown.extend(told.ok().map(|told| ("trace", told.lines.join("\n"))));
+        }
         if self.json {
             answer.lines = self.object(job, v, &shown).into_bytes();
             return answer;
         }
         let name = self.name(&job.name);
         for (what, words) in shown {
-            answer.lines.extend(&name);
             let head = match what {
                 "line" => String::new(),
                 "record" => format!("record{in_program}: "),
                 _ => format!("{what}: "),
             };
-            answer.lines.extend(format!("{head}{words}\n").bytes());
+            for line in words.split('\n') {
+                answer.lines.extend(&name);
+                answer.lines.extend(format!("{head}{line}\n").bytes());
+            }
         }
         answer
     }
@@ -258,6 +271,7 @@ fn read_options() -> Result<Options, i32> {
             "record" => options.records = true,
             "explain" => options.explain = true,
             "outside" => options.outside = true,
+            "trace" => options.trace = true,
             "figures" => options.figures = true,
             "quiet" => options.quiet = true,
             "json" => options.json = true,
