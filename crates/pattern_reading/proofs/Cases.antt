@@ -4,7 +4,7 @@ use mathlib.Core.Path.{_≡_, refl, ap, _∙_}
 use mathlib.Core.List.{List, [], _∷_}
 use native.Mathlib.Omega.{arith}
 use borrow.Author.Tests.{le-ltb}
-use Rattle.file_records.specs.Bytes.{cut}
+use Rattle.base.specs.Bytes.{cut}
 use Rattle.file_records.specs.Records.{
   firstNumber,
   checked,
@@ -18,6 +18,7 @@ use Rattle.file_records.specs.Records.{
   statesNumber,
   valueExists,
   allZero,
+  namesOf,
   operationNames,
   operationOf,
   transitionNames,
@@ -29,7 +30,7 @@ use Rattle.file_records.specs.Records.{
   waitingNames,
   waitingNumber,
 }
-use Rattle.file_records.specs.ProgramPart.{unlessEnd, statesFrom, rowFrom, transitionsFrom, atEnd, targetsFrom, rowsFrom, restFrom, programFrom}
+use Rattle.file_records.specs.ProgramPart.{unlessEnd, statesFrom, rowFrom, transitionsFrom, atEnd, targetsFrom, rowsFrom, restFrom, programWith, programFrom}
 use Rattle.file_contents.specs.EvidencePart.{entriesAllowed}
 use Rattle.file_contents.specs.Reading.{Input, combined, pair, evidenceAt}
 use Rattle.pattern_reading.specs.Records.{claimNumber, newestNames, patternNumber, readNames, readNumber, markNames, markNumber, bodyNumber, bodySize, extended}
@@ -75,7 +76,7 @@ AllRight k [] = Unit {0}
 AllRight k (r ∷ rs) = Right k r × AllRight k rs
 
 rows-computed : (k : ℕ) → AllRight k cases
-unfolding cut firstNumber checked isKind inRange countInRange countsInRange countIfAbsent countsIfAbsent shapeNumber statesNumber valueExists allZero operationNames operationOf transitionNames transitionNumber stateName stateNames targetNumber valueName waitingNames waitingNumber unlessEnd statesFrom rowFrom transitionsFrom atEnd targetsFrom rowsFrom restFrom programFrom claimNumber newestNames patternNumber readNames readNumber markNames markNumber bodyNumber bodySize extended complete atBoundary finished patternFrom patternsFrom evidenceFrom
+unfolding cut firstNumber checked isKind inRange countInRange countsInRange countIfAbsent countsIfAbsent shapeNumber statesNumber valueExists allZero namesOf operationNames operationOf transitionNames transitionNumber stateName stateNames targetNumber valueName waitingNames waitingNumber unlessEnd statesFrom rowFrom transitionsFrom atEnd targetsFrom rowsFrom restFrom programWith claimNumber newestNames patternNumber readNames readNumber markNames markNumber bodyNumber bodySize extended complete atBoundary finished patternFrom patternsFrom evidenceFrom
 rows-computed k =
     (refl, (refl, (refl, (refl, (refl, (refl, (refl, (refl, (refl, (refl, (refl, (refl, (refl, (refl, (refl, (refl, (refl, (refl, (refl, (refl, (refl, (refl, (refl, (refl, (refl, (refl, (refl, (refl, (refl, (refl, (refl, (refl, tt))))))))))))))))))))))))))))))))
 

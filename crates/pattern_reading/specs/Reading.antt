@@ -14,7 +14,7 @@ use Rattle.file_records.specs.declared.program.Checked.{Checked}
 use Rattle.file_records.specs.declared.program.Checked.the-variants.{Fine, Refused}
 use Rattle.file_records.specs.declared.program.Program.{Program}
 use Rattle.file_records.specs.declared.program.ProgramRead.{ProgramRead}
-use Rattle.file_records.specs.Bytes.{choose}
+use Rattle.base.specs.Bytes.{choose}
 use Rattle.file_records.specs.Records.{checked, isKind}
 use Rattle.file_records.specs.ProgramPart.{unlessEnd, programFrom, programOf, targetsOf}
 use Rattle.file_contents.specs.declared.evidence.Part.{Part}

@@ -7,7 +7,7 @@ use lib.ListN.{length}
 use lib.Dec.{eqb, leb, ltb}
 use Rattle.machine_pws.specs.Machine.{put}
 use Rattle.file_records.specs.declared.program.Shape.{Shape}
-use Rattle.file_records.specs.Bytes.{byte, cut}
+use Rattle.base.specs.Bytes.{byte, cut}
 use Rattle.file_records.specs.Records.{firstNumber, isKind, valueCount, exists, stateNames, stateAt, valueName, waitingNumber}
 use Rattle.pattern_theory.specs.Patterns.{PathRead}
 use Rattle.pattern_theory.specs.Verdict.{isSome}
