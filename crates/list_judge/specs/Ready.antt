@@ -65,9 +65,17 @@ startTest g f list n p k = not (looksStarted (programOf g p) (entry (entriesOf f
 abbrev pub closedTest : List ℕ → List ℕ → List ℕ → ℕ → Program → ℕ → Bool
 closedTest g f list n p k = closed (programOf g p) (entriesOf f list n) (entry (entriesOf f list n) k)
 
+-- of every number with local states of the table the test holds
+pub record Known (states : ℕ → List ℕ) (test : ℕ → Bool) (n : ℕ) (table : List ℕ) : Type 0 where
+  pub groups : (i : ℕ) → 4 * i + 4 ≤ length table → (k : ℕ) → k < n → states k ≡ fourAt table (4 * i) → test k ≡ true
+
+-- a target with local states of the table is held
+abbrev pub Holds : List ℕ → List ℕ → List ℕ → ℕ → Program → List ℕ → Type 0
+Holds g f list n p table = Known (targetOf g p) (heldTest g f list n p) (p .targets .count) table
+
 -- nothing leads in to an entry with local states of the table
-pub record Shuts (g f list : List ℕ) (n : ℕ) (p : Program) (table : List ℕ) : Type 0 where
-  pub groups : (i : ℕ) → 4 * i + 4 ≤ length table → (k : ℕ) → k < n → cubeAt f list k .states ≡ fourAt table (4 * i) → closedTest g f list n p k ≡ true
+abbrev pub Shuts : List ℕ → List ℕ → List ℕ → ℕ → Program → List ℕ → Type 0
+Shuts g f list n p table = Known (λ k. cubeAt f list k .states) (closedTest g f list n p) n table
 
 -- the verdict of a list all of whose targets are held, and none of whose entries a start is above
 abbrev pub enteredSaid : List ℕ → List ℕ → List ℕ → ℕ → Program → Verdict

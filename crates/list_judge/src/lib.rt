@@ -13,7 +13,7 @@ ghost use Rattle.list_known.specs.FamilyTable.{Families};
 ghost use Rattle.list_targets.specs.Walk.{Searches};
 ghost use Rattle.list_closing.specs.Walk.{LowestFailing};
 ghost use Rattle.verdict.specs.Answers.{verdictIn};
-ghost use Rattle.list_judge.specs.Ready.{Ready, TargetsHeld, Shuts, withTargets, heldTest, startTest, closedTest, enteredSaid, listSaid};
+ghost use Rattle.list_judge.specs.Ready.{Ready, TargetsHeld, Holds, Shuts, withTargets, heldTest, startTest, closedTest, enteredSaid, listSaid};
 use base::bytes::both;
 use file_again::target_of;
 use file_records::program::Program;
@@ -31,6 +31,31 @@ use list_summary::states_at;
 use list_targets::target_held;
 use verdict::answer::Answer;
 
+// Target k is held. The table keeps the local states of those that are, so that equal targets are walked once.
+fn is_held(
+    code: &[u8],
+    file: &[u8],
+    list: &[u8],
+    sum: &[u8],
+    n: usize,
+    program: Program,
+    k: usize,
+    held: &mut [u8],
+) -> bool
+    ensures { λ _. ⌜ length (now (held .exit)) ≡ length (now (held .entry)) ⌝ }
+    ensures { λ r. ⌜ (Ready (now (code .entry)) (now (file .entry)) (now (list .entry)) (now (sum .entry)) n program → Holds (now (code .entry)) (now (file .entry)) (now (list .entry)) n program (now (held .entry)) → Holds (now (code .entry)) (now (file .entry)) (now (list .entry)) n program (now (held .exit)) × (k < program .targets .count → r ≡ heldTest (now (code .entry)) (now (file .entry)) (now (list .entry)) n program k)) ⌝ }
+{
+    let states = target_of(code, program, k);
+    if has_states(held, states) {
+        return true;
+    }
+    if !target_held(file, list, sum, n, program.shape, states) {
+        return false;
+    }
+    put_full(held, states);
+    true
+}
+
 // The lowest target that is not held, or the number of targets.
 fn lowest_unheld(
     code: &[u8],
@@ -43,12 +68,12 @@ fn lowest_unheld(
     requires { ⌜ Ready (now code) (now file) (now list) (now sum) n program ⌝ }
     ensures { λ r. ⌜ LowestFailing (heldTest (now (code .entry)) (now (file .entry)) (now (list .entry)) n program) (program .targets .count) r ⌝ }
 {
-    let shape = program.shape;
     let targets = program.targets;
     let count = targets.count;
+    // local states that no process has
+    let mut held = [255u8; 4096];
     for k in 0..count {
-        let states = target_of(code, program, k);
-        if !target_held(file, list, sum, n, shape, states) {
+        if !is_held(code, file, list, sum, n, program, k, &mut held) {
             return k;
         }
     }

@@ -3,7 +3,7 @@ use mathlib.Core.Bool.{false≢true}
 use lib.ListN.{length}
 use borrow.Author.Tests.{not-false}
 use Rattle.list_judge.specs.Ready.{Shuts}
-use Rattle.list_judge.proofs.ShutLaws.{shuts-has, shuts-put, surrounded-closed}
+use Rattle.list_judge.proofs.ShutLaws.{known-has, shuts-put, surrounded-closed}
 use borrow.Author.Needs.{needs}
 use Rattle.list_judge.proofs.is_shut.Statement.{statement}
 use Rattle.list_judge.proofs.is_shut.Tie as tie
@@ -17,7 +17,7 @@ is-shut-spec = tie.close (tie.spec
     -- same-length
     (λ c. search needs)
     -- returns
-    (λ c. (refl, λ sum R F S. (S, λ t l. shuts-has S (c .before .has-states .ensures (c .if1 .taken)) (c .before .before .before .before .before .before .before .before .before .args .k) l (c .before .before .before .states-at .ensures))))
+    (λ c. (refl, λ sum R F S. (S, λ t l. known-has S (c .before .has-states .ensures (c .if1 .taken)) (c .before .before .before .before .before .before .before .before .before .args .k) l (c .before .before .before .states-at .ensures))))
     -- is-surrounded-requires
     (λ c κs. tt)
     -- same-length-2
