@@ -18,7 +18,7 @@ use Rattle.file_records.specs.ProgramPart.{rowFrom}
 use Rattle.file_records.proofs.RecordLaws.{row-ends, row-step}
 use Rattle.file_contents.specs.EvidencePart.{stepsFrom, stepsOf}
 use Rattle.drawing.specs.Text.{text}
-use Rattle.drawing.specs.Runs.{fullShape, StepInRange, AllInRange, Run, recordOf, recordsOf}
+use Rattle.drawing.specs.Runs.{fullShape, StepInRange, AllInRange, recordOf, recordsOf}
 use Rattle.drawing.specs.Writing.{Made, made, refused, ofCount, drawingOf}
 use Rattle.drawing.specs.Accepted.{Reading, run, place}
 use Rattle.drawing.specs.Reading.{readingOf, ofReading, recordsIn}

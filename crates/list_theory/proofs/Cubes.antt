@@ -87,8 +87,8 @@ any-absent S p u v l = elim (decLt v (S .room)) [
     absent = rw (le-ltb v (S .variables) l)
 
 pub message-any : (S : Shape) → S .variables ≤ S .room → (p v : ℕ) → p < S .processes → v < S .variables → MessageIn (ValueOrFF S) S (anyMessage S p v)
-message-any S four p v pe ve =
-    record { process = pe; variable = ve; room = any-length S 0 (S .room); values = λ u ue. inl (any-exists S p v u four ue); absent = λ u l. any-absent S p v u l }
+message-any S wide p v pe ve =
+    record { process = pe; variable = ve; room = any-length S 0 (S .room); values = λ u ue. inl (any-exists S p v u wide ue); absent = λ u l. any-absent S p v u l }
 
 -- ---- memories
 
@@ -180,7 +180,7 @@ set-value es {ms} i v x n a b l r =
     let k : v < length (message es i .snapshot) = omega (arith, fill-length (f .snapshot), length-set (message es i .snapshot) v x) in
     fill-value x (getD (message ms i .snapshot) v 0) n (rw (getD-set-same (message es i .snapshot) v x 0 k) at (fill-at (f .snapshot) v))
 
-module _ (S : Shape) (four : S .variables ≤ S .room) where
+module _ (S : Shape) (wide : S .variables ≤ S .room) where
   pub memory-set : (m : Memory) → MemoryIn (ValueOrFF S) S m → (i v x : ℕ) → v < S .variables → ValueOrFF S v x
       → MemoryIn (ValueOrFF S) S (memoryOf (setValue (m .channel) i v x) (m .pointer))
   memory-set m o i v x ve w =
@@ -191,7 +191,7 @@ module _ (S : Shape) (four : S .variables ≤ S .room) where
         high = λ q a. omega (arith, o .high q a);
         messages = λ j a b. elim (ℕ-discrete j i) [
           | yes d ↦ let r = o .messages j a (omega arith) in rw (← d, set-same (m .channel) j v x a (omega arith))
-              (relabel (message-set (message (m .channel) j .process) v x four r (r .process) ve w) (message (m .channel) j .process) (message (m .channel) j .variable) (r .process)
+              (relabel (message-set (message (m .channel) j .process) v x wide r (r .process) ve w) (message (m .channel) j .process) (message (m .channel) j .variable) (r .process)
               (r .variable))
           | no d ↦ rw (set-other (m .channel) i v x j d) (o .messages j a (omega arith))
         ];

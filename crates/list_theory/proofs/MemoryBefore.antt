@@ -33,13 +33,13 @@ use Rattle.list_theory.proofs.Cubes.{any-length, any-exists, any-absent
 
 -- any message fills one that is free
 pub fill-any : {Val : ℕ → ℕ → Type 0} {S : Shape} {m : Message} → S .variables ≤ S .room → MessageIn Val S m → (p v : ℕ) → m .process ≡ p → m .variable ≡ v → FillMessage (anyMessage S p v) m
-fill-any {S = S} {m = m} four o p v a b =
+fill-any {S = S} {m = m} wide o p v a b =
     record {
       process = sym a;
       variable = sym b;
       snapshot = fill-each (anyMessage S p v .snapshot) (m .snapshot) (any-length S 0 (S .room) ∙ sym (o .room)) (λ j l. elim (decLe (S .variables) j) [
         | yes c ↦ inr (any-absent S p v j c ∙ sym (o .absent j c))
-        | no c ↦ inl (any-exists S p v j four (omega arith))
+        | no c ↦ inl (any-exists S p v j wide (omega arith))
       ]);
     }
 

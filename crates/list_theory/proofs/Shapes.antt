@@ -97,10 +97,10 @@ freed S ms = map (λ (x : Message). anyMessage S (x .process) (x .variable)) ms
 
 freed-fill : {Val : ℕ → ℕ → Type 0} (S : Shape) → S .variables ≤ S .room → (xs : List Message) → ((i : ℕ) → 1 ≤ i → i ≤ length xs → MessageIn Val S (message xs i))
     → FillChannel (freed S xs) xs
-freed-fill S four [] o = channel-nil
-freed-fill S four (x ∷ xs) o =
-    channel-cons (fill-any four (rw (message-new x xs) at (o (suc (length xs)) (omega arith) (omega arith))) (x .process) (x .variable) refl refl)
-    (freed-fill S four xs (λ i a b. rw (message-old x xs i b) at (o i a (omega arith))))
+freed-fill S wide [] o = channel-nil
+freed-fill S wide (x ∷ xs) o =
+    channel-cons (fill-any wide (rw (message-new x xs) at (o (suc (length xs)) (omega arith) (omega arith))) (x .process) (x .variable) refl refl)
+    (freed-fill S wide xs (λ i a b. rw (message-old x xs i b) at (o i a (omega arith))))
 
 module _ (S : Shape) (m : Memory) (g : Proper S m) (ir : Irreducible S m) where
   abbrev n : ℕ
@@ -219,13 +219,13 @@ module _ (S : Shape) (m : Memory) (g : Proper S m) (ir : Irreducible S m) where
     pub pointer : shape .pointer ≡ m .pointer
 
   pub shape-of : {Val : ℕ → ℕ → Type 0} → MemoryIn Val S m → S .variables ≤ S .room → length (m .channel) ≤ longest S → ShapeOf
-  shape-of om four l =
+  shape-of om wide l =
       let r = outlined (m .channel) (suc (longest S)) 0 [] (λ q. 0) (omega arith) (omega arith) (λ i a b. refl) (λ p v t. absurd t) (λ q e. sym (spot-open n q (g .high q e))) in
       let o : Outline = record { channel = freed S (m .channel); place = r .place } in
       record {
         shape = outlineMemory S o;
         in-shapes = Memᴰ·map (outlineMemory S) (r .in-outlines);
-        fill = freed-fill S four (m .channel) (om .messages);
+        fill = freed-fill S wide (m .channel) (om .messages);
         pointer = fun-ext (λ q. elim (decLt q (S .processes)) [
           | yes e ↦ rw (lt-ltb q (S .processes) e) (omega (
             arith,

@@ -103,9 +103,9 @@ module _ (S : Shape) (c : Configuration) where
 
   -- a part of an entry is an entry
   pub split-fits : S .variables ≤ S .room → Fits (ValueOrFF S) S c → (a : Place) → Valid S c a → (x : ℕ) → x < S .values (variableOf a) → Fits (ValueOrFF S) S (split c a x)
-  split-fits four o (inQueue p v j) w x l =
+  split-fits wide o (inQueue p v j) w x l =
       record { memory = o .memory; queues = queues-put (o .queues) p v (set (c .queue p v) j x) (w .0) (w .1) (all-set (ValueOrFF S v) (c .queue p v) j x (o .queues .values p v (w .0) (w .1)) (inr l)) }
-  split-fits four o (inMessage i v) w x l = record { memory = memory-set S four (c .memory) (o .memory) i v x (w .2) (inr l); queues = o .queues }
+  split-fits wide o (inMessage i v) w x l = record { memory = memory-set S wide (c .memory) (o .memory) i v x (w .2) (inr l); queues = o .queues }
 
   split-outside : (es : List Configuration) (a : Place) → Valid S c a → at c a ≡ FF → (x : ℕ) → Outside S es (split c a x) → Outside S es c
   split-outside es (inQueue p v j) w e x o = record { queues = o .queues; channel = o .channel; filling = unsplit (inQueue p v j) w e x (o .filling); outside = o .outside }
@@ -131,14 +131,14 @@ module _ (S : Shape) (c : Configuration) where
 
   free-split : Fits (ValueOrFF S) S c → S .variables ≤ S .room → (a : Place) → Valid S c a → (x : ℕ) (b : Place) → at (split c a x) b ≡ FF
       → ((b ≡ a) × (x ≡ FF)) ⊎ ((at c b ≡ FF) × (b ≢ a))
-  free-split o four (inQueue p v j) w x (inQueue q u i) e =
+  free-split o wide (inQueue p v j) w x (inQueue q u i) e =
       putQueue-each (c .queue) p v (set (c .queue p v) j x)
       (λ q u zs. getD zs i 0 ≡ FF → ((inQueue q u i ≡ inQueue p v j) × (x ≡ FF)) ⊎ ((getD (c .queue q u) i 0 ≡ FF) × (inQueue q u i ≢ inQueue p v j))) q u
       (λ y. ⊎-elim (λ r. inl (ap (inQueue p v) (r .0), r .1)) (λ r. inr (r .0, λ d. r .1 (cc))) (set-free (c .queue p v) j x i (w .2) y))
       (λ m y. inr (y, λ d. m (cc, cc))) e
-  free-split o four (inQueue p v j) w x (inMessage i u) e = inr (e, λ d. let z : _≡_ {A = ℕ} 0 1 = cc in omega arith)
-  free-split o four (inMessage i v) w x (inQueue q u j) e = inr (e, λ d. let z : _≡_ {A = ℕ} 0 1 = cc in omega arith)
-  free-split o four (inMessage i v) w x (inMessage k u) e = elim (ℕ-discrete k i) [
+  free-split o wide (inQueue p v j) w x (inMessage i u) e = inr (e, λ d. let z : _≡_ {A = ℕ} 0 1 = cc in omega arith)
+  free-split o wide (inMessage i v) w x (inQueue q u j) e = inr (e, λ d. let z : _≡_ {A = ℕ} 0 1 = cc in omega arith)
+  free-split o wide (inMessage i v) w x (inMessage k u) e = elim (ℕ-discrete k i) [
     | yes d ↦
         let m = message (c .memory .channel) i in
         let l : v < length (m .snapshot) = omega (arith, o .memory .messages i (w .0) (w .1) .room, w .2) in

@@ -14,7 +14,7 @@ use Rattle.machine_pws.specs.declared.Step.{Step}
 use Rattle.machine_pws.specs.declared.Step.the-variants.{Update}
 use Rattle.machine_pws.specs.Program.{Shape, Program, WellFormed}
 use Rattle.machine_pws.specs.Machine.{Configuration}
-use Rattle.machine_pws.specs.Configurations.{StatesOf, ConfigurationOf, Start, InTarget}
+use Rattle.machine_pws.specs.Configurations.{StatesOf, ConfigurationOf}
 use Rattle.machine_pws.specs.Entries.{NoValueIsFF, EntryOf, AboveList, filled, noEntry, entry}
 use Rattle.machine_pws.specs.Sequences.{Visited, start, later}
 use Rattle.machine_pws.proofs.Steps.{step-configuration}

@@ -14,3 +14,4 @@ pub mod ForwardOwn
 pub mod ForwardOperations
 pub mod Forward
 pub mod Reachability
+pub mod Sizes

@@ -90,7 +90,7 @@ all-snoc F (y ∷ ys) x a b = (a .0, all-snoc F ys x (a .1) b)
 module _ {Val : ℕ → ℕ → Type 0} {S : Shape} where
   pub message-set : {m : Message} (p v x : ℕ) → S .variables ≤ S .room → MessageIn Val S m → p < S .processes → v < S .variables → Val v x
       → MessageIn Val S (record { process = p; variable = v; snapshot = set (m .snapshot) v x })
-  message-set {m} p v x four o pe ve xo =
+  message-set {m} p v x wide o pe ve xo =
       record {
         process = pe;
         variable = ve;
@@ -103,13 +103,13 @@ module _ {Val : ℕ → ℕ → Type 0} {S : Shape} where
       }
 
   pub memory-append : {m : Memory} → S .variables ≤ S .room → MemoryIn Val S m → (p v x : ℕ) → p < S .processes → v < S .variables → Val v x → MemoryIn Val S (append m p v x)
-  memory-append {m} four o p v x pe ve xo =
+  memory-append {m} wide o p v x pe ve xo =
       record {
         some = omega arith;
         low = o .low;
         high = λ q e. omega (arith, o .high q e);
         messages = λ i a b. message-each (MessageIn Val S) (copyWith (m .channel) p v x) (m .channel) i b
-            (message-set p v x four (o .messages (length (m .channel)) (o .some) (omega arith)) pe ve xo) (o .messages i a);
+            (message-set p v x wide (o .messages (length (m .channel)) (o .some) (omega arith)) pe ve xo) (o .messages i a);
         absent = o .absent;
       }
 

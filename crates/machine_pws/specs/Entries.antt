@@ -17,7 +17,7 @@ FF = 255
 abbrev pub ValueOrFF : Shape → ℕ → ℕ → Type 0
 ValueOrFF S v x = (x ≡ FF) ⊎ (x < S .values v)
 
--- FF is no value, so that an entry can have each of them. Where lists are decided this is asked for; a byte has 255 others.
+-- FF is no value, so that a cube can have each value alone: asked for where a step must be said that leads above an entry (number 11)
 abbrev pub NoValueIsFF : Shape → Type 0
 NoValueIsFF S = (v : ℕ) → v < S .variables → S .values v ≤ FF
 
