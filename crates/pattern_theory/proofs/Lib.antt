@@ -1,0 +1,14 @@
+pub mod Subsequences
+pub mod Paths
+pub mod Joining
+pub mod Appending
+pub mod NewMessage
+pub mod Storing
+pub mod Clues
+pub mod Reading
+pub mod Entering
+pub mod Deciding
+pub mod Starts
+pub mod Verdict
+pub mod Safety
+pub mod Cases
