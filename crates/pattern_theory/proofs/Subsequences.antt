@@ -28,12 +28,6 @@ module _ {A B : Type 0} {R : A → B → Type 0} where
   sub-tail (keep r s) = skip s
   sub-tail (skip s) = skip (sub-tail s)
 
-  -- more behind
-  pub sub-behind : {xs : List A} {ys : List B} (zs : List B) → Subsequence R xs ys → Subsequence R xs (ys ++ zs)
-  sub-behind zs nothing = nothing
-  sub-behind zs (keep r s) = keep r (sub-behind zs s)
-  sub-behind zs (skip s) = skip (sub-behind zs s)
-
   -- one more at the end of both
   at-end : (x : A) (y : B) (ys : List B) → R x y → Subsequence R (x ∷ []) (ys ++ (y ∷ []))
   at-end x y [] r = keep r nothing
