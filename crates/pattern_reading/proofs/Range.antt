@@ -1,18 +1,16 @@
 -- What is read of a pattern file is in range.
 use Prim.Native.Nat.{ℕ, zero, suc, _+_, _<_, _≤_}
-use mathlib.Core.Path.{_≡_, refl, sym, ap, subst, _∙_}
-use mathlib.Core.Logic.{_⊎_, inl, inr, ⊎-elim}
-use mathlib.Core.Bool.{Bool, true, false, cond, _&&_, not}
-use mathlib.Core.Option.{Option, none, some}
+use mathlib.Core.Path.{_≡_, refl, ap, subst, _∙_}
+use mathlib.Core.Logic.{inl, inr}
+use mathlib.Core.Bool.{Bool, true, false, cond}
+use mathlib.Core.Option.{none, some}
 use mathlib.Core.List.{List, [], _∷_, _++_}
 use native.Mathlib.Omega.{arith}
-use native.Mathlib.Decide.{decLt}
-use lib.ListN.{length, getD}
+use lib.ListN.{length}
 use lib.Dec.{eqb, leb, ltb}
 use borrow.Author.Tests.{eq-eqb, ltb-true, lt-ltb, le-ltb, not-false}
 use Rattle.machine_pws.specs.Program as pws
 use Rattle.machine_pws.specs.Entries.{ValueOrFF}
-use Rattle.machine_pws.specs.Machine.{put}
 use Rattle.machine_pws.proofs.Facts.{put-each}
 use Rattle.file_records.specs.declared.program.Shape.{Shape}
 use Rattle.file_records.specs.declared.program.Refusal.{Refusal}
@@ -22,63 +20,20 @@ use Rattle.file_records.specs.declared.program.Program.{Program}
 use Rattle.file_records.specs.declared.program.ProgramRead.{ProgramRead}
 use Rattle.file_records.specs.Bytes.{choose, byte}
 use Rattle.file_records.specs.Records.{checked, isKind, valueCount, exists, valueName, stateNames, waitingNumber}
-use Rattle.file_records.specs.ProgramPart.{unlessEnd, programFrom, shapeOf, programOf, targetsOf}
+use Rattle.file_records.specs.ProgramPart.{unlessEnd, programFrom, shapeOf, programOf}
 use Rattle.file_records.proofs.RecordLaws.{good}
 use Rattle.file_records.proofs.ProgramLaws.{and-true}
 use Rattle.file_contents.specs.declared.evidence.Part.{Part}
 use Rattle.file_contents.specs.declared.evidence.Part.the-variants.{InProgram}
 use Rattle.file_contents.specs.EvidencePart.{entriesAllowed}
-use Rattle.file_contents.specs.Reading.{Input, evidenceAt}
+use Rattle.file_contents.specs.Reading.{evidenceAt}
 use Rattle.file_again.proofs.Tables.{of-four}
 use Rattle.file_again.proofs.Names.{both-exist, value-inside}
 use Rattle.file_again.proofs.ProgramPart.{part-read, part-shape}
 use Rattle.pattern_theory.specs.Patterns.{PathRead, Pattern}
-use Rattle.pattern_theory.specs.Fitting.{noPattern}
 use Rattle.pattern_theory.specs.Verdict.{ReadsOf, PatternIn, PatternsIn, isSome}
-use Rattle.pattern_reading.specs.Records.{
-  asked,
-  Given,
-  claimNumber,
-  newestNames,
-  patternNumber,
-  newestAt,
-  beginning,
-  readNames,
-  readNumber,
-  markNumber,
-  bodyNumber,
-  bodySize,
-  withValue,
-  readAt,
-  withRead,
-  withMark,
-  extended,
-}
-use Rattle.pattern_reading.specs.Reading.{
-  patternOf,
-  complete,
-  PatternRead,
-  whole,
-  bad,
-  atBoundary,
-  finished,
-  bodyThen,
-  patternFrom,
-  PatternsRead,
-  read,
-  stopped,
-  headThen,
-  patternThen,
-  patternsFrom,
-  PatternFile,
-  refused,
-  patterns,
-  evidenceRead,
-  evidenceFrom,
-  programThen,
-  filesRead,
-  readPatterns,
-}
+use Rattle.pattern_reading.specs.Records.{asked, Given, claimNumber, newestNames, patternNumber, beginning, readNames, readNumber, markNumber, bodyNumber, bodySize, withValue, readAt, withRead, withMark, extended}
+use Rattle.pattern_reading.specs.Reading.{patternOf, complete, PatternRead, whole, bad, atBoundary, finished, bodyThen, patternFrom, PatternsRead, read, stopped, headThen, patternThen, patternsFrom, refused, patterns, evidenceRead, evidenceFrom, programThen, filesRead, readPatterns}
 use Rattle.pattern_reading.specs.Safety.{ReadInRange}
 
 -- ---- what was said was fine

@@ -1,10 +1,10 @@
 -- What the answer to a pattern file promises.
 use Prim.Native.Nat.{ℕ}
-use mathlib.Core.Path.{_≡_, refl, sym, ap, _∙_}
+use mathlib.Core.Path.{_≡_, sym, ap, _∙_}
 use mathlib.Core.List.{List}
 use Rattle.machine_pws.specs.Program.{Program}
 use Rattle.file_contents.specs.Reading.{Input}
-use Rattle.list_theory.specs.Verdict.{ListVerdict, safe}
+use Rattle.list_theory.specs.Verdict.{ListVerdict}
 use Rattle.pattern_theory.specs.Patterns.{Pattern}
 use Rattle.pattern_theory.specs.Verdict.{patternVerdict}
 use Rattle.pattern_theory.proofs.Verdict.{answer-given}

@@ -3,14 +3,14 @@
 use Prim.Native.Nat.{ℕ, _<_}
 use mathlib.Core.Path.{_≡_, refl, sym, subst}
 use mathlib.Core.Option.{Option, none, some}
-use mathlib.Core.List.{List, [], _∷_, _++_, append-nil}
+use mathlib.Core.List.{List, [], _∷_, append-nil}
 use native.Mathlib.Omega.{arith}
 use Rattle.machine_pws.specs.Program.{Shape}
 use Rattle.machine_pws.specs.Machine.{put}
 use Rattle.machine_pws.proofs.Facts.{put-each}
 use Rattle.pattern_theory.specs.Patterns.{Clue, empty, ends, contains, PathRead, Pattern}
 use Rattle.pattern_theory.specs.Fitting.{Subsequence, nothing, keep, skip}
-use Rattle.pattern_theory.specs.Within.{Covers, ClueWithin, both-empty, both-contain, both-end, SameRead, PathWithin, Within}
+use Rattle.pattern_theory.specs.Within.{Covers, ClueWithin, both-empty, both-contain, both-end, PathWithin, Within}
 use Rattle.pattern_theory.specs.Predecessors.{withClue, withNewest, withPaths, inFront}
 
 sub-refl : {A : Type 0} {R : A → A → Type 0} → ((x : A) → R x x) → (xs : List A) → Subsequence R xs xs

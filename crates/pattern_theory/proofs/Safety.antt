@@ -1,7 +1,7 @@
 -- What a list of patterns that is judged safe promises.
 use Prim.Native.Nat.{ℕ, _<_}
-use mathlib.Core.Path.{_≡_, refl, sym, ap, subst, _∙_}
-use mathlib.Core.Logic.{_⊎_, ⊎-elim}
+use mathlib.Core.Path.{_≡_, refl, subst}
+use mathlib.Core.Logic.{⊎-elim}
 use mathlib.Core.List.{List, [], _∷_, _++_, List·Memᴰ, List·Memᴰ·head, Memᴰ·append-left, Memᴰ·append-right}
 use lib.ListN.{length}
 use lib.Dec.{T}
@@ -15,7 +15,7 @@ use Rattle.machine_pws.proofs.Steps.{take-yes, serialise-yes, update-yes}
 use Rattle.machine_equal.proofs.Reachability.{same-reachability, permitted-start, takes-visited}
 use Rattle.list_theory.specs.Lists.{forBelow}
 use Rattle.list_theory.specs.Predecessors.{steps}
-use Rattle.list_theory.specs.Verdict.{target, ListVerdict, safe}
+use Rattle.list_theory.specs.Verdict.{target, safe}
 use Rattle.list_theory.proofs.Lists.{in-below}
 use Rattle.pattern_theory.specs.Patterns.{Pattern, targetPattern}
 use Rattle.pattern_theory.specs.Fitting.{nothing, FitsPattern, FitsList, patternOf}

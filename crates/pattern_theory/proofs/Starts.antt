@@ -1,7 +1,7 @@
 -- A pattern passes the test of number 10 exactly if a start of some memory fits it.
 use Prim.Native.Nat.{ℕ, zero, suc, _+_, _<_, _≤_}
 use mathlib.Core.Path.{_≡_, refl, sym, ap, subst, _∙_}
-use mathlib.Core.Logic.{_⊎_, inl, inr, ⊎-elim, _↔_}
+use mathlib.Core.Logic.{_↔_}
 use mathlib.Core.Bool.{Bool, true, false, cond, _&&_, not}
 use mathlib.Core.Option.{Option, none, some}
 use mathlib.Core.List.{List, [], _∷_, _++_}
@@ -11,17 +11,16 @@ use lib.ListN.{length, getD, List·getD-eq-default}
 use lib.Dec.{T, eqb, eqb→eq, ltb, T-not}
 use borrow.Author.Tests.{lt-ltb, le-ltb}
 use mir.Facts.{and-yes, yes-and}
-use Rattle.machine_pws.specs.declared.Message.{Message}
 use Rattle.machine_pws.specs.Program.{Shape, Program, WellFormed}
-use Rattle.machine_pws.specs.Machine.{Memory, Configuration, put, allBelow, lastWrite}
-use Rattle.machine_pws.specs.Configurations.{StartingMemory, Start, startWith}
-use Rattle.machine_pws.proofs.Facts.{T-eq, put-same, put-other, put-each, last-is}
+use Rattle.machine_pws.specs.Machine.{Configuration, put, allBelow}
+use Rattle.machine_pws.specs.Configurations.{StartingMemory, startWith}
+use Rattle.machine_pws.proofs.Facts.{T-eq, put-same, put-each, last-is}
 use Rattle.machine_pws.proofs.Cases.{all-yes}
 use Rattle.machine_pws.proofs.Starts.{start-exists}
 use Rattle.list_theory.specs.Lists.{forBelow}
-use Rattle.list_theory.proofs.Lists.{T-true, T-false, yes-all}
+use Rattle.list_theory.proofs.Lists.{yes-all}
 use Rattle.pattern_theory.specs.Patterns.{Clue, empty, ends, contains, PathRead, Pattern}
-use Rattle.pattern_theory.specs.Fitting.{nothing, Stands, FitsClue, held, PathFrom, FitsPattern}
+use Rattle.pattern_theory.specs.Fitting.{nothing, Stands, FitsClue, held, PathFrom}
 use Rattle.pattern_theory.specs.Predecessors.{canEmpty, agrees, joined}
 use Rattle.pattern_theory.specs.Verdict.{ReadsOf, PatternIn, isSome, startFits, StartFits}
 use Rattle.pattern_theory.proofs.Joining.{at-below, joins}

@@ -2,7 +2,7 @@
 -- reading. Then its examples of *within* and of predecessors.
 use Prim.Native.Nat.{ℕ}
 use mathlib.Core.Path.{_≡_}
-use mathlib.Core.Bool.{Bool, true, false, cond}
+use mathlib.Core.Bool.{true, false, cond}
 use mathlib.Core.Option.{Option, none, some}
 use mathlib.Core.List.{List, [], _∷_, map}
 use lib.Dec.{eqb}
@@ -17,9 +17,9 @@ use Rattle.machine_pws.specs.Configurations.{Start}
 use Rattle.machine_pws.specs.Sequences.{Visited}
 use Rattle.machine_equal.specs.Equivalence.{PwsReachable}
 use Rattle.list_theory.specs.Verdict.{ListVerdict, safe, unheld, started, entered}
-use Rattle.pattern_theory.specs.Patterns.{Clue, empty, ends, contains, ending, PathRead, Pattern}
+use Rattle.pattern_theory.specs.Patterns.{Clue, empty, ends, contains, PathRead, Pattern}
 use Rattle.pattern_theory.specs.Within.{clueWithin, pathWithin}
-use Rattle.pattern_theory.specs.Predecessors.{Cut, cuts, ownCut, beforeRead, inFront, beforeOperation}
+use Rattle.pattern_theory.specs.Predecessors.{cuts, ownCut, beforeRead, inFront, beforeOperation}
 use Rattle.pattern_theory.specs.Verdict.{patternVerdict}
 
 -- ---- one process and one variable x with two values; process 0 starts in local state 0
