@@ -1,6 +1,7 @@
 //! Pattern lists in tests: the separate judge of them as a program, and beside the machine.
 //!   patterns judge [--area BYTES] FILE [EVIDENCE]   the line of a combined file, or of a program file and an evidence file
 //!   patterns cases FILE                             hand-worked files with their lines (cases.txt says how they are written)
+//!   patterns damaged SEED COUNT FILE..              damaged copies of combined files, each also judged as the pair that it is when it is cut at its claim
 //!   patterns rules SEED PROGRAMS                    fitting, within and predecessors of random patterns, held to the machine
 //!   patterns search SEED PROGRAMS                   closed lists from a backward search, held to a forward search of the machine
 
@@ -412,6 +413,49 @@ fn cases(path: &str) -> std::io::Result<bool> {
     Ok(good)
 }
 
+/// Where the claim stands.
+fn claim_at(file: &[u8]) -> usize {
+    let mut at = 0;
+    while file[at] != 0x0f {
+        at += [0, 7, 3, 8, 5][file[at] as usize];
+    }
+    at
+}
+
+/// Every byte behind the claim may be changed, left out or doubled, and the file may end anywhere there.
+fn damaged(seed: u64, count: usize, file: &[u8]) -> bool {
+    let mut random = Random(seed.wrapping_mul(0x9e37_79b9_7f4a_7c15) | 1);
+    let claim = claim_at(file);
+    for _ in 0..count {
+        let mut bytes = file.to_vec();
+        for _ in 0..1 + random.below(2) {
+            let at = claim + 1 + random.below(bytes.len() - claim - 1);
+            let byte = [0, 1, 2, 3, 0x0f, 0x12, 0x13, 0x14, 0x15, 0x20, FF, random.below(256) as u8][random.below(12)];
+            match random.below(4) {
+                0 => bytes.truncate(at.max(claim + 2)),
+                1 => bytes[at] = byte,
+                2 => bytes.insert(at, byte),
+                _ => {
+                    if bytes.len() > claim + 2 {
+                        bytes.remove(at);
+                    }
+                }
+            }
+        }
+        let whole = judge(&[&bytes], 65_536);
+        let pair = judge(&[&bytes[..claim], &bytes[claim..]], 65_536);
+        let shifted = match pair {
+            Verdict::Refused(number, place) if number < 9 => Verdict::Refused(number, claim + place),
+            other => other,
+        };
+        if whole != shifted {
+            println!("patterns: a damaged file is {}, and cut at its claim {}: {:02x?}", whole, pair, bytes);
+            return false;
+        }
+    }
+    true
+}
+
 fn main() -> std::io::Result<()> {
     let words: Vec<String> = std::env::args().skip(1).collect();
     let number = |i: usize| words[i].parse().expect("a number");
@@ -423,9 +467,13 @@ fn main() -> std::io::Result<()> {
             true
         }
         Some("cases") => cases(&words[1])?,
+        Some("damaged") => {
+            let files = words[3..].iter().map(std::fs::read).collect::<Result<Vec<_>, _>>()?;
+            files.iter().all(|file| damaged(number(1), number(2) as usize, file))
+        }
         Some("rules") => rules(number(1), number(2) as usize),
         Some("search") => search(number(1), number(2) as usize),
-        _ => panic!("judge, cases, rules or search"),
+        _ => panic!("judge, cases, damaged, rules or search"),
     };
     std::process::exit(if good { 0 } else { 1 })
 }

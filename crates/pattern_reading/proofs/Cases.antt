@@ -32,7 +32,7 @@ use Rattle.file_records.specs.Records.{
 }
 use Rattle.file_records.specs.ProgramPart.{unlessEnd, statesFrom, rowFrom, transitionsFrom, atEnd, targetsFrom, rowsFrom, restFrom, programWith, programFrom}
 use Rattle.file_contents.specs.EvidencePart.{entriesAllowed}
-use Rattle.file_contents.specs.Reading.{Input, combined, pair, evidenceAt}
+use Rattle.file_contents.specs.Reading.{Input, combined, pair}
 use Rattle.pattern_reading.specs.Records.{claimNumber, newestNames, patternNumber, readNames, readNumber, markNames, markNumber, bodyNumber, bodySize, extended}
 use Rattle.pattern_reading.specs.Reading.{
   complete,
@@ -40,10 +40,8 @@ use Rattle.pattern_reading.specs.Reading.{
   finished,
   patternFrom,
   patternsFrom,
-  evidenceRead,
   evidenceFrom,
-  programThen,
-  PatternFile,
+  filesRead,
   readPatterns,
   PatternAnswer,
   ofPatterns,
@@ -54,7 +52,7 @@ use Rattle.pattern_reading.specs.Cases.{Row, file, files, Holds, Each, n
 -- ---- with any number of patterns allowed
 
 abbrev answerWith : Input → ℕ → PatternAnswer
-answerWith x n = ofPatterns (programThen (programFrom (x .alone) (x .code) 0) (λ p. evidenceRead x p (evidenceFrom n (x .file) (evidenceAt x p) p)))
+answerWith x n = ofPatterns (filesRead x n (programFrom (x .alone) (x .code) 0))
 
 answer-with : (x : Input) (area : ℕ) → 65536 ≤ area → patternAnswer x area ≡ answerWith x (entriesAllowed area)
 unfolding patternAnswer readPatterns

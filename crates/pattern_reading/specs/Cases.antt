@@ -3,7 +3,7 @@
 use Prim.Native.Nat.{ℕ, _≤_}
 use mathlib.Core.Path.{_≡_}
 use mathlib.Core.List.{List, [], _∷_, _++_}
-use Rattle.machine_pws.specs.declared.Step.the-variants.{Take, Serialise}
+use Rattle.machine_pws.specs.declared.Step.the-variants.{Take}
 use Rattle.file_contents.specs.Reading.{combined, pair}
 use Rattle.list_theory.specs.Verdict.{safe, unheld, started, entered}
 use Rattle.pattern_reading.specs.Reading.{PatternAnswer, unread, judged, patternAnswer}

@@ -124,18 +124,19 @@ evidenceRead x p (stopped r) = refused InEvidence r
 unfoldable pub evidenceFrom : ℕ → List ℕ → ℕ → Program → PatternsRead
 evidenceFrom n f at p = headThen (unlessEnd f at (checked (claimNumber f at) at)) (λ _. patternsFrom n (p .shape) (p .states) f (at + 2) [])
 
-abbrev pub programThen : ProgramRead → (Program → PatternFile) → PatternFile
-programThen r x = answered (r .answer)
-  where
-    answered : Checked → PatternFile
-    answered Fine = x (r .program)
-    answered (Refused q) = refused InProgram q
+abbrev pub programThen : Checked → (Unit {0} → PatternFile) → PatternFile
+programThen Fine x = x tt
+programThen (Refused q) x = refused InProgram q
+
+-- the program part was read so; n patterns are allowed
+abbrev pub filesRead : Input → ℕ → ProgramRead → PatternFile
+filesRead x n r = programThen (r .answer) (λ _. evidenceRead x (r .program) (evidenceFrom n (x .file) (evidenceAt x (r .program)) (r .program)))
 
 -- patterns allowed are as many as entries
 unfoldable pub readPatterns : Input → ℕ → PatternFile
 readPatterns x area =
     choose (ltb area 65536) (λ _. refused InProgram (record { number = 8; place = 0 }))
-    (λ _. programThen (programFrom (x .alone) (x .code) 0) (λ p. evidenceRead x p (evidenceFrom (entriesAllowed area) (x .file) (evidenceAt x p) p)))
+    (λ _. filesRead x (entriesAllowed area) (programFrom (x .alone) (x .code) 0))
 
 -- ---- the answer
 

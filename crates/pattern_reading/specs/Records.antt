@@ -1,6 +1,6 @@
 -- The records of a pattern, and when each is refused (docs/PATTERNS.md, "Records"). Kinds are in decimal: 18 is 12, 19 is 13, 20 is 14, 21 is 15.
 use Prim.Native.Nat.{ℕ, _+_}
-use mathlib.Core.Bool.{Bool, true, false, cond, _&&_, not}
+use mathlib.Core.Bool.{Bool, false, cond, _&&_, not}
 use mathlib.Core.Option.{Option, none, some}
 use mathlib.Core.List.{List, [], _∷_, _++_}
 use lib.ListN.{length}

@@ -1,28 +1,25 @@
 -- Paths and a new message: which reads stand at it, and how those that do not, or need not, stood before (docs/THEORY.md, section 10).
-use Prim.Native.Nat.{ℕ, zero, suc, _<_, _≤_, max}
-use mathlib.Core.Path.{_≡_, refl, sym, ap, subst, _∙_}
-use mathlib.Core.Logic.{_⊎_, inl, inr, ⊎-elim, _≢_}
-use mathlib.Core.Bool.{Bool, true, false, cond, _&&_, not}
-use mathlib.Core.Option.{Option, none, some}
-use mathlib.Core.List.{List, [], _∷_, _++_, map, List·Memᴰ, List·Memᴰ·head, List·Memᴰ·tail, Memᴰ·append-left, Memᴰ·append-right, Memᴰ·map}
+use Prim.Native.Nat.{ℕ, suc, _<_, _≤_}
+use mathlib.Core.Path.{_≡_, refl, sym, subst, _∙_}
+use mathlib.Core.Logic.{⊎-elim, _≢_}
+use mathlib.Core.Bool.{Bool, true, false, cond}
+use mathlib.Core.Option.{none}
+use mathlib.Core.List.{List, [], _∷_, List·Memᴰ, List·Memᴰ·head, Memᴰ·append-right, Memᴰ·map}
 use native.Mathlib.Omega.{arith}
 use native.Mathlib.Decide.{decLe, ℕ-discrete}
-use lib.ListN.{length, getD, set}
+use lib.ListN.{length}
 use lib.Seq.{getD-set-same, getD-set-other}
-use lib.Dec.{T, eqb, eqb→eq, T-not}
+use lib.Dec.{T, eqb, eqb→eq}
 use borrow.Author.Tests.{eq-eqb, ne-eqb}
 use mir.Facts.{and-yes}
 use Rattle.machine_pws.specs.declared.Message.{Message}
-use Rattle.machine_pws.specs.Program.{Shape}
-use Rattle.machine_pws.specs.Machine.{Memory, put, message, newest, copyWith, append, labelled, lastLabelled, lastWrite}
-use Rattle.machine_pws.proofs.Facts.{T-or-not, put-same, put-other, put-each, message-old, message-new, last-is}
-use Rattle.list_theory.specs.Lists.{forEach, forBelow}
-use Rattle.list_theory.proofs.Lists.{in-each}
-use Rattle.pattern_theory.specs.Patterns.{PathRead, Pattern}
-use Rattle.pattern_theory.specs.Fitting.{Stands, held, ReadAt, PathFrom}
-use Rattle.pattern_theory.specs.Predecessors.{Cut, behind, cuts, ownCut, choices, joined, newMessage}
-use Rattle.pattern_theory.proofs.Paths.{read-lower, path-lower, last-upto}
-use Rattle.pattern_theory.proofs.Joining.{AllAt, at-below, joins}
+use Rattle.machine_pws.specs.Machine.{Memory, message, newest, copyWith, append, labelled, lastLabelled, lastWrite}
+use Rattle.machine_pws.proofs.Facts.{T-or-not, message-old, message-new, last-is}
+use Rattle.pattern_theory.specs.Patterns.{PathRead}
+use Rattle.pattern_theory.specs.Fitting.{held, ReadAt, PathFrom}
+use Rattle.pattern_theory.specs.Predecessors.{Cut, behind, cuts, ownCut}
+use Rattle.pattern_theory.proofs.Paths.{path-lower, last-upto}
+use Rattle.pattern_theory.proofs.Joining.{AllAt}
 
 last-high : (ms : List Message) (p v : ℕ) → lastLabelled ms p v ≤ length ms
 last-high ms p v = omega (arith, last-is ms 0 p v (omega arith) .high)

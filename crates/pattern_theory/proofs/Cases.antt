@@ -1,5 +1,5 @@
 -- Each row of the table of small files holds, the examples hold, and W is an instance of the theorems.
-use Prim.Native.Nat.{ℕ, zero, suc, _<_, _≤_}
+use Prim.Native.Nat.{ℕ, zero, suc, _<_}
 use mathlib.Core.Path.{_≡_, refl}
 use mathlib.Core.Option.{Option, none, some}
 use mathlib.Core.List.{List, [], _∷_}
@@ -8,30 +8,14 @@ use lib.ListN.{length, getD}
 use lib.Dec.{eqb·suc-zero}
 use Rattle.machine_pws.specs.declared.Step.the-variants.{Take}
 use Rattle.machine_pws.specs.declared.Transition.{Transition}
-use Rattle.machine_pws.specs.Program.{Program, ProgramInRange, transition, TransitionOf}
+use Rattle.machine_pws.specs.Program.{WellFormed, transition, TransitionOf}
 use Rattle.machine_pws.specs.Machine.{after}
 use Rattle.machine_pws.specs.Configurations.{StartingMemory, startWith}
 use Rattle.machine_pws.specs.Sequences.{done, step}
 use Rattle.machine_pws.proofs.Starts.{start-exists}
 use Rattle.machine_equal.proofs.Reachability.{start-of}
 use Rattle.pattern_theory.specs.Fitting.{patternOf}
-use Rattle.pattern_theory.specs.Cases.{
-  Row,
-  Holds,
-  Each,
-  no-row,
-  row,
-  cases,
-  NeverReadsZero,
-  ReadsOne,
-  WithinExamples,
-  PredecessorExamples,
-  programOf,
-  writeRead,
-  patternsW,
-  writeTwice,
-  one,
-}
+use Rattle.pattern_theory.specs.Cases.{Holds, Each, no-row, row, cases, NeverReadsZero, ReadsOne, WithinExamples, PredecessorExamples, programOf, writeRead, patternsW, writeTwice, one}
 use Rattle.pattern_theory.specs.Verdict.{ReadsOf, PatternsIn}
 use Rattle.pattern_theory.proofs.Safety.{pattern-safety}
 
@@ -41,17 +25,15 @@ cases-hold = row refl (row refl (row refl (row refl (row refl (row refl (row ref
 
 -- ---- W
 
-in-range : (ts : List Transition) → ((n : ℕ) → n < length ts → TransitionOf (programOf ts) (transition (programOf ts) n)) → ProgramInRange (programOf ts)
+in-range : (ts : List Transition) → ((n : ℕ) → n < length ts → TransitionOf (programOf ts) (transition (programOf ts) n)) → WellFormed (programOf ts)
 in-range ts f =
     record {
       shape =
           record {
             someProcess = omega arith;
-            processes = omega arith;
             someVariable = omega arith;
-            variables = omega arith;
             someValue = λ v l. omega arith;
-            values = λ v l. omega arith;
+            variables = omega arith;
           };
       initial = λ p l. omega arith;
       transitions = f;

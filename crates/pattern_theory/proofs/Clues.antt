@@ -1,17 +1,14 @@
 -- What each step does to a queue, and what the clue before it asks.
 use Prim.Native.Nat.{ℕ}
 use mathlib.Core.Path.{_≡_, refl, sym, ap, subst, _∙_}
-use mathlib.Core.Logic.{_⊎_, inl, inr, ⊎-elim}
-use mathlib.Core.Bool.{Bool, true, false, cond}
+use mathlib.Core.Bool.{Bool, true, false}
 use mathlib.Core.Option.{Option, none, some}
 use mathlib.Core.List.{List, [], _∷_, _++_, List·Memᴰ, List·Memᴰ·head, cons≢nil}
-use native.Mathlib.Omega.{arith}
-use lib.Dec.{T, eqb}
+use lib.Dec.{T}
 use borrow.Author.Tests.{eq-eqb}
 use Rattle.machine_pws.specs.Machine.{isEmpty, newestWaiting}
-use Rattle.list_theory.proofs.Lists.{T-true}
 use Rattle.pattern_theory.specs.Patterns.{Clue, empty, ends, contains, Pattern}
-use Rattle.pattern_theory.specs.Fitting.{Subsequence, nothing, keep, skip, Stands, FitsClue}
+use Rattle.pattern_theory.specs.Fitting.{Subsequence, nothing, keep, Stands, FitsClue}
 use Rattle.pattern_theory.specs.Predecessors.{provided, fromOption, canEmpty, withoutEnd, beforeWrite, waiting, inFront}
 use Rattle.pattern_theory.proofs.Subsequences.{sub-nil, sub-without-end}
 

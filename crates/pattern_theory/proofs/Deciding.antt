@@ -1,19 +1,18 @@
 -- The test of *within* is the relation.
-use Prim.Native.Nat.{ℕ, _<_}
+use Prim.Native.Nat.{ℕ}
 use mathlib.Core.Path.{_≡_, refl, sym, ap, subst, _∙_}
-use mathlib.Core.Logic.{_⊎_, inl, inr, ⊎-elim, _↔_}
+use mathlib.Core.Logic.{⊎-elim, _↔_}
 use mathlib.Core.Bool.{Bool, true, false, _&&_, _||_, not}
 use mathlib.Core.Option.{Option, none, some}
 use mathlib.Core.List.{List, [], _∷_, _++_}
 use native.Mathlib.Omega.{arith}
-use lib.ListN.{length}
 use lib.Dec.{T, eqb, eqb→eq, T-not}
 use mir.Facts.{and-yes, yes-and, or-yes}
 use Rattle.machine_pws.specs.Program.{Shape}
 use Rattle.machine_pws.specs.Machine.{allBelow}
 use Rattle.machine_pws.proofs.Facts.{T-or-not, T-eq, or-left, or-right}
 use Rattle.machine_pws.proofs.Cases.{all-yes}
-use Rattle.list_theory.specs.Lists.{every, anyOf}
+use Rattle.list_theory.specs.Lists.{every}
 use Rattle.list_theory.proofs.Lists.{yes-all, any-number, number-any}
 use Rattle.pattern_theory.specs.Patterns.{Clue, empty, ends, contains, PathRead, Pattern}
 use Rattle.pattern_theory.specs.Fitting.{Subsequence, nothing, keep, skip, noPattern, patternOf}

@@ -1,77 +1,33 @@
 -- The heart: what steps into a pattern fits it, or a predecessor of it (docs/PATTERNS.md, "Predecessors"; docs/THEORY.md, section 10).
 use Prim.Native.Nat.{ℕ, suc, _<_, _≤_}
 use mathlib.Core.Path.{_≡_, refl, sym, ap, subst, _∙_}
-use mathlib.Core.Logic.{_⊎_, inl, inr, ⊎-elim, _≢_}
-use mathlib.Core.Bool.{Bool, true, false, _&&_, not}
+use mathlib.Core.Logic.{inl, inr, ⊎-elim}
+use mathlib.Core.Bool.{_&&_, not}
 use mathlib.Core.Option.{Option, none, some}
 use mathlib.Core.List.{List, [], _∷_, _++_, map, List·Memᴰ, List·Memᴰ·head, Memᴰ·append-left, Memᴰ·append-right, Memᴰ·map}
 use native.Mathlib.Omega.{arith}
-use native.Mathlib.Decide.{ℕ-discrete}
 use lib.ListN.{length, getD}
 use lib.Dec.{T, eqb, eqb→eq}
 use mir.Facts.{and-yes}
 use Rattle.machine_pws.specs.declared.Operation.{Operation}
 use Rattle.machine_pws.specs.declared.Operation.the-variants.{Nop, Read, Write, Mfence, Sfence, Arw}
-use Rattle.machine_pws.specs.declared.Step.{Step}
 use Rattle.machine_pws.specs.declared.Step.the-variants.{Take, Serialise, Update}
-use Rattle.machine_pws.specs.Program.{Shape, Program, transition, OperationOf, ProgramInRange}
-use Rattle.machine_pws.specs.Machine.{
-  Memory,
-  Configuration,
-  put,
-  putQueue,
-  isEmpty,
-  newest,
-  newestWaiting,
-  newestOr,
-  withoutOldest,
-  append,
-  point,
-  atNewest,
-  lastWrite,
-  allBelow,
-  noneWaiting,
-  mayOperate,
-  queueAfter,
-  memoryAfter,
-  may,
-  after,
-}
-use Rattle.machine_pws.proofs.Facts.{T-eq, put-same, put-other, put-each, putQueue-same, putQueue-other, putQueue-each}
+use Rattle.machine_pws.specs.Program.{Shape, Program, transition, OperationOf, WellFormed}
+use Rattle.machine_pws.specs.Machine.{Memory, Configuration, put, isEmpty, newest, newestWaiting, newestOr, withoutOldest, append, point, atNewest, lastWrite, allBelow, noneWaiting, mayOperate, queueAfter, memoryAfter, after}
+use Rattle.machine_pws.proofs.Facts.{T-eq, put-same, put-other, put-each, putQueue-same, putQueue-other}
 use Rattle.machine_pws.proofs.Cases.{all-yes}
 use Rattle.machine_pws.proofs.Steps.{take-yes, serialise-yes, update-yes}
-use Rattle.list_theory.proofs.Lists.{T-true, yes-all}
-use Rattle.pattern_theory.specs.Patterns.{Clue, empty, ends, contains, PathRead, Pattern}
+use Rattle.list_theory.proofs.Lists.{yes-all}
+use Rattle.pattern_theory.specs.Patterns.{Clue, empty, PathRead, Pattern}
 use Rattle.pattern_theory.specs.Fitting.{Stands, FitsClue, held, PathFrom, FitsPattern}
-use Rattle.pattern_theory.specs.Predecessors.{
-  withState,
-  withClue,
-  withNoneWaiting,
-  withNewest,
-  withPath,
-  withPaths,
-  provided,
-  fromOption,
-  canEmpty,
-  agrees,
-  joined,
-  beforeWrite,
-  waiting,
-  inFront,
-  beforeRead,
-  Cut,
-  ownCut,
-  newMessage,
-  beforeOperation,
-  before,
-}
+use Rattle.pattern_theory.specs.Predecessors.{withState, withClue, withNoneWaiting, withNewest, withPath, withPaths, provided, fromOption, canEmpty, agrees, joined, beforeWrite, waiting, inFront, beforeRead, ownCut, beforeOperation, before}
 use Rattle.pattern_theory.specs.Storing.{Stored}
-use Rattle.pattern_theory.specs.Safety.{FitsBefore, EntersPattern}
+use Rattle.pattern_theory.specs.Safety.{EntersPattern}
 use Rattle.pattern_theory.proofs.Subsequences.{stands-agrees, newest-or}
 use Rattle.pattern_theory.proofs.Paths.{path-lower, path-pointer}
 use Rattle.pattern_theory.proofs.Joining.{joins}
 use Rattle.pattern_theory.proofs.Appending.{new-same, new-other, all-newest, cut-own}
-use Rattle.pattern_theory.proofs.NewMessage.{Parted, parted}
+use Rattle.pattern_theory.proofs.NewMessage.{parted}
 use Rattle.pattern_theory.proofs.Storing.{has-room, fits-kept}
 use Rattle.pattern_theory.proofs.Clues.{newest-snoc, is-empty, provided-in, option-in, empties, before-write, newest-waits, in-front}
 use Rattle.pattern_theory.proofs.Reading.{before-read}
@@ -104,7 +60,7 @@ oldest-first (x ∷ q) t = refl
 
 -- ---- operations
 
-module _ (P : Program) (R : ProgramInRange P) (a : Pattern) (c : Configuration) (o : Stored P c) (p : ℕ) (pe : p < P .shape .processes) where
+module _ (P : Program) (R : WellFormed P) (a : Pattern) (c : Configuration) (o : Stored P c) (p : ℕ) (pe : p < P .shape .processes) where
   abbrev S : Shape
   S = P .shape
 

@@ -12,3 +12,4 @@ pub mod Starts
 pub mod Verdict
 pub mod Safety
 pub mod Cases
+pub mod Held

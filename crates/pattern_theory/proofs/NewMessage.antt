@@ -1,10 +1,10 @@
 -- The choices of cuts at a new message have the one that a configuration shows.
 use Prim.Native.Nat.{ℕ, zero, suc, _<_, _≤_}
-use mathlib.Core.Path.{_≡_, refl, sym, ap, subst, _∙_}
+use mathlib.Core.Path.{refl, sym, subst}
 use mathlib.Core.Logic.{_≢_}
-use mathlib.Core.Bool.{Bool, true, false}
+use mathlib.Core.Bool.{true, false}
 use mathlib.Core.Option.{Option, none, some}
-use mathlib.Core.List.{List, [], _∷_, _++_, map, List·Memᴰ, List·Memᴰ·head, Memᴰ·map}
+use mathlib.Core.List.{List, [], _∷_, map, List·Memᴰ, List·Memᴰ·head, Memᴰ·map}
 use native.Mathlib.Omega.{arith}
 use native.Mathlib.Decide.{ℕ-discrete}
 use lib.ListN.{length}
@@ -13,7 +13,7 @@ use borrow.Author.Tests.{eq-eqb, ne-eqb}
 use Rattle.machine_pws.specs.Program.{Shape}
 use Rattle.machine_pws.specs.Machine.{Memory, put, append}
 use Rattle.machine_pws.proofs.Facts.{put-each}
-use Rattle.list_theory.specs.Lists.{forEach, forBelow}
+use Rattle.list_theory.specs.Lists.{forBelow}
 use Rattle.list_theory.proofs.Lists.{in-each}
 use Rattle.pattern_theory.specs.Patterns.{PathRead, Pattern}
 use Rattle.pattern_theory.specs.Fitting.{Stands, held, PathFrom}

@@ -1,37 +1,19 @@
 -- Laws of paths, and that what fits a pattern fits whatever it is within.
-use Prim.Native.Nat.{ℕ, _<_, _≤_, max}
+use Prim.Native.Nat.{ℕ, _≤_}
 use mathlib.Core.Path.{_≡_, refl, sym, ap, subst, _∙_}
-use mathlib.Core.Logic.{_⊎_, inl, inr, ⊎-elim}
-use mathlib.Core.Bool.{Bool, true, false, not}
 use mathlib.Core.Option.{Option, none, some}
 use mathlib.Core.List.{List, [], _∷_, _++_}
 use native.Mathlib.Omega.{arith}
 use native.Mathlib.Decide.{decLt}
 use lib.ListN.{length}
-use lib.Dec.{T, T-not}
-use Rattle.machine_pws.specs.declared.Message.{Message}
-use Rattle.machine_pws.specs.Program.{Shape, Program}
-use Rattle.machine_pws.specs.Machine.{Memory, Configuration, message, lastLabelled, lastWrite, labelled}
-use Rattle.machine_pws.specs.Configurations.{ConfigurationOf}
+use lib.Dec.{T-not}
+use Rattle.machine_pws.specs.Machine.{Memory, lastWrite}
 use Rattle.machine_pws.proofs.Facts.{last-is}
-use Rattle.pattern_theory.specs.Patterns.{Clue, empty, ends, contains, PathRead, Pattern}
-use Rattle.pattern_theory.specs.Fitting.{Subsequence, nothing, keep, skip, Stands, FitsClue, held, ReadAt, PathFrom, FitsPattern}
-use Rattle.pattern_theory.specs.Within.{
-  Covers,
-  ClueWithin,
-  asks-nothing,
-  both-empty,
-  both-contain,
-  ends-contains,
-  both-end,
-  SameRead,
-  Asked,
-  PathWithin,
-  Within,
-}
-use Rattle.pattern_theory.specs.Verdict.{PatternIn}
+use Rattle.pattern_theory.specs.Patterns.{Clue, PathRead}
+use Rattle.pattern_theory.specs.Fitting.{Subsequence, nothing, keep, skip, Stands, FitsClue, held, ReadAt, PathFrom}
+use Rattle.pattern_theory.specs.Within.{Covers, ClueWithin, asks-nothing, both-empty, both-contain, ends-contains, both-end, SameRead, Asked, PathWithin}
 use Rattle.pattern_theory.specs.Safety.{WithinFits}
-use Rattle.pattern_theory.proofs.Subsequences.{sub-trans, sub-snoc, sub-behind}
+use Rattle.pattern_theory.proofs.Subsequences.{sub-trans, sub-snoc}
 
 -- ---- where a path may stand
 

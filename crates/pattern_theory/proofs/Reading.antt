@@ -1,10 +1,10 @@
 -- A read from a message, and the paths before it (docs/THEORY.md, section 10).
-use Prim.Native.Nat.{ℕ, suc, _<_, _≤_}
+use Prim.Native.Nat.{ℕ, _<_, _≤_}
 use mathlib.Core.Path.{_≡_, refl, sym, ap, subst, _∙_}
-use mathlib.Core.Logic.{_⊎_, inl, inr, ⊎-elim, _≢_}
-use mathlib.Core.Bool.{Bool, true, false, cond, _&&_, not}
+use mathlib.Core.Logic.{⊎-elim, _≢_}
+use mathlib.Core.Bool.{Bool, true, false, cond}
 use mathlib.Core.Option.{Option, none, some}
-use mathlib.Core.List.{List, [], _∷_, _++_, map, List·Memᴰ, List·Memᴰ·head, List·Memᴰ·tail, Memᴰ·map}
+use mathlib.Core.List.{List, [], _∷_, List·Memᴰ, List·Memᴰ·head, List·Memᴰ·tail, Memᴰ·map}
 use native.Mathlib.Omega.{arith}
 use native.Mathlib.Decide.{decLe, ℕ-discrete}
 use lib.ListN.{length}
@@ -13,8 +13,7 @@ use borrow.Author.Tests.{eq-eqb, ne-eqb}
 use mir.Facts.{and-yes}
 use Rattle.machine_pws.specs.declared.Message.{Message}
 use Rattle.machine_pws.specs.Machine.{Memory, message, labelled, lastWrite}
-use Rattle.machine_pws.proofs.Facts.{T-or-not, T-eq, IsLast, last-is}
-use Rattle.list_theory.proofs.Lists.{T-true, T-false}
+use Rattle.machine_pws.proofs.Facts.{T-eq, IsLast, last-is}
 use Rattle.pattern_theory.specs.Patterns.{PathRead}
 use Rattle.pattern_theory.specs.Fitting.{held, ReadAt, PathFrom}
 use Rattle.pattern_theory.specs.Predecessors.{firstOwn, putBehind, beforeRead}

@@ -1,13 +1,13 @@
 -- What a list of patterns that is judged safe promises.
 use Prim.Native.Nat.{ℕ, _<_}
-use mathlib.Core.Path.{_≡_, refl, sym, ap, subst, _∙_}
-use mathlib.Core.Logic.{_⊎_, ⊎-elim}
+use mathlib.Core.Path.{_≡_, refl, subst}
+use mathlib.Core.Logic.{⊎-elim}
 use mathlib.Core.List.{List, [], _∷_, _++_, List·Memᴰ, List·Memᴰ·head, Memᴰ·append-left, Memᴰ·append-right}
 use lib.ListN.{length}
 use lib.Dec.{T}
 use Rattle.machine_pws.specs.declared.Step.{Step}
 use Rattle.machine_pws.specs.declared.Step.the-variants.{Take, Serialise, Update}
-use Rattle.machine_pws.specs.Program.{Program, ProgramInRange}
+use Rattle.machine_pws.specs.Program.{Program, WellFormed}
 use Rattle.machine_pws.specs.Machine.{Configuration, may, after}
 use Rattle.machine_pws.specs.Configurations.{Start, InTarget}
 use Rattle.machine_pws.specs.Sequences.{Visited, start, later}
@@ -15,7 +15,7 @@ use Rattle.machine_pws.proofs.Steps.{take-yes, serialise-yes, update-yes}
 use Rattle.machine_equal.proofs.Reachability.{same-reachability, permitted-start, takes-visited}
 use Rattle.list_theory.specs.Lists.{forBelow}
 use Rattle.list_theory.specs.Predecessors.{steps}
-use Rattle.list_theory.specs.Verdict.{target, ListVerdict, safe}
+use Rattle.list_theory.specs.Verdict.{target, safe}
 use Rattle.list_theory.proofs.Lists.{in-below}
 use Rattle.pattern_theory.specs.Patterns.{Pattern, targetPattern}
 use Rattle.pattern_theory.specs.Fitting.{nothing, FitsPattern, FitsList, patternOf}
@@ -48,7 +48,7 @@ module _ (P : Program) (c : Configuration) where
   may-step (Update p) t =
       Memᴰ·append-right (takes ++ serialises) (in-below (P .shape .processes) (λ p. Update p ∷ []) p (update-yes P c p t .0) (List·Memᴰ·head refl))
 
-module _ (P : Program) (R : ProgramInRange P) (ts : List (ℕ → ℕ)) (ps : List Pattern) (o : PatternsIn (P .shape) ps) (S : PatternsSafe P ts ps) where
+module _ (P : Program) (R : WellFormed P) (ts : List (ℕ → ℕ)) (ps : List Pattern) (o : PatternsIn (P .shape) ps) (S : PatternsSafe P ts ps) where
   within-list : (a : Pattern) → WithinOne (P .shape) ps a → (c : Configuration) → Stored P c → FitsPattern (P .shape) a c → FitsList (P .shape) ps c
   within-list a w c i f =
       record {
@@ -78,7 +78,7 @@ module _ (P : Program) (R : ProgramInRange P) (ts : List (ℕ → ℕ)) (ps : Li
       let r = outside (stored-start P c s) (λ f. S .unstarted (f .number) (f .exists) (record { configuration = c; start = s; fits = f .fits })) v in
       (λ k l t. r .1 (in-target k l d (r .0) t), r .1)
 
-judged-safe : (P : Program) → ProgramInRange P → (ts : List (ℕ → ℕ)) (ps : List Pattern) → PatternsIn (P .shape) ps → (n : ℕ) → patternVerdict P ts ps ≡ safe n
+judged-safe : (P : Program) → WellFormed P → (ts : List (ℕ → ℕ)) (ps : List Pattern) → PatternsIn (P .shape) ps → (n : ℕ) → patternVerdict P ts ps ≡ safe n
     → PatternsSafe P ts ps
 judged-safe P R ts ps o n e = subst (PatternsJudged P ts ps) e (patterns-decided P R ts ps o) .1
 

@@ -1,7 +1,7 @@
 -- A pattern passes the test of number 10 exactly if a start of some memory fits it.
-use Prim.Native.Nat.{ℕ, zero, suc, _<_, _≤_}
+use Prim.Native.Nat.{ℕ, zero, suc, _+_, _<_, _≤_}
 use mathlib.Core.Path.{_≡_, refl, sym, ap, subst, _∙_}
-use mathlib.Core.Logic.{_⊎_, inl, inr, ⊎-elim, _↔_}
+use mathlib.Core.Logic.{_↔_}
 use mathlib.Core.Bool.{Bool, true, false, cond, _&&_, not}
 use mathlib.Core.Option.{Option, none, some}
 use mathlib.Core.List.{List, [], _∷_, _++_}
@@ -11,17 +11,16 @@ use lib.ListN.{length, getD, List·getD-eq-default}
 use lib.Dec.{T, eqb, eqb→eq, ltb, T-not}
 use borrow.Author.Tests.{lt-ltb, le-ltb}
 use mir.Facts.{and-yes, yes-and}
-use Rattle.machine_pws.specs.declared.Message.{Message}
-use Rattle.machine_pws.specs.Program.{Shape, Program, ProgramInRange}
-use Rattle.machine_pws.specs.Machine.{Memory, Configuration, put, allBelow, lastWrite}
-use Rattle.machine_pws.specs.Configurations.{StartingMemory, Start, startWith}
-use Rattle.machine_pws.proofs.Facts.{T-eq, put-same, put-other, put-each, last-is}
+use Rattle.machine_pws.specs.Program.{Shape, Program, WellFormed}
+use Rattle.machine_pws.specs.Machine.{Configuration, put, allBelow}
+use Rattle.machine_pws.specs.Configurations.{StartingMemory, startWith}
+use Rattle.machine_pws.proofs.Facts.{T-eq, put-same, put-each, last-is}
 use Rattle.machine_pws.proofs.Cases.{all-yes}
 use Rattle.machine_pws.proofs.Starts.{start-exists}
 use Rattle.list_theory.specs.Lists.{forBelow}
-use Rattle.list_theory.proofs.Lists.{T-true, T-false, yes-all}
+use Rattle.list_theory.proofs.Lists.{yes-all}
 use Rattle.pattern_theory.specs.Patterns.{Clue, empty, ends, contains, PathRead, Pattern}
-use Rattle.pattern_theory.specs.Fitting.{nothing, Stands, FitsClue, held, PathFrom, FitsPattern}
+use Rattle.pattern_theory.specs.Fitting.{nothing, Stands, FitsClue, held, PathFrom}
 use Rattle.pattern_theory.specs.Predecessors.{canEmpty, agrees, joined}
 use Rattle.pattern_theory.specs.Verdict.{ReadsOf, PatternIn, isSome, startFits, StartFits}
 use Rattle.pattern_theory.proofs.Joining.{at-below, joins}
@@ -109,16 +108,19 @@ abbrev orZero : Option ℕ → ℕ
 orZero none = 0
 orZero (some x) = x
 
--- f at the four variables
-abbrev memoryOf : (ℕ → ℕ) → List ℕ
-memoryOf f = f 0 ∷ f 1 ∷ f 2 ∷ f 3 ∷ []
+-- f i, .., f (i + n - 1)
+abbrev valuesFrom : ℕ → ℕ → (ℕ → ℕ) → List ℕ
+valuesFrom zero i f = []
+valuesFrom (suc n) i f = f i ∷ valuesFrom n (suc i) f
 
-memory-at : (f : ℕ → ℕ) (v : ℕ) → v < 4 → getD (memoryOf f) v 0 ≡ f v
-memory-at f zero l = refl
-memory-at f (suc zero) l = refl
-memory-at f (suc (suc zero)) l = refl
-memory-at f (suc (suc (suc zero))) l = refl
-memory-at f (suc (suc (suc (suc v)))) l = absurd (omega arith)
+values-length : (n i : ℕ) (f : ℕ → ℕ) → length (valuesFrom n i f) ≡ n
+values-length zero i f = refl
+values-length (suc n) i f = ap suc (values-length n (suc i) f)
+
+values-at : (n i : ℕ) (f : ℕ → ℕ) (v : ℕ) → v < n → getD (valuesFrom n i f) v 0 ≡ f (i + v)
+values-at zero i f v l = absurd (omega arith)
+values-at (suc n) i f zero l = let e : i ≡ i + 0 = omega arith in ap f e
+values-at (suc n) i f (suc v) l = let e : suc i + v ≡ i + suc v = omega arith in values-at n (suc i) f v (omega arith) ∙ ap f e
 
 emptied-fits : (k : Clue) → T (canEmpty k) → FitsClue k []
 emptied-fits empty t = refl
@@ -134,7 +136,7 @@ asked-stands : (o : Option ℕ) (y : ℕ) → ((x : ℕ) → o ≡ some x → y 
 asked-stands none y f = tt
 asked-stands (some x) y f = sym (f x refl)
 
-module _ (P : Program) (R : ProgramInRange P) (a : Pattern) (o : PatternIn (P .shape) a) where
+module _ (P : Program) (R : WellFormed P) (a : Pattern) (o : PatternIn (P .shape) a) where
   abbrev S : Shape
   S = P .shape
 
@@ -170,23 +172,33 @@ module _ (P : Program) (R : ProgramInRange P) (a : Pattern) (o : PatternIn (P .s
     abbrev value : ℕ → ℕ
     value v = cond (ltb v (S .variables)) (orZero (newer v)) 0
 
-    asked-value : (v x : ℕ) → v < S .variables → newer v ≡ some x → getD (memoryOf value) v 0 ≡ x
-    asked-value v x l e = memory-at value v (omega (arith, R .shape .variables)) ∙ (rw (lt-ltb v (S .variables) l) (ap orZero e))
+    -- the memory has room for so many values
+    abbrev room : ℕ
+    room = S .room
 
-    permitted : StartingMemory S (memoryOf value)
+    abbrev memory : List ℕ
+    memory = valuesFrom room 0 value
+
+    memory-at : (v : ℕ) → v < room → getD memory v 0 ≡ value v
+    memory-at v l = let e : 0 + v ≡ v = omega arith in values-at room 0 value v l ∙ ap value e
+
+    asked-value : (v x : ℕ) → v < S .variables → newer v ≡ some x → getD memory v 0 ≡ x
+    asked-value v x l e = memory-at v (omega (arith, R .shape .variables)) ∙ (rw (lt-ltb v (S .variables) l) (ap orZero e))
+
+    permitted : StartingMemory S memory
     permitted =
         record {
-          room = refl;
-          values = λ v l. rw (memory-at value v (omega (arith, R .shape .variables)), lt-ltb v (S .variables) l)
+          room = values-length room 0 value;
+          values = λ v l. rw (memory-at v (omega (arith, R .shape .variables)), lt-ltb v (S .variables) l)
               (or-zero (newer v) (S .values v) (R .shape .someValue v l) (λ x e. j .values v x l e));
-          absent = λ v l. elim (decLt v 4) [
-            | yes h ↦ memory-at value v h ∙ (rw (le-ltb v (S .variables) l))
-            | no h ↦ let past : length (memoryOf value) ≤ v = omega arith in List·getD-eq-default (memoryOf value) 0 past
+          absent = λ v l. elim (decLt v room) [
+            | yes h ↦ memory-at v h ∙ (rw (le-ltb v (S .variables) l))
+            | no h ↦ let past : length memory ≤ v = omega (arith, values-length room 0 value) in List·getD-eq-default memory 0 past
           ];
         }
 
     abbrev first : Configuration
-    first = startWith P (memoryOf value) 0 0
+    first = startWith P memory 0 0
 
     first-path : (p : ℕ) → p < S .processes → (rs : List PathRead) → ReadsOf S rs → AllAsked newer rs → (k : ℕ) → k ≤ 1 → PathFrom (first .memory) p k rs
     first-path p l [] i q k h = tt
@@ -207,15 +219,15 @@ module _ (P : Program) (R : ProgramInRange P) (a : Pattern) (o : PatternIn (P .s
     first-fits s k =
         record {
           configuration = first;
-          start = start-exists P R (memoryOf value) permitted 0 0 (omega (arith, R .shape .someProcess)) (omega (arith, R .shape .someVariable));
+          start = start-exists P R memory permitted 0 0 (omega (arith, R .shape .someProcess)) (omega (arith, R .shape .someVariable));
           fits =
               record {
                 states = λ p l. rw (lt-ltb p (S .processes) l) (eqb→eq (P .initial p) (a .state p) (all-yes (S .processes) (λ p. eqb (P .initial p) (a .state p)) s p l));
                 queues = λ p v l h. emptied-fits (a .clue p v)
                     (all-yes (S .variables) (λ v. canEmpty (a .clue p v)) (all-yes (S .processes) (λ p. allBelow (S .variables) (λ v. canEmpty (a .clue p v))) k p l) v h);
                 newest = λ v. elim (decLt v (S .variables)) [
-                  | yes l ↦ asked-stands (a .newest v) (getD (memoryOf value) v 0) (λ x e. asked-value v x l (j .keeps v x e))
-                  | no l ↦ subst (λ (u : Option ℕ). Stands u (getD (memoryOf value) v 0)) (sym (o .absent v (omega arith))) tt
+                  | yes l ↦ asked-stands (a .newest v) (getD memory v 0) (λ x e. asked-value v x l (j .keeps v x e))
+                  | no l ↦ subst (λ (u : Option ℕ). Stands u (getD memory v 0)) (sym (o .absent v (omega arith))) tt
                 ];
                 paths = λ p l. first-path p l (a .path p) (o .reads p l) (asked-below newer (S .processes) (a .path) (j .asks) p l) (first .memory .pointer p)
                     (rw (lt-ltb p (S .processes) l) (omega arith));

@@ -1,31 +1,30 @@
 -- In every configuration of a run only stored values are found, and so what one fits is not dropped (docs/PATTERNS.md, "Never stored").
-use Prim.Native.Nat.{ℕ, zero, suc, _<_, _≤_}
-use mathlib.Core.Path.{_≡_, refl, sym, ap, subst, _∙_}
-use mathlib.Core.Logic.{_⊎_, inl, inr, ⊎-elim}
-use mathlib.Core.Bool.{Bool, true, false, _&&_, _||_, not}
+use Prim.Native.Nat.{ℕ, _<_, _≤_}
+use mathlib.Core.Path.{refl, sym, subst}
+use mathlib.Core.Logic.{⊎-elim}
+use mathlib.Core.Bool.{Bool, true, false, _&&_, not}
 use mathlib.Core.Option.{Option, none, some}
 use mathlib.Core.List.{List, [], _∷_, _++_}
 use native.Mathlib.Omega.{arith}
-use lib.ListN.{length, getD, set}
+use lib.ListN.{length, getD}
 use lib.Seq.{getD-set-same}
 use lib.Dec.{T, eqb, eqb→eq, eqb-refl}
 use mir.Facts.{and-yes, yes-and}
 use Rattle.machine_pws.specs.declared.Message.{Message}
 use Rattle.machine_pws.specs.declared.Operation.{Operation}
 use Rattle.machine_pws.specs.declared.Operation.the-variants.{Nop, Read, Write, Mfence, Sfence, Arw}
-use Rattle.machine_pws.specs.declared.Transition.{Transition}
 use Rattle.machine_pws.specs.declared.Step.{Step}
 use Rattle.machine_pws.specs.declared.Step.the-variants.{Take, Serialise, Update}
-use Rattle.machine_pws.specs.Program.{Program, noTransition, transition, OperationOf, ProgramInRange}
-use Rattle.machine_pws.specs.Machine.{Memory, Configuration, message, newest, labelled, copyWith, putQueue, withoutOldest, queueAfter, memoryAfter, allBelow, may, after}
-use Rattle.machine_pws.specs.Configurations.{All, ConfigurationOf, Start}
+use Rattle.machine_pws.specs.Program.{Program, noTransition, transition, OperationOf, WellFormed}
+use Rattle.machine_pws.specs.Machine.{Memory, Configuration, message, newest, copyWith, putQueue, withoutOldest, queueAfter, memoryAfter, allBelow, may, after}
+use Rattle.machine_pws.specs.Configurations.{All, Start}
 use Rattle.machine_pws.specs.Sequences.{Visited, start, later}
 use Rattle.machine_pws.proofs.Facts.{T-or-not, or-left, or-right, putQueue-each, message-each}
 use Rattle.machine_pws.proofs.Steps.{take-yes, serialise-yes, all-oldest, all-rest, all-snoc, step-configuration}
-use Rattle.list_theory.specs.Lists.{every, anyOf}
+use Rattle.list_theory.specs.Lists.{every}
 use Rattle.list_theory.proofs.Lists.{any-number, number-any, yes-all}
 use Rattle.pattern_theory.specs.Patterns.{Clue, empty, ends, contains, PathRead, Pattern}
-use Rattle.pattern_theory.specs.Fitting.{Subsequence, nothing, keep, skip, Stands, FitsClue, held, ReadAt, PathFrom, FitsPattern}
+use Rattle.pattern_theory.specs.Fitting.{Subsequence, nothing, keep, skip, Stands, FitsClue, ReadAt, PathFrom, FitsPattern}
 use Rattle.pattern_theory.specs.Storing.{isWrite, isWriteTo, isStore, does, mayWait, wordOf, mayRead, kept, Stored}
 use Rattle.pattern_theory.specs.Safety.{RunsStore}
 use Rattle.pattern_theory.proofs.Subsequences.{sub-snoc}
@@ -146,7 +145,7 @@ module _ (P : Program) where
         sent = λ i a b. absurd (omega (arith, s .one));
       }
 
-  module _ (R : ProgramInRange P) (c : Configuration) (o : Stored P c) where
+  module _ (R : WellFormed P) (c : Configuration) (o : Stored P c) where
     -- the newest message has room for every variable
     pub has-room : (x : ℕ) → x < P .shape .variables → x < length (newest (c .memory .channel) .snapshot)
     has-room x l =
@@ -200,7 +199,7 @@ module _ (P : Program) where
     stored-step (Update p) t =
         record { configuration = step-configuration P R c (o .configuration) (Update p) t; waits = o .waits; sent = o .sent }
 
-stored-visited : (P : Program) → ProgramInRange P → {b c : Configuration} {ss : List Step} → Stored P b → Visited P b ss c → Stored P c
+stored-visited : (P : Program) → WellFormed P → {b c : Configuration} {ss : List Step} → Stored P b → Visited P b ss c → Stored P c
 stored-visited P R o start = o
 stored-visited P R {b} o (later s t r) = stored-visited P R (stored-step P R b o s t) r
 

@@ -1,14 +1,14 @@
 -- Laws of subsequences, and of words in queues.
 use Prim.Native.Nat.{ℕ}
-use mathlib.Core.Path.{_≡_, refl, sym, ap, subst, _∙_}
+use mathlib.Core.Path.{_≡_, refl, sym, ap, subst}
 use mathlib.Core.Logic.{_⊎_, inl, inr, ⊎-elim, _↔_}
 use mathlib.Core.Bool.{Bool, true, false, cond}
 use mathlib.Core.Option.{Option, none, some}
 use mathlib.Core.List.{List, [], _∷_, _++_, cons≢nil}
-use lib.Dec.{T, eqb}
+use lib.Dec.{T}
 use Rattle.machine_pws.proofs.Facts.{T-eq}
 use Rattle.list_theory.proofs.Lists.{T-true}
-use Rattle.pattern_theory.specs.Patterns.{Clue, empty, ends, contains, ending}
+use Rattle.pattern_theory.specs.Patterns.{ends, ending}
 use Rattle.pattern_theory.specs.Fitting.{Subsequence, nothing, keep, skip, Stands, FitsClue}
 use Rattle.pattern_theory.specs.Predecessors.{agrees, withoutEnd}
 
@@ -27,12 +27,6 @@ module _ {A B : Type 0} {R : A → B → Type 0} where
   pub sub-tail : {x : A} {xs : List A} {ys : List B} → Subsequence R (x ∷ xs) ys → Subsequence R xs ys
   sub-tail (keep r s) = skip s
   sub-tail (skip s) = skip (sub-tail s)
-
-  -- more behind
-  pub sub-behind : {xs : List A} {ys : List B} (zs : List B) → Subsequence R xs ys → Subsequence R xs (ys ++ zs)
-  sub-behind zs nothing = nothing
-  sub-behind zs (keep r s) = keep r (sub-behind zs s)
-  sub-behind zs (skip s) = skip (sub-behind zs s)
 
   -- one more at the end of both
   at-end : (x : A) (y : B) (ys : List B) → R x y → Subsequence R (x ∷ []) (ys ++ (y ∷ []))

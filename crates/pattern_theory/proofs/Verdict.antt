@@ -1,18 +1,18 @@
 -- Each answer is given exactly when it says so, and one is always given.
 use Prim.Native.Nat.{ℕ, _<_}
 use mathlib.Core.Path.{_≡_, refl, sym, ap, ap₂, subst, _∙_}
-use mathlib.Core.Logic.{_⊎_, ⊎-elim}
+use mathlib.Core.Logic.{⊎-elim}
 use mathlib.Core.Bool.{Bool, true, false, _||_, not}
 use mathlib.Core.Option.{Option, none, some}
-use mathlib.Core.List.{List, [], _∷_, _++_, List·Memᴰ, List·Memᴰ·head, List·Memᴰ·tail}
+use mathlib.Core.List.{List, [], _∷_, List·Memᴰ, List·Memᴰ·head, List·Memᴰ·tail}
 use native.Mathlib.Omega.{arith}
 use native.Mathlib.Decide.{decLt, ℕ-discrete}
 use lib.ListN.{length}
-use lib.Dec.{T, T-not, not-T}
+use lib.Dec.{T, T-not}
 use mir.Facts.{or-yes, T-not-not}
 use Rattle.machine_pws.specs.declared.Step.{Step}
-use Rattle.machine_pws.specs.declared.Step.the-variants.{Take, Serialise, Update}
-use Rattle.machine_pws.specs.Program.{Shape, Program, ProgramInRange}
+use Rattle.machine_pws.specs.declared.Step.the-variants.{Update}
+use Rattle.machine_pws.specs.Program.{Program, WellFormed}
 use Rattle.machine_pws.proofs.Facts.{T-or-not, or-left, or-right}
 use Rattle.list_theory.specs.Lists.{every, lowest, firstFailing}
 use Rattle.list_theory.specs.Predecessors.{steps}
@@ -91,7 +91,7 @@ first-in f d (x ∷ xs) n = go (first-in f d xs) (f x) n
 
 -- ---- the whole verdict
 
-module _ (P : Program) (R : ProgramInRange P) (ts : List (ℕ → ℕ)) (ps : List Pattern) (o : PatternsIn (P .shape) ps) where
+module _ (P : Program) (R : WellFormed P) (ts : List (ℕ → ℕ)) (ps : List Pattern) (o : PatternsIn (P .shape) ps) where
   target-yes : (j : ℕ) → T (targetHeld (P .shape) ps (target ts j)) → WithinOne (P .shape) ps (targetPattern (target ts j))
   target-yes j t = within-one (P .shape) ps (targetPattern (target ts j)) .0 t
 

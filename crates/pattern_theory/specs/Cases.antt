@@ -2,7 +2,7 @@
 -- reading. Then its examples of *within* and of predecessors.
 use Prim.Native.Nat.{ℕ}
 use mathlib.Core.Path.{_≡_}
-use mathlib.Core.Bool.{Bool, true, false, cond}
+use mathlib.Core.Bool.{true, false, cond}
 use mathlib.Core.Option.{Option, none, some}
 use mathlib.Core.List.{List, [], _∷_, map}
 use lib.Dec.{eqb}
@@ -17,9 +17,9 @@ use Rattle.machine_pws.specs.Configurations.{Start}
 use Rattle.machine_pws.specs.Sequences.{Visited}
 use Rattle.machine_equal.specs.Equivalence.{PwsReachable}
 use Rattle.list_theory.specs.Verdict.{ListVerdict, safe, unheld, started, entered}
-use Rattle.pattern_theory.specs.Patterns.{Clue, empty, ends, contains, ending, PathRead, Pattern}
+use Rattle.pattern_theory.specs.Patterns.{Clue, empty, ends, contains, PathRead, Pattern}
 use Rattle.pattern_theory.specs.Within.{clueWithin, pathWithin}
-use Rattle.pattern_theory.specs.Predecessors.{Cut, cuts, ownCut, beforeRead, inFront, beforeOperation}
+use Rattle.pattern_theory.specs.Predecessors.{cuts, ownCut, beforeRead, inFront, beforeOperation}
 use Rattle.pattern_theory.specs.Verdict.{patternVerdict}
 
 -- ---- one process and one variable x with two values; process 0 starts in local state 0
@@ -28,7 +28,7 @@ abbrev pub goes : ℕ → Operation → ℕ → Transition
 goes from operation to = record { process = 0; from = from; operation = operation; to = to }
 
 abbrev pub programOf : List Transition → Program
-programOf ts = record { shape = record { processes = 1; variables = 1; values = λ v. 2 }; states = λ p. 4; initial = λ p. 0; transitions = ts }
+programOf ts = record { shape = record { processes = 1; variables = 1; values = λ v. 2; room = 4 }; states = λ p. 4; initial = λ p. 0; transitions = ts }
 
 -- x for the one process or variable, and else what there is where none is
 abbrev pub one : {A : Type 0} → A → A → ℕ → A
@@ -84,7 +84,7 @@ patternsFence = inState 3 ∷ patternWith 2 none empty (reads 0 0 ∷ []) ∷ pa
 abbrev pub programTwo : Program
 programTwo =
     record {
-      shape = record { processes = 2; variables = 1; values = λ v. 2 };
+      shape = record { processes = 2; variables = 1; values = λ v. 2; room = 4 };
       states = λ p. 4;
       initial = λ p. 0;
       transitions = goes 0 (Write 0 1) 1 ∷ goes 1 (Read 0 0) 2 ∷ record { process = 1; from = 1; operation = Write 0 0; to = 1 } ∷ [];

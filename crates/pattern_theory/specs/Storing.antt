@@ -1,6 +1,6 @@
 -- Which values a process stores, and what no run can come to have (docs/PATTERNS.md, "Never stored").
 use Prim.Native.Nat.{ℕ, _<_, _≤_}
-use mathlib.Core.Bool.{Bool, true, false, _&&_, _||_, not}
+use mathlib.Core.Bool.{Bool, false, _&&_, _||_, not}
 use mathlib.Core.Option.{Option, none, some}
 use mathlib.Core.List.{List, [], _∷_, _++_}
 use lib.ListN.{length, getD}
@@ -8,7 +8,6 @@ use lib.Dec.{T, eqb}
 use Rattle.machine_pws.specs.declared.Message.{Message}
 use Rattle.machine_pws.specs.declared.Operation.{Operation}
 use Rattle.machine_pws.specs.declared.Operation.the-variants.{Nop, Read, Write, Mfence, Sfence, Arw}
-use Rattle.machine_pws.specs.declared.Transition.{Transition}
 use Rattle.machine_pws.specs.Program.{Program}
 use Rattle.machine_pws.specs.Machine.{Configuration, message, allBelow}
 use Rattle.machine_pws.specs.Configurations.{All, ConfigurationOf}
