@@ -173,7 +173,7 @@ pub fn limits(each: &mut dyn FnMut(&str, Vec<u8>, usize)) {
         let file = [&p11[..], &nop.repeat(count), &hex("04 00 00 00 00"), &claim1, &last].concat();
         each(&format!("{} transitions and a run", count), file, small);
     }
-    for count in [0, 1, 15, 16, 17, 18] {
+    for count in [0, 1, 16, 17, 4_095, 4_096, 4_097, 4_098] {
         for evidence in [&all[..], &all[16..], &[]] {
             let file = [&p11[..], &target.repeat(count), &claim0, evidence].concat();
             each(&format!("{} targets", count), file, small);

@@ -177,7 +177,7 @@ pub fn lists(r: &mut Random, each: &mut dyn FnMut(&str, &Program, &[Configuratio
         let mut program = random::program(r, processes, variables, values, 32, 40);
         program.states = vec![32; processes];
         let entries: Vec<Configuration> = (0..4_000).map(|_| any_entry(r, &program)).collect();
-        program.targets = entries[..16].iter().map(|entry| entry.states).collect();
+        program.targets = entries[..40].iter().map(|entry| entry.states).collect();
         each("groups of one entry", &program, &entries);
     }
     // Closed groups, and one entry missing from one of them.
