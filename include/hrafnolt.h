@@ -113,6 +113,17 @@ struct hrafnolt_written hrafnolt_dot_write(const uint8_t *steps, size_t steps_le
  * such text has after the same beginning, or the text's length if it stops early; an output too short is 26 with the bytes needed. */
 struct hrafnolt_written hrafnolt_dot_read(const uint8_t *text, size_t text_len, uint8_t *out, size_t out_len);
 
+/* ---- programs with registers (request N8)
+ *
+ * Output that is long enough for each program: 01, four 02s, 256 of 03, 4,096 of 04. */
+#define HRAFNOLT_PROGRAM_MOST ((size_t)22547)
+
+/* A file of 01, 02s, 05s and 04s, in which a process may have a register, to the program file of 01 to 04 that says the same without registers. Refusals of the
+ * records are 2, 1, 5, 3, 4 and 6 with the offset, as the judge says for a program file; then 19 with the lowest process that would need over 32 states; then
+ * 28 with the number of the 05 that a 257th transition comes from; then 29 with the bytes needed, for an output too short. The pointers are as for
+ * hrafnolt_dot_write. */
+struct hrafnolt_written hrafnolt_registers(const uint8_t *program, size_t program_len, uint8_t *out, size_t out_len);
+
 /* ---- a year of verdicts in exact fractions (request N11)
  *
  * A collection counts results: all of them, the safe ones, the sum of their entries, and of the squares of their entries. All 0 is the

@@ -14,7 +14,7 @@ use Rattle.drawing.specs.declared.Written.{Written}
 use Rattle.drawing.specs.Text.{text}
 use Rattle.drawing.specs.Runs.{fullShape}
 use Rattle.drawing.specs.Parts.{placed}
-use Rattle.drawing.specs.Writing.{Made, made, refused, answered, leftIn, ofCount, drawingOf}
+use Rattle.drawing.specs.Writing.{Made, made, refused, answeredOr, leftIn, ofCount, drawingOf}
 
 pub drawing-refused : (f : List ℕ) (r : Refusal) → stepsFrom fullShape 256 f 0 ≡ Stopped r → drawingOf f ≡ refused (r .number) (r .place)
 unfolding drawingOf
@@ -24,25 +24,25 @@ pub drawing-made : (f : List ℕ) (n : ℕ) → stepsFrom fullShape 256 f 0 ≡ 
 unfolding drawingOf
 drawing-made f n e = ap (ofCount f) e
 
-abbrev answer-short : ℕ → Written
-answer-short n = record { number = 26; value = n }
+abbrev answer-short : ℕ → ℕ → Written
+answer-short short n = record { number = short; value = n }
 
 abbrev answer-written : ℕ → Written
 answer-written n = record { number = 0; value = n }
 
-module _ (out : List ℕ) (m : Made) where
+module _ (short : ℕ) (out : List ℕ) (m : Made) where
   pub says-refused : (number place : ℕ) → m ≡ refused number place
-      → (record { number = number; value = place } ≡ answered (length out) m) × (out ≡ leftIn out m)
-  says-refused number place e = (sym (ap (answered (length out)) e), sym (ap (leftIn out) e))
+      → (record { number = number; value = place } ≡ answeredOr short (length out) m) × (out ≡ leftIn out m)
+  says-refused number place e = (sym (ap (answeredOr short (length out)) e), sym (ap (leftIn out) e))
 
   pub says-short : (w : List ℕ) (needed : ℕ) → m ≡ made w → needed ≡ length w → length out < needed
-      → (record { number = 26; value = needed } ≡ answered (length out) m) × (out ≡ leftIn out m)
+      → (record { number = short; value = needed } ≡ answeredOr short (length out) m) × (out ≡ leftIn out m)
   says-short w needed e d l =
       let t : ltb (length out) (length w) ≡ true = ap (ltb (length out)) (sym d) ∙ lt-ltb (length out) needed l in
-      (rw (e, t) (ap answer-short d), rw (e, t))
+      (rw (e, t) (ap (answer-short short) d), rw (e, t))
 
   pub says-written : (w new : List ℕ) (needed : ℕ) → m ≡ made w → needed ≡ length w → needed ≤ length out → new ≡ w ++ drop (length w) out
-      → (record { number = 0; value = needed } ≡ answered (length out) m) × (new ≡ leftIn out m)
+      → (record { number = 0; value = needed } ≡ answeredOr short (length out) m) × (new ≡ leftIn out m)
   says-written w new needed e d l q =
       let t : ltb (length out) (length w) ≡ false = ap (ltb (length out)) (sym d) ∙ le-ltb (length out) needed l in
       (rw (e, t) (ap answer-written d), rw (e, t) q)

@@ -20,11 +20,14 @@ pub data Made : Type 0 where
   made : List ℕ → Made
   refused : ℕ → ℕ → Made
 
--- in an output of this length
+-- in an output of this length; `short` is the number of an output too short
+abbrev pub answeredOr : ℕ → ℕ → Made → Written
+answeredOr short room (made w) =
+    choose (ltb room (length w)) (λ _. record { number = short; value = length w }) (λ _. record { number = 0; value = length w })
+answeredOr short room (refused number place) = record { number = number; value = place }
+
 abbrev pub answered : ℕ → Made → Written
-answered room (made w) =
-    choose (ltb room (length w)) (λ _. record { number = 26; value = length w }) (λ _. record { number = 0; value = length w })
-answered room (refused number place) = record { number = number; value = place }
+answered room m = answeredOr 26 room m
 
 -- the output afterwards
 abbrev pub leftIn : List ℕ → Made → List ℕ

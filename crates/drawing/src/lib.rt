@@ -1,7 +1,7 @@
 // Runs as drawings (request N12): step records to DOT text, and the text back to step records.
 
 mod label;
-mod put;
+pub mod put;
 mod read;
 mod word;
 mod write;

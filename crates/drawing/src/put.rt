@@ -11,7 +11,7 @@ use base::bytes::both;
 use machine_pws::Step;
 
 // The word goes to a place in the slice, and the place after it is handed back.
-pub(crate) fn put(out: &mut [u8], at: usize, word: &[u8]) -> usize
+pub fn put(out: &mut [u8], at: usize, word: &[u8]) -> usize
     requires { ⌜ at + length (now word) ≤ length (now out) ⌝ }
     ensures { λ r. ⌜ Put (now (out .entry)) (now (out .exit)) at r (now (word .entry)) ⌝ }
 {

@@ -2,3 +2,4 @@
 pub mod collections;
 mod dot;
 mod judging;
+mod registers;

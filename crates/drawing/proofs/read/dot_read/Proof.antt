@@ -25,7 +25,7 @@ refused-at-requires : tie.Need-refused-at-requires
 refused-at-requires c κs = tt
 
 returns : tie.Need-returns
-returns c = let t = c .before .before .before .before .before .before .before .args .text .now in let q = says-refused (c .before .before .before .before .before .before .before .args .out .now) (recordsIn t) 27 (c .before .nodes-place .result) (no-nodes t _ (sym (c .before .before .before .before .nodes-read .ensures) ∙ c .before .before .enum-told .given .1) ∙ ap (refused 27) (sym (c .before .nodes-place .ensures ∙ ap nodesPlace (c .before .before .enum-told .given .1)))) in (c .refused-at .ensures ∙ q .0, q .1)
+returns c = let t = c .before .before .before .before .before .before .before .args .text .now in let q = says-refused 26 (c .before .before .before .before .before .before .before .args .out .now) (recordsIn t) 27 (c .before .nodes-place .result) (no-nodes t _ (sym (c .before .before .before .before .nodes-read .ensures) ∙ c .before .before .enum-told .given .1) ∙ ap (refused 27) (sym (c .before .nodes-place .ensures ∙ ap nodesPlace (c .before .before .enum-told .given .1)))) in (c .refused-at .ensures ∙ q .0, q .1)
 
 edges-size-requires : tie.Need-edges-size-requires
 edges-size-requires c κs = nodes-few (c .before .before .before .before .before .before .args .text .now) _ _ (sym (c .before .before .before .nodes-read .ensures) ∙ c .before .nodes .given .1)
@@ -43,10 +43,10 @@ refused-at-requires-2 : tie.Need-refused-at-requires-2
 refused-at-requires-2 c κs = tt
 
 returns-2 : tie.Need-returns-2
-returns-2 c = let t = c .before .before .before .before .before .before .before .before .before .before .before .args .text .now in let q = says-refused (c .before .before .before .before .before .before .before .before .before .before .before .args .out .now) (recordsIn t) 27 (c .before .size-place .result) (no-edges t _ _ (sym (c .before .before .before .before .before .before .before .before .nodes-read .ensures) ∙ c .before .before .before .before .before .before .nodes .given .1) _ (sym (c .before .before .before .before .edges-size .ensures) ∙ c .before .before .enum-told2 .given .1) ∙ ap (refused 27) (sym (c .before .size-place .ensures ∙ ap sizePlace (c .before .before .enum-told2 .given .1)))) in (c .refused-at2 .ensures ∙ q .0, q .1)
+returns-2 c = let t = c .before .before .before .before .before .before .before .before .before .before .before .args .text .now in let q = says-refused 26 (c .before .before .before .before .before .before .before .before .before .before .before .args .out .now) (recordsIn t) 27 (c .before .size-place .result) (no-edges t _ _ (sym (c .before .before .before .before .before .before .before .before .nodes-read .ensures) ∙ c .before .before .before .before .before .before .nodes .given .1) _ (sym (c .before .before .before .before .edges-size .ensures) ∙ c .before .before .enum-told2 .given .1) ∙ ap (refused 27) (sym (c .before .size-place .ensures ∙ ap sizePlace (c .before .before .enum-told2 .given .1)))) in (c .refused-at2 .ensures ∙ q .0, q .1)
 
 returns-3 : tie.Need-returns-3
-returns-3 c = let t = c .before .before .before .before .before .before .before .before .before .before .before .args .text .now in let e = sym (c .before .before .before .before .before .before .before .before .nodes-read .ensures) ∙ c .before .before .before .before .before .before .nodes .given .1 in let d = sym (c .before .before .before .before .edges-size .ensures) ∙ c .before .before .size .given .1 in says-short (c .before .before .before .before .before .before .before .before .before .before .before .args .out .now) (recordsIn t) (recordsOf (stepsIn (edgesAt (c .before .before .before .before .before .before .nodes .given .0 .0) t (c .before .before .before .before .before .before .nodes .given .0 .1 .0) 0))) _ (all-edges t _ _ e _ d) (needed-is t _ _ e _ d) (c .if1 .taken)
+returns-3 c = let t = c .before .before .before .before .before .before .before .before .before .before .before .args .text .now in let e = sym (c .before .before .before .before .before .before .before .before .nodes-read .ensures) ∙ c .before .before .before .before .before .before .nodes .given .1 in let d = sym (c .before .before .before .before .edges-size .ensures) ∙ c .before .before .size .given .1 in says-short 26 (c .before .before .before .before .before .before .before .before .before .before .before .args .out .now) (recordsIn t) (recordsOf (stepsIn (edgesAt (c .before .before .before .before .before .before .nodes .given .0 .0) t (c .before .before .before .before .before .before .nodes .given .0 .1 .0) 0))) _ (all-edges t _ _ e _ d) (needed-is t _ _ e _ d) (c .if1 .taken)
 
 put-records-requires : tie.Need-put-records-requires
 put-records-requires c κs = let t = c .before .before .before .before .before .before .before .before .before .before .before .before .args .text .now in readable t _ _ (sym (c .before .before .before .before .before .before .before .before .before .nodes-read .ensures) ∙ c .before .before .before .before .before .before .before .nodes .given .1) _ (sym (c .before .before .before .before .before .edges-size .ensures) ∙ c .before .before .before .size .given .1) _ (c .before .if1 .left)
@@ -55,7 +55,7 @@ same-length : tie.Need-same-length
 same-length c = search needs
 
 returns-4 : tie.Need-returns-4
-returns-4 c = let t = c .before .before .before .before .before .before .before .before .before .before .before .before .before .before .before .args .text .now in let e = sym (c .before .before .before .before .before .before .before .before .before .before .before .before .nodes-read .ensures) ∙ c .before .before .before .before .before .before .before .before .before .before .nodes .given .1 in let d = sym (c .before .before .before .before .before .before .before .before .edges-size .ensures) ∙ c .before .before .before .before .before .before .size .given .1 in let w = recordsOf (stepsIn (edgesAt (c .before .before .before .before .before .before .before .before .before .before .nodes .given .0 .0) t (c .before .before .before .before .before .before .before .before .before .before .nodes .given .0 .1 .0) 0)) in says-written (c .before .before .before .before .before .before .before .before .before .before .before .before .before .before .before .args .out .now) (recordsIn t) w _ _ (all-edges t _ _ e _ d) (needed-is t _ _ e _ d) (c .before .before .before .before .if1 .left) (c .before .before .put-records .ensures ∙ placed-first (c .before .before .before .before .before .before .before .before .before .before .before .before .before .before .before .args .out .now) w)
+returns-4 c = let t = c .before .before .before .before .before .before .before .before .before .before .before .before .before .before .before .args .text .now in let e = sym (c .before .before .before .before .before .before .before .before .before .before .before .before .nodes-read .ensures) ∙ c .before .before .before .before .before .before .before .before .before .before .nodes .given .1 in let d = sym (c .before .before .before .before .before .before .before .before .edges-size .ensures) ∙ c .before .before .before .before .before .before .size .given .1 in let w = recordsOf (stepsIn (edgesAt (c .before .before .before .before .before .before .before .before .before .before .nodes .given .0 .0) t (c .before .before .before .before .before .before .before .before .before .before .nodes .given .0 .1 .0) 0)) in says-written 26 (c .before .before .before .before .before .before .before .before .before .before .before .before .before .before .before .args .out .now) (recordsIn t) w _ _ (all-edges t _ _ e _ d) (needed-is t _ _ e _ d) (c .before .before .before .before .if1 .left) (c .before .before .put-records .ensures ∙ placed-first (c .before .before .before .before .before .before .before .before .before .before .before .before .before .before .before .args .out .now) w)
 
 pub dot-read-spec : {M : Type 1} → statement M
 dot-read-spec =

@@ -1,0 +1,9 @@
+pub mod Joined
+pub mod Found
+pub mod Operations
+pub mod HasLaws
+pub mod CountLaws
+pub mod RecordLaws
+pub mod TargetLaws
+pub mod LoopLaws
+pub mod Answers
