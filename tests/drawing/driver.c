@@ -1,4 +1,5 @@
-/* Calls the writer and the reader of drawings on what standard input holds: for each call a byte (0 write, 1 read), the lengths of the input
+/* Calls the writer and the reader of drawings, and the front part for registers, on what standard input holds: for each call a byte (0 write, 1 read,
+ * 2 a program with registers), the lengths of the input
  * and of the output in four bytes each, least significant first, and the input. Answers with number and value in eight bytes each and the
  * output as it was left; it holds A5 before the call. Both slices end where a page begins that can't be touched.
  * With the word `time` it writes and reads one run of 1,024 steps, and prints the microseconds of each. */
@@ -76,8 +77,9 @@ int main(int count, char **words)
         if (in_len > MOST || out_len > MOST || fread(in_end - in_len, 1, in_len, stdin) != in_len)
             return 2;
         memset(out_end - out_len, 0xA5, out_len);
-        struct hrafnolt_written w = head[0] ? hrafnolt_dot_read(in_end - in_len, in_len, out_end - out_len, out_len)
-                                            : hrafnolt_dot_write(in_end - in_len, in_len, out_end - out_len, out_len);
+        struct hrafnolt_written (*call)(const uint8_t *, size_t, uint8_t *, size_t) =
+            head[0] == 0 ? hrafnolt_dot_write : head[0] == 1 ? hrafnolt_dot_read : hrafnolt_registers;
+        struct hrafnolt_written w = call(in_end - in_len, in_len, out_end - out_len, out_len);
         put(w.number);
         put(w.value);
         fwrite(out_end - out_len, 1, out_len, stdout);

@@ -4,6 +4,8 @@
 //! registers limits: files at the limits of the request, and one past them.
 //! registers faults: the faults of each kind of record, with their places.
 //! registers front FILE ROOM [OUT]: what the front part answers for an output slice of that many bytes; what it writes goes to OUT.
+//! registers proved DRIVER SEED COUNT: the proved front part, called by that program (tests/drawing/driver.c), answers as the one here does and
+//! leaves what it may not touch, on sound, damaged and large programs, with room enough, just enough, a byte too little and none.
 //! Exit status 0 if all is as it should be.
 
 #[path = "../reference/registers.rs"]
@@ -330,6 +332,76 @@ fn faults() -> Result<(), String> {
     Ok(())
 }
 
+// ---- the proved front part
+
+/// Calls for the driver, and what it is to answer: number and value, and the output as it is left.
+fn call(file: &[u8], room: usize, calls: &mut Vec<u8>, answers: &mut Vec<u8>) {
+    calls.push(2);
+    calls.extend((file.len() as u32).to_le_bytes());
+    calls.extend((room as u32).to_le_bytes());
+    calls.extend(file);
+    let (number, value, mut out) = match front(file, room) {
+        Ok(written) => (0, written.len() as u64, written),
+        Err((number, place)) => (number, place as u64, Vec::new()),
+    };
+    out.resize(room, 0xA5);
+    answers.extend(number.to_le_bytes());
+    answers.extend(value.to_le_bytes());
+    answers.extend(out);
+}
+
+fn proved(driver: &str, seed: u64, count: usize) -> Result<(), String> {
+    use std::io::{Read, Write};
+    let mut random = Random(seed);
+    let (mut calls, mut answers) = (Vec::new(), Vec::new());
+    for n in 0..count {
+        let mut program = random_program(&mut random);
+        if random.one_in(8) {
+            // about as many states, transitions and targets as are allowed, or more
+            let process = random.below(program.processes);
+            program.states[process] = [7, 8, 9, 31, 32, 33][random.below(6)];
+            let some = program.transitions.clone();
+            program.transitions = some.iter().cycle().take([16, 17, 63, 64, 65, 250, 256, 257][random.below(8)]).cloned().collect();
+            let target = program.targets[0];
+            program.targets.resize([1, 15, 16, 17][random.below(4)], target);
+        }
+        let mut file = records(&program);
+        if n % 3 == 0 {
+            let at = random.below(file.len());
+            match random.below(3) {
+                0 => file[at] = random.below(256) as u8,
+                1 => file.truncate(at),
+                _ => file.insert(at, random.below(6) as u8),
+            }
+        }
+        let needed = front(&file, usize::MAX).map_or(40, |bytes| bytes.len());
+        for room in [0, needed - 1, needed, needed + 7] {
+            call(&file, room, &mut calls, &mut answers);
+        }
+    }
+    let mut child = std::process::Command::new(driver)
+        .stdin(std::process::Stdio::piped())
+        .stdout(std::process::Stdio::piped())
+        .spawn()
+        .map_err(|e| format!("{}: {}", driver, e))?;
+    let mut input = child.stdin.take().ok_or("no input")?;
+    let writer = std::thread::spawn(move || input.write_all(&calls));
+    let mut said = Vec::new();
+    child.stdout.take().ok_or("no output")?.read_to_end(&mut said).map_err(|e| e.to_string())?;
+    let written = writer.join().map_err(|_| "the writer failed")?;
+    let status = child.wait().map_err(|e| e.to_string())?;
+    written.map_err(|e| e.to_string())?;
+    if !status.success() {
+        return Err(format!("the driver ended with {}", status));
+    }
+    if said != answers {
+        let at = said.iter().zip(&answers).take_while(|(a, b)| a == b).count();
+        return Err(format!("the proved front part answers otherwise, at byte {} of {} and {}", at, said.len(), answers.len()));
+    }
+    println!("registers: {} calls of the proved front part", 4 * count);
+    Ok(())
+}
+
 // ---- one file
 
 fn one(file: &str, room: usize, out: Option<&String>) -> Result<(), String> {
@@ -353,8 +425,9 @@ fn main() {
         (Some("walks"), 3) => walks(number(1).unwrap_or(1), number(2).unwrap_or(1) as usize),
         (Some("limits"), 1) => limits(),
         (Some("faults"), 1) => faults(),
+        (Some("proved"), 4) => proved(&words[1], number(2).unwrap_or(1), number(3).unwrap_or(0) as usize),
         (Some("front"), 3 | 4) => one(&words[1], number(2).unwrap_or(0) as usize, words.get(3)),
-        _ => Err("registers walks SEED COUNT | limits | faults | front FILE ROOM [OUT]".to_string()),
+        _ => Err("registers walks SEED COUNT | limits | faults | proved DRIVER SEED COUNT | front FILE ROOM [OUT]".to_string()),
     };
     if let Err(what) = result {
         println!("registers: {}", what);
