@@ -1,0 +1,5 @@
+pub mod Nops
+pub mod Fences
+pub mod Runs
+pub mod Report
+pub mod Cases

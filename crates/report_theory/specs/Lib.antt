@@ -1,0 +1,4 @@
+pub mod Nops
+pub mod Report
+pub mod Statements
+pub mod Cases
