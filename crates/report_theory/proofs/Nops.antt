@@ -4,11 +4,12 @@ use mathlib.Core.Path.{_≡_, refl, sym, ap, subst, _∙_}
 use mathlib.Core.Bool.{Bool, true, false}
 use mathlib.Core.List.{List, [], _∷_}
 use native.Mathlib.Omega.{arith}
-use lib.ListN.{length, getD}
+use borrow.Author.Tests.{ne-eqb, eq-eqb}
+use lib.ListN.{length, getD, set}
 use Rattle.machine_pws.specs.declared.Transition.{Transition}
 use Rattle.machine_pws.specs.Program.{Program, transition, noTransition, TransitionOf, WellFormed, ProgramInRange}
-use Rattle.report_theory.specs.Nops.{Choice, asNop, nopsFrom, withNops, allKept}
-use Rattle.report_theory.specs.Statements.{NopsWellFormed, NopsInRange, AllKeptIsProgram}
+use Rattle.report_theory.specs.Nops.{Choice, asNop, nopsFrom, withNops, only, allKept}
+use Rattle.report_theory.specs.Statements.{NopsWellFormed, NopsInRange, AllKeptIsProgram, OnlyIsSet}
 
 nops-length : (choice : Choice) (k : ℕ) (ts : List Transition) → length (nopsFrom choice k ts) ≡ length ts
 nops-length choice k [] = refl
@@ -31,6 +32,21 @@ pub transition-at : (P : Program) (choice : Choice) (n : ℕ) → n < length (P 
 transition-at P choice n l =
     let e : 0 + n ≡ n = omega arith in
     nops-at choice 0 (P .transitions) n l ∙ ap (λ (i : ℕ). asNop (choice i) (transition P n)) e
+
+-- ---- one alone
+
+only-past : (m k : ℕ) (ts : List Transition) → m < k → nopsFrom (only m) k ts ≡ ts
+only-past m k [] l = refl
+only-past m k (t ∷ ts) l = rw (ne-eqb k m (λ e. omega arith), only-past m (suc k) ts (omega arith))
+
+only-at : (m n k : ℕ) (ts : List Transition) → m ≡ k + n → n < length ts
+    → nopsFrom (only m) k ts ≡ set ts n (asNop true (getD ts n noTransition))
+only-at m n k [] e l = absurd (omega arith)
+only-at m zero k (t ∷ ts) e l = rw (eq-eqb k m (omega arith), only-past m (suc k) ts (omega arith))
+only-at m (suc n) k (t ∷ ts) e l = rw (ne-eqb k m (λ d. omega arith), only-at m n (suc k) ts (omega arith) (omega arith))
+
+pub only-is-set : OnlyIsSet
+only-is-set P n l = only-at n n 0 (P .transitions) (omega arith) l
 
 -- ---- well formed, and in range
 

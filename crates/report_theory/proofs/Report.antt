@@ -1,8 +1,8 @@
 -- What a report proves.
-use Prim.Native.Nat.{ℕ, _<_}
+use Prim.Native.Nat.{ℕ, zero, suc, _<_}
 use mathlib.Core.Path.{_≡_, refl, sym, ap, subst, _∙_}
-use mathlib.Core.Logic.{_⊎_, inl, inr}
-use mathlib.Core.List.{List, []}
+use mathlib.Core.Logic.{_⊎_, inl, inr, ⊎-elim}
+use mathlib.Core.List.{List, [], _∷_}
 use native.Mathlib.Omega.{arith}
 use lib.ListN.{length}
 use lib.Dec.{T, eqb, eqb→eq, eqb-refl}
@@ -21,12 +21,14 @@ use Rattle.report_theory.specs.Report.{
   Run,
   run,
   RunReaches,
+  runChoice,
   runProgram,
   NeededReport,
+  OneReaches,
   BothReach,
   NeitherReaches,
 }
-use Rattle.report_theory.specs.Statements.{WithoutMarks, OfFences, NeededEach, NeededKept, NeededAmongAll, AllMarked}
+use Rattle.report_theory.specs.Statements.{ReportExists, WithoutMarks, OfFences, NeededEach, NeededKept, NeededAmongAll, AllMarked}
 use Rattle.report_theory.proofs.Nops.{nops-well-formed}
 use Rattle.report_theory.proofs.Runs.{targets-stay}
 
@@ -34,11 +36,12 @@ use Rattle.report_theory.proofs.Runs.{targets-stay}
 marked-fence : (P : Program) (marks : List ℕ) → DifferentFences P marks → (n : ℕ) → Marked marks n → FenceOf P n
 marked-fence P marks D n m = subst (FenceOf P) (m .2) (D .fences (m .0) (m .1))
 
--- a choice of fences that makes one a nop makes nops of more than that one alone does
-more-than-one : (P : Program) (choice : Choice) → OfFences P choice → (n : ℕ) → T (choice n) → MoreNops P (only n) choice
-more-than-one P choice F n t =
+-- a choice of fences that makes a mark a nop makes nops of all that the mark's run does
+more-than-own : (P : Program) (marks : List ℕ) (choice : Choice) → OfFences P choice → (i : ℕ) → T (choice (mark marks i))
+    → MoreNops P (runChoice marks i) choice
+more-than-own P marks choice F i t =
     record {
-      kept = λ k e. subst (λ (i : ℕ). T (choice i)) (sym (eqb→eq k n e)) t;
+      kept = λ k e. subst (λ (n : ℕ). T (choice n)) (sym (eqb→eq k (mark marks i) e)) t;
       fences = λ k l c. inr (F k l c);
     }
 
@@ -81,7 +84,7 @@ module _ (P : Program) (R : WellFormed P) (ts : List (ℕ → ℕ)) (marks : Lis
         takes = r .takes;
         reached = r .met;
       } in
-      let more = targets-stay P R (only (mark marks i)) choice (more-than-one P choice F (mark marks i) t) m (target ts (r .number)) .0 first in
+      let more = targets-stay P R (runChoice marks i) choice (more-than-own P marks choice F i t) m (target ts (r .number)) .0 first in
       record {
         memory = m;
         number = r .number;
@@ -110,3 +113,42 @@ all-marked P R ts marks es runs N A =
       fewer = λ choice F n f t. needed-among-all P R ts marks es runs N choice F n (A n f) t;
       each = λ n f. needed-among-all P R ts marks es runs N (only n) (λ k l t. subst (FenceOf P) (sym (eqb→eq k n t)) f) n (A n f) (eqb-refl n);
     }
+
+-- ---- a report where it would be true
+
+list-of : (n : ℕ) (F : ℕ → Run → Type 0) → ((i : ℕ) → i < n → (r : Run) × F i r)
+    → (rs : List Run) × (length rs ≡ n) × ((i : ℕ) → i < n → F i (run rs i))
+list-of zero F f = ([], refl, λ i l. absurd (omega arith))
+list-of (suc n) F f =
+    let r = f 0 (omega arith) in
+    let w = list-of n (λ i. F (suc i)) (λ i l. f (suc i) (omega arith)) in
+    (r .0 ∷ w .0, ap suc (w .1), go r w)
+  where
+    go : (r : (r : Run) × F 0 r) (w : (rs : List Run) × (length rs ≡ n) × ((i : ℕ) → i < n → F (suc i) (run rs i)))
+        → (i : ℕ) → i < suc n → F i (run (r .0 ∷ w .0) i)
+    go r w zero l = r .1
+    go r w (suc i) l = w .2 i (omega arith)
+
+-- a run of either machine is one of the PWS machine, with its memory and steps
+run-is : (P : Program) → WellFormed P → (ts : List (ℕ → ℕ)) → OneReaches P ts → (r : Run) × RunReaches P ts r
+run-is P R ts o =
+    let m = o .memory in
+    let w = ⊎-elim (λ a. a) (λ b. same-reachability P R m (target ts (o .number)) .1 b) (o .reachable) in (
+      record { memory = m; steps = w .steps },
+      record {
+        start = w .first;
+        permitted = permitted-start P m (w .first) (w .starts);
+        memory = w .starts .starts;
+        end = w .last;
+        takes = w .takes;
+        number = o .number;
+        exists = o .exists;
+        met = w .reached;
+      },
+    )
+
+pub report-exists : ReportExists
+report-exists P R ts marks es D s f =
+    let w = list-of (length marks) (λ i r. RunReaches (runProgram P marks i) ts r)
+    (λ i l. run-is (runProgram P marks i) (nops-well-formed P (runChoice marks i) R) ts (f i l)) in
+    (w .0, record { fences = D; list = s; count = w .1; reach = w .2 })

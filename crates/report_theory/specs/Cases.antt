@@ -1,11 +1,10 @@
--- Worked cases of reports, as a table with one statement: which transitions are fences, and what a run does with its marked fence a nop,
+-- Worked cases of reports, as tables with one statement: which transitions are fences, and what a run does with its marked fence a nop,
 -- with another one, with all of them and with none.
 use Prim.Native.Nat.{ℕ}
 use mathlib.Core.Path.{_≡_}
-use mathlib.Core.Bool.{Bool, true, false, _||_}
+use mathlib.Core.Bool.{Bool, true, false}
 use mathlib.Core.List.{List, [], _∷_}
 use lib.ListN.{getD}
-use lib.Dec.{eqb}
 use Rattle.machine_pws.specs.declared.Step.{Step}
 use Rattle.machine_pws.specs.declared.Step.the-variants.{Take, Serialise, Update}
 use Rattle.machine_pws.specs.Program.{Program, transition}
@@ -14,8 +13,8 @@ use Rattle.machine_pws.specs.Configurations.{startWith, InTarget}
 use Rattle.machine_pws.specs.Sequences.{Takes, replay, stopped}
 use Rattle.machine_pws.specs.Cases.{programJ, zeros}
 use Rattle.machine_pso.specs.Cases.{fenced}
-use Rattle.report_theory.specs.Nops.{Choice, withNops, isFence}
-use Rattle.report_theory.specs.Report.{runProgram}
+use Rattle.report_theory.specs.Nops.{withNops, these, isFence, allFences}
+use Rattle.report_theory.specs.Report.{DifferentFences, runProgram}
 
 -- ---- rows and what they say
 
@@ -26,11 +25,16 @@ pub data Row : Type 0 where
   stops : Program → List Step → ℕ → Row
   -- the transition of this number is a fence, or is not
   fence : Program → ℕ → Bool → Row
+  -- these marks are different fences, or are not
+  right : Program → List ℕ → Row
+  wrong : Program → List ℕ → Row
 
 unfoldable pub Holds : Row → Type 0
 Holds (ends P ss states) = (d : Configuration) × Takes P (startWith P zeros 0 0) ss d × InTarget (P .shape) (λ p. getD states p 0) d
 Holds (stops P ss k) = replay P 0 (startWith P zeros 0 0) ss ≡ stopped k
 Holds (fence P n b) = isFence (transition P n .operation) ≡ b
+Holds (right P ms) = DifferentFences P ms
+Holds (wrong P ms) = DifferentFences P ms → ⊥
 
 pub data Each (F : Row → Type 0) : List Row → Type 0 where
   no-row : Each F []
@@ -38,11 +42,8 @@ pub data Each (F : Row → Type 0) : List Row → Type 0 where
 
 -- ---- store buffering with an mfence after each write, transitions 1 and 4; both are marked
 
-abbrev marks : List ℕ
+abbrev pub marks : List ℕ
 marks = 1 ∷ 4 ∷ []
-
-abbrev bothNops : Choice
-bothNops n = eqb n 1 || eqb n 4
 
 -- the write of process 0 waits past its fence; that of process 1 does not
 abbrev firstWaits : List Step
@@ -60,7 +61,7 @@ bothWait = Take 0 ∷ Take 1 ∷ Take 2 ∷ Take 3 ∷ Take 4 ∷ Take 5 ∷ []
 abbrev overtakes : List Step
 overtakes = Take 0 ∷ Take 1 ∷ Take 2 ∷ Serialise 0 1 ∷ Update 1 ∷ Take 3 ∷ Take 4 ∷ []
 
--- ---- the table
+-- ---- the tables: runs and fences
 
 abbrev pub cases : List Row
 cases =
@@ -68,14 +69,14 @@ cases =
     ends (runProgram fenced marks 0) firstWaits (3 ∷ 3 ∷ [])
     ∷ ends (runProgram fenced marks 1) secondWaits (3 ∷ 3 ∷ [])
     -- and is a run when both are nops; with both kept its fence is not permitted
-    ∷ ends (withNops fenced bothNops) firstWaits (3 ∷ 3 ∷ [])
+    ∷ ends (withNops fenced (these marks)) firstWaits (3 ∷ 3 ∷ [])
     ∷ stops fenced firstWaits 1
     -- runs that are swapped, and one that needs both to be nops
     ∷ stops (runProgram fenced marks 1) firstWaits 1
     ∷ stops (runProgram fenced marks 0) secondWaits 1
     ∷ stops (runProgram fenced marks 0) bothWait 4
     ∷ stops (runProgram fenced marks 1) bothWait 1
-    ∷ ends (withNops fenced bothNops) bothWait (3 ∷ 3 ∷ [])
+    ∷ ends (withNops fenced (allFences fenced)) bothWait (3 ∷ 3 ∷ [])
     -- J
     ∷ ends (runProgram programJ (1 ∷ []) 0) overtakes (3 ∷ 2 ∷ [])
     ∷ stops programJ overtakes 1
@@ -88,4 +89,16 @@ cases =
     -- a fence that is a nop is none
     ∷ fence (runProgram fenced marks 0) 1 false
     ∷ fence (runProgram fenced marks 0) 4 true
+    ∷ []
+
+-- ---- marks
+
+abbrev pub markCases : List Row
+markCases =
+    -- no mark at all, and each fence once; a mark that repeats one before the last, a write, and what does not exist
+    right fenced []
+    ∷ right fenced marks
+    ∷ wrong fenced (1 ∷ 4 ∷ 1 ∷ [])
+    ∷ wrong fenced (1 ∷ 3 ∷ [])
+    ∷ wrong fenced (6 ∷ [])
     ∷ []

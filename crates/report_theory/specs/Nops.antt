@@ -1,6 +1,6 @@
 -- A program in which some of its transitions are nops (document 02, N10: "a run in which that fence is a nop").
 use Prim.Native.Nat.{ℕ, zero, suc, _<_}
-use mathlib.Core.Bool.{Bool, true, false}
+use mathlib.Core.Bool.{Bool, true, false, _||_}
 use mathlib.Core.Logic.{_⊎_}
 use mathlib.Core.List.{List, [], _∷_}
 use lib.ListN.{length}
@@ -32,6 +32,11 @@ withNops P choice =
 abbrev pub only : ℕ → Choice
 only n k = eqb k n
 
+-- those of these numbers are
+abbrev pub these : List ℕ → Choice
+these [] k = false
+these (n ∷ ns) k = eqb k n || these ns k
+
 -- all are kept
 abbrev pub allKept : Choice
 allKept k = false
@@ -45,6 +50,10 @@ isFence (Write v x) = false
 isFence Mfence = true
 isFence Sfence = true
 isFence (Arw v old new) = false
+
+-- every fence is made a nop
+abbrev pub allFences : Program → Choice
+allFences P n = isFence (transition P n .operation)
 
 -- the transition of number n exists, and is an mfence or an sfence
 pub record FenceOf (P : Program) (n : ℕ) : Type 0 where

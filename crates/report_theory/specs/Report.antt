@@ -1,7 +1,7 @@
--- What a report says (document 02, N10): of a program and its targets, up to any number of marks, a list and for each mark a run.
+-- What a report says (document 02, N10): of a program and its targets, any number of marks, a list, and for each mark a run.
 use Prim.Native.Nat.{ℕ, _<_}
 use mathlib.Core.Path.{_≡_}
-use mathlib.Core.Logic.{_≢_}
+use mathlib.Core.Logic.{_⊎_, _≢_}
 use mathlib.Core.List.{List, []}
 use lib.ListN.{length, getD}
 use lib.Dec.{T}
@@ -60,9 +60,12 @@ pub record RunReaches (P : Program) (ts : List (ℕ → ℕ)) (r : Run) : Type 0
   pub exists : number < length ts
   pub met : InTarget (P .shape) (target ts number) end
 
--- the program of the run of place i: its own marked fence is a nop, and all else is kept
+-- of the run of place i: its own marked fence is a nop, and all else is kept
+abbrev pub runChoice : List ℕ → ℕ → Choice
+runChoice marks i = only (mark marks i)
+
 abbrev pub runProgram : Program → List ℕ → ℕ → Program
-runProgram P marks i = withNops P (only (mark marks i))
+runProgram P marks i = withNops P (runChoice marks i)
 
 -- the marks are different fences, the list is safe for the program, and each mark has in turn a run in which that fence is a nop
 pub record NeededReport (P : Program) (ts : List (ℕ → ℕ)) (marks : List ℕ) (es : List Configuration) (runs : List Run) : Type 0 where
@@ -72,6 +75,13 @@ pub record NeededReport (P : Program) (ts : List (ℕ → ℕ)) (marks : List �
   pub reach : (i : ℕ) → i < length marks → RunReaches (runProgram P marks i) ts (run runs i)
 
 -- ---- what is said of a program
+
+-- from some memory a run of one of the machines reaches a target
+pub record OneReaches (P : Program) (ts : List (ℕ → ℕ)) : Type 0 where
+  pub memory : List ℕ
+  pub number : ℕ
+  pub exists : number < length ts
+  pub reachable : PwsReachable P memory (target ts number) ⊎ PsoReachable P memory (target ts number)
 
 -- from some memory a run of the PWS machine reaches a target, and from the same memory one of the PSO machine reaches the same
 pub record BothReach (P : Program) (ts : List (ℕ → ℕ)) : Type 0 where

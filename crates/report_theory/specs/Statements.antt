@@ -2,19 +2,20 @@
 use Prim.Native.Nat.{ℕ, _<_}
 use mathlib.Core.Path.{_≡_}
 use mathlib.Core.Logic.{_↔_}
+use mathlib.Core.Bool.{true}
 use mathlib.Core.List.{List, []}
-use lib.ListN.{length}
+use lib.ListN.{length, set}
 use lib.Dec.{T}
 use Rattle.machine_pws.specs.declared.Operation.{Operation}
 use Rattle.machine_pws.specs.declared.Step.{Step}
-use Rattle.machine_pws.specs.Program.{Shape, Program, WellFormed, ProgramInRange}
+use Rattle.machine_pws.specs.Program.{Shape, Program, transition, WellFormed, ProgramInRange}
 use Rattle.machine_pws.specs.Machine.{Configuration, mayOperate, queueAfter, memoryAfter, may, after}
 use Rattle.machine_pws.specs.Sequences.{Takes}
 use Rattle.machine_pso.specs.Runs.{PsoReachable}
 use Rattle.machine_equal.specs.Equivalence.{PwsReachable}
 use Rattle.list_theory.specs.Verdict.{SafeList}
-use Rattle.report_theory.specs.Nops.{Choice, withNops, only, allKept, isFence, FenceOf, MoreNops}
-use Rattle.report_theory.specs.Report.{Marked, MarkedChoice, Run, NeededReport, BothReach, NeitherReaches}
+use Rattle.report_theory.specs.Nops.{Choice, asNop, withNops, only, allKept, isFence, FenceOf, MoreNops}
+use Rattle.report_theory.specs.Report.{DifferentFences, Marked, MarkedChoice, Run, runProgram, NeededReport, OneReaches, BothReach, NeitherReaches}
 
 -- ---- programs with nops
 
@@ -27,6 +28,12 @@ NopsInRange = (P : Program) (choice : Choice) → ProgramInRange P → ProgramIn
 
 abbrev pub AllKeptIsProgram : Type 0
 AllKeptIsProgram = (P : Program) → withNops P allKept ≡ P
+
+-- one alone is the list of transitions with a nop at its place
+abbrev pub OnlyIsSet : Type 0
+OnlyIsSet =
+    (P : Program) (n : ℕ) → n < length (P .transitions)
+    → withNops P (only n) .transitions ≡ set (P .transitions) n (asNop true (transition P n))
 
 -- ---- fences
 
@@ -77,6 +84,13 @@ abbrev pub NeededKept : Type 0
 NeededKept =
     (P : Program) → WellFormed P → (ts : List (ℕ → ℕ)) (marks : List ℕ) (es : List Configuration) (runs : List Run)
     → NeededReport P ts marks es runs → NeitherReaches P ts
+
+-- A report can be given wherever it would be true: the list is safe, the marks are different fences, and with each of them a nop
+-- one of the machines reaches a target.
+abbrev pub ReportExists : Type 0
+ReportExists =
+    (P : Program) → WellFormed P → (ts : List (ℕ → ℕ)) (marks : List ℕ) (es : List Configuration) → DifferentFences P marks → SafeList P ts es
+    → ((i : ℕ) → i < length marks → OneReaches (runProgram P marks i) ts) → (runs : List Run) × NeededReport P ts marks es runs
 
 -- ---- fences that are not marked
 
