@@ -1,7 +1,6 @@
 -- The fences are the operations that only wait.
 use Prim.Native.Nat.{ℕ, zero, suc, _<_}
-use mathlib.Core.Path.{_≡_, refl, sym, ap, subst, _∙_}
-use mathlib.Core.Bool.{Bool, true, false, _&&_}
+use mathlib.Core.Path.{_≡_, refl, sym, ap, _∙_}
 use mathlib.Core.List.{List, [], _∷_}
 use native.Mathlib.Omega.{arith}
 use lib.ListN.{length}
@@ -10,7 +9,7 @@ use mir.Facts.{and-yes}
 use Rattle.machine_pws.specs.declared.Operation.{Operation}
 use Rattle.machine_pws.specs.declared.Operation.the-variants.{Nop, Read, Write, Mfence, Sfence, Arw}
 use Rattle.machine_pws.specs.Program.{Shape}
-use Rattle.machine_pws.specs.Machine.{Memory, Configuration, isEmpty, noneWaiting, atNewest, append}
+use Rattle.machine_pws.specs.Machine.{Memory, Configuration, isEmpty, noneWaiting, atNewest}
 use Rattle.machine_pws.proofs.Cases.{all-yes}
 use Rattle.machine_pws.proofs.Facts.{putQueue-same}
 use Rattle.report_theory.specs.Nops.{isFence}

@@ -7,7 +7,7 @@ use native.Mathlib.Omega.{arith}
 use borrow.Author.Tests.{ne-eqb, eq-eqb}
 use lib.ListN.{length, getD, set}
 use Rattle.machine_pws.specs.declared.Transition.{Transition}
-use Rattle.machine_pws.specs.Program.{Program, transition, noTransition, TransitionOf, WellFormed, ProgramInRange}
+use Rattle.machine_pws.specs.Program.{Program, transition, noTransition, TransitionOf}
 use Rattle.report_theory.specs.Nops.{Choice, asNop, nopsFrom, withNops, only, allKept}
 use Rattle.report_theory.specs.Statements.{NopsWellFormed, NopsInRange, AllKeptIsProgram, OnlyIsSet}
 

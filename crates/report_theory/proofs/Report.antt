@@ -1,18 +1,18 @@
 -- What a report proves.
 use Prim.Native.Nat.{ℕ, zero, suc, _<_}
-use mathlib.Core.Path.{_≡_, refl, sym, ap, subst, _∙_}
-use mathlib.Core.Logic.{_⊎_, inl, inr, ⊎-elim}
+use mathlib.Core.Path.{_≡_, refl, sym, ap, subst}
+use mathlib.Core.Logic.{inr, ⊎-elim}
 use mathlib.Core.List.{List, [], _∷_}
 use native.Mathlib.Omega.{arith}
 use lib.ListN.{length}
-use lib.Dec.{T, eqb, eqb→eq, eqb-refl}
+use lib.Dec.{T, eqb→eq, eqb-refl}
 use Rattle.machine_pws.specs.Program.{Program, WellFormed}
 use Rattle.machine_pws.specs.Machine.{Configuration}
 use Rattle.machine_equal.specs.Equivalence.{PwsReachable}
 use Rattle.machine_equal.proofs.Reachability.{same-reachability, start-of, permitted-start, takes-visited}
-use Rattle.list_theory.specs.Verdict.{target, SafeList}
+use Rattle.list_theory.specs.Verdict.{target}
 use Rattle.list_theory.proofs.Verdict.{list-safety}
-use Rattle.report_theory.specs.Nops.{Choice, withNops, only, isFence, FenceOf, MoreNops}
+use Rattle.report_theory.specs.Nops.{Choice, withNops, only, FenceOf, MoreNops}
 use Rattle.report_theory.specs.Report.{
   mark,
   DifferentFences,

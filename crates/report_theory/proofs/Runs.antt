@@ -1,28 +1,24 @@
 -- What a fence permits a nop permits, with the same effect; so a run stays a run when more fences become nops.
 use Prim.Native.Nat.{ℕ, _<_}
-use mathlib.Core.Path.{_≡_, refl, sym, ap, subst, _∙_}
+use mathlib.Core.Path.{_≡_, refl, sym, subst}
 use mathlib.Core.Logic.{_⊎_, inl, inr, ⊎-elim}
-use mathlib.Core.Bool.{Bool, true, false, _&&_}
-use mathlib.Core.List.{List, []}
-use native.Mathlib.Omega.{arith}
+use mathlib.Core.Bool.{Bool, true, false}
+use mathlib.Core.List.{List}
 use lib.ListN.{length}
 use lib.Dec.{T, eqb}
 use mir.Facts.{and-yes, yes-and}
-use Rattle.machine_pws.specs.declared.Operation.{Operation}
-use Rattle.machine_pws.specs.declared.Operation.the-variants.{Nop, Read, Write, Mfence, Sfence, Arw}
 use Rattle.machine_pws.specs.declared.Transition.{Transition}
 use Rattle.machine_pws.specs.declared.Step.{Step}
 use Rattle.machine_pws.specs.declared.Step.the-variants.{Take, Serialise, Update}
-use Rattle.machine_pws.specs.Program.{Shape, Program, transition, WellFormed}
+use Rattle.machine_pws.specs.Program.{Shape, Program, transition}
 use Rattle.machine_pws.specs.Machine.{Configuration, mayOperate, mayTake, afterTake, may, after}
-use Rattle.machine_pws.specs.Configurations.{ConfigurationOf, Start}
+use Rattle.machine_pws.specs.Configurations.{ConfigurationOf}
 use Rattle.machine_pws.specs.Sequences.{Takes, done, step}
 use Rattle.machine_pws.proofs.Steps.{take-yes, yes-take}
-use Rattle.machine_pso.specs.Runs.{PsoReachable}
-use Rattle.machine_equal.specs.Equivalence.{PwsStart, PwsReachable}
+use Rattle.machine_equal.specs.Equivalence.{PwsReachable}
 use Rattle.machine_equal.proofs.Reachability.{same-reachability}
-use Rattle.report_theory.specs.Nops.{Choice, asNop, withNops, isFence, FenceOf, MoreNops}
-use Rattle.report_theory.specs.Statements.{OnlyWaits, NopPermits, RunStays, TargetsStay}
+use Rattle.report_theory.specs.Nops.{Choice, asNop, withNops, isFence, MoreNops}
+use Rattle.report_theory.specs.Statements.{NopPermits, RunStays, TargetsStay}
 use Rattle.report_theory.proofs.Nops.{same-length, transition-at, nops-well-formed}
 use Rattle.report_theory.proofs.Fences.{fences-only-wait}
 
