@@ -7,3 +7,5 @@ pub mod RecordLaws
 pub mod TargetLaws
 pub mod LoopLaws
 pub mod Answers
+pub mod ReadBack
+pub mod WrittenIsRead
