@@ -116,7 +116,7 @@ impl Reader {
     fn one_too_many(&self, kind: u8, body: &[u8], entries_allowed: usize) -> bool {
         match kind {
             0x03 => self.program.transitions.len() == 256,
-            0x04 => self.program.targets.len() == 16,
+            0x04 => self.program.targets.len() == 4096,
             0x10 => self.list.len() + self.latest.is_some() as usize == entries_allowed,
             0x11 => self.latest.as_ref().is_some_and(|entry| entry.channel().len() == 16),
             0x12 => {
