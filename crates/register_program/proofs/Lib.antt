@@ -9,3 +9,4 @@ pub mod LoopLaws
 pub mod Answers
 pub mod ReadBack
 pub mod WrittenIsRead
+pub mod Sources
