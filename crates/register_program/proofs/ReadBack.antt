@@ -208,7 +208,7 @@ module _ (P : pws.Program) (ts : List (ℕ → ℕ)) (I : ProgramPartRead P ts) 
   unfolding countInRange
   count-fine v = elim (decLt v (s .variables)) [
     | yes l ↦ rw (lt-ltb v (s .variables) l)
-        (both-true (le-leb 1 (valueCount s v) (omega (arith, values-is v, I .program .shape .someValue v l))) (le-leb (valueCount s v) 4 (omega (arith, values-is v, I .program .shape .values v l))))
+        (both-true (le-leb 1 (valueCount s v) (omega (arith, values-is v, I .program .shape .wellFormed .someValue v l))) (le-leb (valueCount s v) 4 (omega (arith, values-is v, I .program .shape .values v l))))
     | no l ↦ rw (le-ltb v (s .variables) (omega arith))
   ]
 
@@ -225,8 +225,8 @@ module _ (P : pws.Program) (ts : List (ℕ → ℕ)) (I : ProgramPartRead P ts) 
       let a : countsInRange Plain (shapeAt w 0) ≡ true = rw shape-is (both-true (count-fine 0) (both-true (count-fine 1) (both-true (count-fine 2) (count-fine 3)))) in
       let b : countsIfAbsent (shapeAt w 0) ≡ true = rw shape-is (both-true (absent-fine 0) (both-true (absent-fine 1) (both-true (absent-fine 2) (absent-fine 3)))) in
       number-zero (ap not (is-kind w 0 1 (opening 0 (omega arith)))) (is-whole w 0 6 (omega (arith, size))) refl
-      (ap not (both-true (in-range (byte w 1) 4 (omega (arith, opening 1 (omega arith), I .program .shape .someProcess)) (omega (arith, opening 1 (omega arith), few)))
-      (both-true (in-range (byte w 2) 4 (omega (arith, opening 2 (omega arith), I .program .shape .someVariable)) (omega (arith, opening 2 (omega arith), I .program .shape .variables)))
+      (ap not (both-true (in-range (byte w 1) 4 (omega (arith, opening 1 (omega arith), I .program .shape .wellFormed .someProcess)) (omega (arith, opening 1 (omega arith), few)))
+      (both-true (in-range (byte w 2) 4 (omega (arith, opening 2 (omega arith), I .program .shape .wellFormed .someVariable)) (omega (arith, opening 2 (omega arith), I .program .shape .variables)))
       a)))
       (ap not b)
 
@@ -239,7 +239,7 @@ module _ (P : pws.Program) (ts : List (ℕ → ℕ)) (I : ProgramPartRead P ts) 
       let b₀ = sym (ap (byte w) z) ∙ states-byte p 0 l (omega arith) in
       let b₁ = states-byte p 1 l (omega arith) in
       let b₂ = states-byte p 2 l (omega arith) in
-      let i = I .program .initial p l in
+      let i = I .program .wellFormed .initial p l in
       number-zero (ap not (is-kind w (7 + 3 * p) 2 b₀)) (is-whole w (7 + 3 * p) 2 (omega (arith, size))) refl
       (ap not (in-range (byte w (7 + 3 * p + 1)) 32 (omega (arith, b₁, i)) (omega (arith, b₁, I .states p l))))
       (ap not (lt-ltb (byte w (7 + 3 * p + 2)) (byte w (7 + 3 * p + 1)) (omega (arith, b₁, b₂, i))))
@@ -307,7 +307,7 @@ module _ (P : pws.Program) (ts : List (ℕ → ℕ)) (I : ProgramPartRead P ts) 
     at = 7 + 3 * n + 8 * i
 
     O : pws.TransitionOf P T
-    O = I .program .transitions i l
+    O = I .program .wellFormed .transitions i l
 
     b₀ : byte w at ≡ 3
     b₀ = let z : at + 0 ≡ at = omega arith in sym (ap (byte w) z) ∙ moves-byte i 0 l (omega arith)
@@ -468,7 +468,7 @@ module _ (P : pws.Program) (ts : List (ℕ → ℕ)) (I : ProgramPartRead P ts) 
   program-back : programOf w program ≡ P
   program-back = λ i.
       record {
-        shape = record { processes = n; variables = P .shape .variables; values = λ v. values-is v i };
+        shape = record { processes = n; variables = P .shape .variables; values = λ v. values-is v i; room = sym (I .program .shape .room) i };
         states = λ q. state-at q i;
         initial = λ q. initial-at q i;
         transitions = moves-back i;

@@ -10,6 +10,7 @@ use lib.ListN.{length, getD, take, List·getD-eq-default}
 use lib.Dec.{eqb, ltb}
 use borrow.Author.Tests.{ltb-false}
 use Rattle.machine_pws.specs.Program as pws
+use Rattle.machine_pws.specs.Program.{ShapeInRange}
 use Rattle.machine_pws.specs.Machine.{put}
 use Rattle.machine_pws.specs.Configurations.{StatesOf}
 use Rattle.base.specs.Bytes.{byte, choose}
@@ -24,7 +25,7 @@ use Rattle.file_again.proofs.Tables.{table-length, table-number}
 use Rattle.file_again.proofs.Names.{states-of}
 use Rattle.drawing.specs.Writing.{Made, made, refused}
 use Rattle.register_machine.specs.declared.RegisterTransition.{RegisterTransition}
-use Rattle.register_machine.specs.Program.{RegisterProgram, RegisterProgramInRange, RegisterTransitionOf, registerTransition, noRegisterTransition, hasRegister}
+use Rattle.register_machine.specs.Program.{RegisterProgram, RegisterWellFormed, RegisterTransitionOf, registerTransition, noRegisterTransition, hasRegister}
 use Rattle.register_machine.specs.Written.{joined, fourValues, pairOf, statesOf, choices, becomesIn, written, targetBecomes, writtenTargets}
 use Rattle.register_machine.proofs.Stepping.{pair-below, written-in-range}
 use Rattle.register_program.specs.Form.{programBytes}
@@ -123,22 +124,32 @@ module _ {f : List ℕ} {p : Program} (F : Found f p) where
       })
 
   -- what the theorems of the register machine assume
-  pub found-in-range : RegisterProgramInRange R
-  found-in-range =
+  pub found-well-formed : RegisterWellFormed R
+  found-well-formed =
       let r = found-read F in
       record {
         shape =
             record {
               someProcess = r .shape .processes .0;
-              processes = r .shape .processes .1;
               someVariable = r .shape .variables .0;
-              variables = r .shape .variables .1;
               someValue = λ v l. omega (arith, r .shape .values v l .0);
-              values = λ v l. r .shape .values v l .1;
+              variables = r .shape .variables .1;
             };
         four = λ v l. omega (arith, r .shape .values v l .0, r .shape .values v l .1);
         initial = λ q l. r .initial q l;
         transitions = taken;
+      }
+
+  -- and its shape is the format's
+  pub found-in-range : ShapeInRange (R .shape)
+  found-in-range =
+      let r = found-read F in
+      record {
+        wellFormed = found-well-formed .shape;
+        processes = r .shape .processes .1;
+        variables = r .shape .variables .1;
+        values = λ v l. r .shape .values v l .1;
+        room = refl;
       }
 
   bare : Bare (written R)
@@ -189,7 +200,7 @@ module _ {f : List ℕ} {p : Program} (F : Found f p) where
       let c = target-count F {has = registersIn f p} refl in
       let some : 1 * 1 ≤ p .targets .count * product (registersIn f p) = mul-le-mul (r .targets .1) (product-least (registersIn f p)) in
       record {
-        program = written-in-range R found-in-range;
+        program = written-in-range R found-well-formed found-in-range;
         states = λ q l. over-none (written R .states) m 0 (omega arith) q (omega arith) (omega arith);
         transitions = few;
         targets = λ k l. all-at (StatesOf (written R)) (writtenTargets R ts) (λ q. 0) k targets-all l;
