@@ -1,0 +1,5 @@
+pub mod Standing
+pub mod Fine
+pub mod ProgramWritten
+pub mod Placed
+pub mod RunWritten

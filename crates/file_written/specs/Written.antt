@@ -1,0 +1,99 @@
+-- The bytes of each record, and of a file (document 01, "Records"; document 02, N3, N5, N6, N7): what a file with these contents looks like. Nothing
+-- here follows how files are read.
+use Prim.Native.Nat.{ℕ}
+use mathlib.Core.List.{List, [], _∷_, _++_}
+use lib.ListN.{getD}
+use Rattle.machine_pws.specs.declared.Operation.{Operation}
+use Rattle.machine_pws.specs.declared.Operation.the-variants.{Nop, Read, Write, Mfence, Sfence, Arw}
+use Rattle.machine_pws.specs.declared.Transition.{Transition}
+use Rattle.machine_pws.specs.declared.Step.{Step}
+use Rattle.machine_pws.specs.declared.Step.the-variants.{Take, Serialise, Update}
+use Rattle.machine_pws.specs.Program.{Shape, Program}
+use Rattle.file_records.specs.ProgramPart.{tableFrom}
+
+-- one after another
+abbrev pub joined {ℓ} : {A : Type ℓ} → (A → List ℕ) → List A → List ℕ
+joined bytes [] = []
+joined bytes (x ∷ xs) = bytes x ++ joined bytes xs
+
+-- 0, 1 and so on, n of them
+abbrev pub numbers : ℕ → List ℕ
+numbers n = tableFrom (λ i. i) 0 n
+
+-- ---- the program part
+
+-- 01: processes, variables, four value counts (document 02, N5)
+abbrev pub shapeBytes : Shape → List ℕ
+shapeBytes S = 1 ∷ S .processes ∷ S .variables ∷ S .values 0 ∷ S .values 1 ∷ S .values 2 ∷ S .values 3 ∷ []
+
+-- 02: number of states, initial state
+abbrev pub statesBytes : Program → ℕ → List ℕ
+statesBytes P p = 2 ∷ P .states p ∷ P .initial p ∷ []
+
+-- operation 0 to 5: nop, read, write, mfence, sfence, arw (document 01, "The machine")
+abbrev pub operationByte : Operation → ℕ
+operationByte Nop = 0
+operationByte (Read v x) = 1
+operationByte (Write v x) = 2
+operationByte Mfence = 3
+operationByte Sfence = 4
+operationByte (Arw v old new) = 5
+
+-- what the operation lacks is 0
+abbrev pub variableByte : Operation → ℕ
+variableByte Nop = 0
+variableByte (Read v x) = v
+variableByte (Write v x) = v
+variableByte Mfence = 0
+variableByte Sfence = 0
+variableByte (Arw v old new) = v
+
+abbrev pub valueByte : Operation → ℕ
+valueByte Nop = 0
+valueByte (Read v x) = x
+valueByte (Write v x) = x
+valueByte Mfence = 0
+valueByte Sfence = 0
+valueByte (Arw v old new) = old
+
+abbrev pub newValueByte : Operation → ℕ
+newValueByte Nop = 0
+newValueByte (Read v x) = 0
+newValueByte (Write v x) = 0
+newValueByte Mfence = 0
+newValueByte Sfence = 0
+newValueByte (Arw v old new) = new
+
+-- 03: process, from, operation, variable, value, new value, to
+abbrev pub transitionBytes : Transition → List ℕ
+transitionBytes t =
+    3 ∷ t .process ∷ t .from ∷ operationByte (t .operation) ∷ variableByte (t .operation) ∷ valueByte (t .operation) ∷ newValueByte (t .operation) ∷ t .to ∷ []
+
+-- 04: one state per process
+abbrev pub targetBytes : (ℕ → ℕ) → List ℕ
+targetBytes t = 4 ∷ t 0 ∷ t 1 ∷ t 2 ∷ t 3 ∷ []
+
+-- one 01; the 02s, one per process; the 03s; the 04s
+abbrev pub programBytes : Program → List (ℕ → ℕ) → List ℕ
+programBytes P ts =
+    shapeBytes (P .shape) ++ (joined (statesBytes P) (numbers (P .shape .processes)) ++ (joined transitionBytes (P .transitions) ++ joined targetBytes ts))
+
+-- ---- the evidence of a run
+
+-- 0F: claim
+abbrev pub claimBytes : ℕ → List ℕ
+claimBytes claim = 15 ∷ claim ∷ []
+
+-- 1F: the starting memory, four bytes (document 02, N3)
+abbrev pub memoryBytes : List ℕ → List ℕ
+memoryBytes m = 31 ∷ getD m 0 0 ∷ getD m 1 0 ∷ getD m 2 0 ∷ getD m 3 0 ∷ []
+
+-- 20: transition number; 21: process, variable; 22: process
+abbrev pub stepBytes : Step → List ℕ
+stepBytes (Take n) = 32 ∷ n ∷ []
+stepBytes (Serialise p v) = 33 ∷ p ∷ v ∷ []
+stepBytes (Update p) = 34 ∷ p ∷ []
+
+-- the claim, the 1F directly after it, the steps; claim 1 for the PWS machine, claim 2 for the PSO machine (document 02, N7)
+abbrev pub runBytes : ℕ → List ℕ → List Step → List ℕ
+runBytes claim m ss = claimBytes claim ++ (memoryBytes m ++ joined stepBytes ss)
