@@ -3,3 +3,5 @@ pub mod Fine
 pub mod ProgramWritten
 pub mod Placed
 pub mod RunWritten
+pub mod EntryWritten
+pub mod ListWritten

@@ -1,14 +1,18 @@
 -- The bytes of each record, and of a file (document 01, "Records"; document 02, N3, N5, N6, N7): what a file with these contents looks like. Nothing
 -- here follows how files are read.
 use Prim.Native.Nat.{ℕ}
+use mathlib.Core.Bool.{cond, _&&_}
 use mathlib.Core.List.{List, [], _∷_, _++_}
 use lib.ListN.{getD}
+use lib.Dec.{eqb}
+use Rattle.machine_pws.specs.declared.Message.{Message}
 use Rattle.machine_pws.specs.declared.Operation.{Operation}
 use Rattle.machine_pws.specs.declared.Operation.the-variants.{Nop, Read, Write, Mfence, Sfence, Arw}
 use Rattle.machine_pws.specs.declared.Transition.{Transition}
 use Rattle.machine_pws.specs.declared.Step.{Step}
 use Rattle.machine_pws.specs.declared.Step.the-variants.{Take, Serialise, Update}
 use Rattle.machine_pws.specs.Program.{Shape, Program}
+use Rattle.machine_pws.specs.Machine.{Configuration}
 use Rattle.file_records.specs.ProgramPart.{tableFrom}
 
 -- one after another
@@ -97,3 +101,55 @@ stepBytes (Update p) = 34 ∷ p ∷ []
 -- the claim, the 1F directly after it, the steps; claim 1 for the PWS machine, claim 2 for the PSO machine (document 02, N7)
 abbrev pub runBytes : ℕ → List ℕ → List Step → List ℕ
 runBytes claim m ss = claimBytes claim ++ (memoryBytes m ++ joined stepBytes ss)
+
+-- ---- the evidence of a list
+
+-- what follows a 10, in the order of the file: 11 and 12 may be mingled
+pub data EntryRecord : Type 0 where
+  messageRecord : Message → EntryRecord
+  -- process, variable, value
+  waitingRecord : ℕ → ℕ → ℕ → EntryRecord
+
+-- 11: process, variable, four values. 12: process, variable, value.
+abbrev pub recordBytes : EntryRecord → List ℕ
+recordBytes (messageRecord m) =
+    17 ∷ m .process ∷ m .variable ∷ getD (m .snapshot) 0 0 ∷ getD (m .snapshot) 1 0 ∷ getD (m .snapshot) 2 0 ∷ getD (m .snapshot) 3 0 ∷ []
+recordBytes (waitingRecord p v x) = 18 ∷ p ∷ v ∷ x ∷ []
+
+-- an entry as it is written: its 10, and the records that follow
+pub record EntryRecords : Type 0 where
+  pub state : ℕ → ℕ
+  pub pointer : ℕ → ℕ
+  pub body : List EntryRecord
+
+-- 10: four states, four pointers
+abbrev pub headBytes : EntryRecords → List ℕ
+headBytes r = 16 ∷ r .state 0 ∷ r .state 1 ∷ r .state 2 ∷ r .state 3 ∷ r .pointer 0 ∷ r .pointer 1 ∷ r .pointer 2 ∷ r .pointer 3 ∷ []
+
+abbrev pub entryBytes : EntryRecords → List ℕ
+entryBytes r = headBytes r ++ joined recordBytes (r .body)
+
+-- the claim and the entries
+abbrev pub listBytes : List EntryRecords → List ℕ
+listBytes rs = claimBytes 0 ++ joined entryBytes rs
+
+-- ---- what an entry's records say
+
+-- the messages, and those given before them: newest first, as the channel has them, and oldest first in the file
+abbrev pub channelOf : List Message → List EntryRecord → List Message
+channelOf ms [] = ms
+channelOf ms (messageRecord m ∷ rs) = channelOf (m ∷ ms) rs
+channelOf ms (waitingRecord p v x ∷ rs) = channelOf ms rs
+
+-- the values that wait in the queue of p and v, oldest first
+abbrev pub waitingOf : List EntryRecord → ℕ → ℕ → List ℕ
+waitingOf [] p v = []
+waitingOf (messageRecord m ∷ rs) p v = waitingOf rs p v
+waitingOf (waitingRecord q u x ∷ rs) p v = cond (eqb q p && eqb u v) (x ∷ waitingOf rs p v) (waitingOf rs p v)
+
+abbrev pub entryOf : EntryRecords → Configuration
+entryOf r = record { state = r .state; queue = waitingOf (r .body); memory = record { channel = channelOf [] (r .body); pointer = r .pointer } }
+
+abbrev pub entriesOf : List EntryRecords → List Configuration
+entriesOf [] = []
+entriesOf (r ∷ rs) = entryOf r ∷ entriesOf rs

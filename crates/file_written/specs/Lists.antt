@@ -1,0 +1,21 @@
+-- A file with a list both ways. The order of an entry's 11s and 12s is free where its channel and its queues are the same.
+use Prim.Native.Nat.{ℕ, _≤_}
+use mathlib.Core.Path.{_≡_}
+use mathlib.Core.List.{List}
+use Rattle.machine_pws.specs.Program.{Program}
+use Rattle.machine_pws.specs.Machine.{Configuration}
+use Rattle.file_contents.specs.Reading.{list}
+use Rattle.file_again.specs.Contents.{ListRead}
+use Rattle.file_written.specs.Written.{EntryRecords, entriesOf, programBytes, listBytes}
+use Rattle.file_written.specs.ProgramPart.{ProgramContents}
+use Rattle.file_written.specs.Runs.{BothReadAs}
+
+-- In whatever order an entry's records are written: if what they say is within the limits (`ListRead`), of which the count goes by the work area, it is read.
+abbrev pub RecordsWrittenIsRead : Type 0
+RecordsWrittenIsRead = (P : Program) (ts : List (ℕ → ℕ)) (rs : List EntryRecords) (area : ℕ) → ProgramContents P ts → ListRead P ts (entriesOf rs) area → 65536 ≤ area
+    → BothReadAs (programBytes P ts) (listBytes rs) area (list P ts (entriesOf rs))
+
+-- and each list within the limits can be written
+abbrev pub ListWrittenIsRead : Type 0
+ListWrittenIsRead = (P : Program) (ts : List (ℕ → ℕ)) (es : List Configuration) (area : ℕ) → ProgramContents P ts → ListRead P ts es area → 65536 ≤ area
+    → (rs : List EntryRecords) × (entriesOf rs ≡ es) × BothReadAs (programBytes P ts) (listBytes rs) area (list P ts es)
