@@ -5,3 +5,4 @@ pub mod Placed
 pub mod RunWritten
 pub mod EntryWritten
 pub mod ListWritten
+pub mod OneOrder

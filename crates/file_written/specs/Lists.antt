@@ -1,12 +1,11 @@
 -- A file with a list both ways. The order of an entry's 11s and 12s is free where its channel and its queues are the same.
 use Prim.Native.Nat.{ℕ, _≤_}
-use mathlib.Core.Path.{_≡_}
 use mathlib.Core.List.{List}
 use Rattle.machine_pws.specs.Program.{Program}
 use Rattle.machine_pws.specs.Machine.{Configuration}
 use Rattle.file_contents.specs.Reading.{list}
 use Rattle.file_again.specs.Contents.{ListRead}
-use Rattle.file_written.specs.Written.{EntryRecords, entriesOf, programBytes, listBytes}
+use Rattle.file_written.specs.Written.{EntryRecords, entriesOf, recordsOfAll, programBytes, listBytes}
 use Rattle.file_written.specs.ProgramPart.{ProgramContents}
 use Rattle.file_written.specs.Runs.{BothReadAs}
 
@@ -15,7 +14,7 @@ abbrev pub RecordsWrittenIsRead : Type 0
 RecordsWrittenIsRead = (P : Program) (ts : List (ℕ → ℕ)) (rs : List EntryRecords) (area : ℕ) → ProgramContents P ts → ListRead P ts (entriesOf rs) area → 65536 ≤ area
     → BothReadAs (programBytes P ts) (listBytes rs) area (list P ts (entriesOf rs))
 
--- and each list within the limits can be written
+-- and so each list within the limits is read from the file that has its entries' records in one order
 abbrev pub ListWrittenIsRead : Type 0
 ListWrittenIsRead = (P : Program) (ts : List (ℕ → ℕ)) (es : List Configuration) (area : ℕ) → ProgramContents P ts → ListRead P ts es area → 65536 ≤ area
-    → (rs : List EntryRecords) × (entriesOf rs ≡ es) × BothReadAs (programBytes P ts) (listBytes rs) area (list P ts es)
+    → BothReadAs (programBytes P ts) (listBytes (recordsOfAll (P .shape) es)) area (list P ts es)

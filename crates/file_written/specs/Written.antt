@@ -1,6 +1,6 @@
 -- The bytes of each record, and of a file (document 01, "Records"; document 02, N3, N5, N6, N7): what a file with these contents looks like. Nothing
 -- here follows how files are read.
-use Prim.Native.Nat.{ℕ}
+use Prim.Native.Nat.{ℕ, zero, suc}
 use mathlib.Core.Bool.{cond, _&&_}
 use mathlib.Core.List.{List, [], _∷_, _++_}
 use lib.ListN.{getD}
@@ -153,3 +153,34 @@ entryOf r = record { state = r .state; queue = waitingOf (r .body); memory = rec
 abbrev pub entriesOf : List EntryRecords → List Configuration
 entriesOf [] = []
 entriesOf (r ∷ rs) = entryOf r ∷ entriesOf rs
+
+-- ---- one order of an entry's records: messages, oldest first; then the queues by process and variable, each oldest first
+
+abbrev pub messageRecords : List Message → List EntryRecord
+messageRecords [] = []
+messageRecords (m ∷ ms) = messageRecords ms ++ (messageRecord m ∷ [])
+
+abbrev pub queueRecords : ℕ → ℕ → List ℕ → List EntryRecord
+queueRecords p v [] = []
+queueRecords p v (x ∷ xs) = waitingRecord p v x ∷ queueRecords p v xs
+
+-- of the first k variables, and of the first n processes
+abbrev pub processRecords : (ℕ → ℕ → List ℕ) → ℕ → ℕ → List EntryRecord
+processRecords queue p zero = []
+processRecords queue p (suc k) = processRecords queue p k ++ queueRecords p k (queue p k)
+
+abbrev pub waitingRecords : (ℕ → ℕ → List ℕ) → ℕ → ℕ → List EntryRecord
+waitingRecords queue zero k = []
+waitingRecords queue (suc n) k = waitingRecords queue n k ++ processRecords queue n k
+
+abbrev pub recordsOf : Shape → Configuration → EntryRecords
+recordsOf S e =
+    record {
+      state = e .state;
+      pointer = e .memory .pointer;
+      body = messageRecords (e .memory .channel) ++ waitingRecords (e .queue) (S .processes) (S .variables);
+    }
+
+abbrev pub recordsOfAll : Shape → List Configuration → List EntryRecords
+recordsOfAll S [] = []
+recordsOfAll S (e ∷ es) = recordsOf S e ∷ recordsOfAll S es
