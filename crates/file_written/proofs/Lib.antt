@@ -6,3 +6,4 @@ pub mod RunWritten
 pub mod EntryWritten
 pub mod ListWritten
 pub mod OneOrder
+pub mod ProgramRead

@@ -7,9 +7,11 @@ use native.Mathlib.Omega.{arith}
 use native.Mathlib.Decide.{decLt}
 use lib.ListN.{length, getD, drop, length-append, length-drop, List·getD-append}
 use lib.Seq.{getD-append-add, ext-getD, getD-drop}
-use borrow.Author.Tests.{lt-leb, eq-eqb}
+use borrow.Author.Tests.{lt-leb, eq-eqb, eqb-true}
 use Rattle.base.specs.Bytes.{byte, cut}
 use Rattle.file_records.specs.Records.{isKind}
+use Rattle.file_records.specs.ProgramPart.{tableFrom}
+use Rattle.file_again.proofs.Tables.{table-length, table-number, table-at}
 use Rattle.file_written.specs.Written.{joined}
 
 pub record Stands (f : List ℕ) (at : ℕ) (bs : List ℕ) : Type 0 where
@@ -74,6 +76,19 @@ pub not-cut : (f : List ℕ) (at body : ℕ) → at + suc body ≤ length f → 
 unfolding cut
 not-cut f at body l = let j : body < length f - at = omega arith in lt-leb (length f - at) body j
 
+-- the bytes of f from `at` on, after a kind that is known
+pub stands-record : (f : List ℕ) (at kind body : ℕ) → isKind f at kind ≡ true → at + suc body ≤ length f → Stands f at (kind ∷ tableFrom (λ i. byte f (at + i)) 1 body)
+unfolding isKind
+stands-record f at kind body e l =
+    let n = table-length (λ i. byte f (at + i)) 1 body in
+    record { fits = omega arith; same = λ k i. each k (omega arith) }
+  where
+    each : (k : ℕ) → k < suc body → byte f (at + k) ≡ byte (kind ∷ tableFrom (λ i. byte f (at + i)) 1 body) k
+    each zero i = let z : at + 0 ≡ at = omega arith in ap (byte f) z ∙ eqb-true (byte f at) kind e
+    each (suc k) i =
+        let z : 1 + k ≡ suc k = omega arith in
+        sym (table-at (λ i. byte f (at + i)) 1 body k 0 (omega arith) ∙ ap (λ (j : ℕ). byte f (at + j)) z)
+
 -- ---- records one after another
 
 module _ {ℓ} {A : Type ℓ} (bytes : A → List ℕ) (size : ℕ) (each : (x : A) → length (bytes x) ≡ size) where
@@ -89,3 +104,14 @@ module _ {ℓ} {A : Type ℓ} (bytes : A → List ℕ) (size : ℕ) (each : (x :
       let e = each x in
       let z : at + length (bytes x) + size * k ≡ at + size * suc k = omega arith in
       stands-moved z (joined-at (at + length (bytes x)) xs d (stands-right (bytes x) (joined bytes xs) S) k (omega arith))
+
+  -- all of them, each at its place
+  pub joined-stands : {f : List ℕ} (at : ℕ) (xs : List A) (d : A) → at ≤ length f → ((k : ℕ) → k < length xs → Stands f (at + size * k) (bytes (getD xs k d))) → Stands f at (joined bytes xs)
+  joined-stands {f} at [] d l S = record { fits = omega arith; same = λ k i. absurd (omega arith) }
+  joined-stands {f} at (x ∷ xs) d l S =
+      let z : at + size * 0 ≡ at = omega arith in
+      let H : Stands f at (bytes x) = stands-moved z (S 0 (omega arith)) in
+      let e = each x in
+      stands-join (bytes x) (joined bytes xs) H (joined-stands (at + length (bytes x)) xs d (H .fits) (λ k i.
+      let y : at + size * suc k ≡ at + length (bytes x) + size * k = omega arith in
+      stands-moved y (S (suc k) (omega arith))))
