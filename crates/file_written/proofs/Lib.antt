@@ -7,3 +7,5 @@ pub mod EntryWritten
 pub mod ListWritten
 pub mod OneOrder
 pub mod ProgramRead
+pub mod EvidenceRead
+pub mod RunRead

@@ -18,3 +18,12 @@ pub record BothReadAs (code evidence : List ℕ) (area : ℕ) (r : FileRead) : T
 abbrev pub RunWrittenIsRead : Type 0
 RunWrittenIsRead = (P : Program) (ts : List (ℕ → ℕ)) (m : List ℕ) (ss : List Step) (area : ℕ) → ProgramContents P ts → RunRead P ts m ss → 65536 ≤ area
     → BothReadAs (programBytes P ts) (runBytes 1 m ss) area (run P ts m ss) × BothReadAs (programBytes P ts) (runBytes 2 m ss) area (psoRun P ts m ss)
+
+-- These are the bytes that were read: one file with the program and then the evidence, or two.
+abbrev pub OnlyThese : ℕ → FileRead → List ℕ → List ℕ → Type 0
+OnlyThese area r code evidence =
+    ((f : List ℕ) → readFile (combined f) area ≡ r → f ≡ code ++ evidence) × ((g f : List ℕ) → readFile (pair g f) area ≡ r → (g ≡ code) × (f ≡ evidence))
+
+abbrev pub RunReadIsWritten : Type 0
+RunReadIsWritten = (P : Program) (ts : List (ℕ → ℕ)) (m : List ℕ) (ss : List Step) (area : ℕ)
+    → OnlyThese area (run P ts m ss) (programBytes P ts) (runBytes 1 m ss) × OnlyThese area (psoRun P ts m ss) (programBytes P ts) (runBytes 2 m ss)
