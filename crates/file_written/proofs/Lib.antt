@@ -9,3 +9,4 @@ pub mod OneOrder
 pub mod ProgramRead
 pub mod EvidenceRead
 pub mod RunRead
+pub mod ListRead
