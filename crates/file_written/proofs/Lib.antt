@@ -10,3 +10,4 @@ pub mod ProgramRead
 pub mod EvidenceRead
 pub mod RunRead
 pub mod ListRead
+pub mod Within

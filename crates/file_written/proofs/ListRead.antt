@@ -220,7 +220,7 @@ module _ (x : Input) (area : ℕ) (L : ListParts x area) where
             };
       }
 
-abbrev HeldAs : (pws.Program → List (ℕ → ℕ) → List Configuration → Type 0) → FileRead → Type 0
+abbrev pub HeldAs : (pws.Program → List (ℕ → ℕ) → List Configuration → Type 0) → FileRead → Type 0
 HeldAs G (refused w r) = Unit {0}
 HeldAs G (list P ts es) = G P ts es
 HeldAs G (run P ts m ss) = Unit {0}

@@ -163,7 +163,7 @@ module _ (x : Input) (area : ℕ) (R : RunParts x area) where
 
 -- ---- the files
 
-abbrev HeldAs : (ℕ → pws.Program → List (ℕ → ℕ) → List ℕ → List Step → Type 0) → FileRead → Type 0
+abbrev pub HeldAs : (ℕ → pws.Program → List (ℕ → ℕ) → List ℕ → List Step → Type 0) → FileRead → Type 0
 HeldAs G (refused w r) = Unit {0}
 HeldAs G (list P ts es) = Unit {0}
 HeldAs G (run P ts m ss) = G 1 P ts m ss

@@ -4,7 +4,7 @@ use mathlib.Core.Path.{_≡_}
 use mathlib.Core.List.{List, _++_}
 use Rattle.machine_pws.specs.Program.{Program}
 use Rattle.machine_pws.specs.Machine.{Configuration}
-use Rattle.file_contents.specs.Reading.{combined, pair, list, readFile}
+use Rattle.file_contents.specs.Reading.{Input, combined, pair, list, readFile}
 use Rattle.file_again.specs.Contents.{ListRead}
 use Rattle.file_written.specs.Written.{EntryRecords, entriesOf, recordsOfAll, programBytes, listBytes}
 use Rattle.file_written.specs.ProgramPart.{ProgramContents}
@@ -25,3 +25,8 @@ abbrev pub ListReadIsWritten : Type 0
 ListReadIsWritten = (P : Program) (ts : List (ℕ → ℕ)) (es : List Configuration) (area : ℕ)
     → ((f : List ℕ) → readFile (combined f) area ≡ list P ts es → (rs : List EntryRecords) × (entriesOf rs ≡ es) × (f ≡ programBytes P ts ++ listBytes rs))
     × ((g f : List ℕ) → readFile (pair g f) area ≡ list P ts es → (rs : List EntryRecords) × (entriesOf rs ≡ es) × (g ≡ programBytes P ts) × (f ≡ listBytes rs))
+
+-- and what is read is within the limits
+abbrev pub ListReadIsWithin : Type 0
+ListReadIsWithin = (x : Input) (P : Program) (ts : List (ℕ → ℕ)) (es : List Configuration) (area : ℕ) → readFile x area ≡ list P ts es
+    → ProgramContents P ts × ListRead P ts es area × (65536 ≤ area)

@@ -1,10 +1,11 @@
 -- A file with a run both ways: as one file, and as a program file and an evidence file (document 02, N6).
 use Prim.Native.Nat.{ℕ, _≤_}
 use mathlib.Core.Path.{_≡_}
+use mathlib.Core.Logic.{_⊎_}
 use mathlib.Core.List.{List, _++_}
 use Rattle.machine_pws.specs.declared.Step.{Step}
 use Rattle.machine_pws.specs.Program.{Program}
-use Rattle.file_contents.specs.Reading.{combined, pair, FileRead, run, psoRun, readFile}
+use Rattle.file_contents.specs.Reading.{Input, combined, pair, FileRead, run, psoRun, readFile}
 use Rattle.file_again.specs.Contents.{RunRead}
 use Rattle.file_written.specs.Written.{programBytes, runBytes}
 use Rattle.file_written.specs.ProgramPart.{ProgramContents}
@@ -27,3 +28,8 @@ OnlyThese area r code evidence =
 abbrev pub RunReadIsWritten : Type 0
 RunReadIsWritten = (P : Program) (ts : List (ℕ → ℕ)) (m : List ℕ) (ss : List Step) (area : ℕ)
     → OnlyThese area (run P ts m ss) (programBytes P ts) (runBytes 1 m ss) × OnlyThese area (psoRun P ts m ss) (programBytes P ts) (runBytes 2 m ss)
+
+-- and what is read is within the limits
+abbrev pub RunReadIsWithin : Type 0
+RunReadIsWithin = (x : Input) (P : Program) (ts : List (ℕ → ℕ)) (m : List ℕ) (ss : List Step) (area : ℕ) → (readFile x area ≡ run P ts m ss) ⊎ (readFile x area ≡ psoRun P ts m ss)
+    → ProgramContents P ts × RunRead P ts m ss × (65536 ≤ area)
