@@ -11,3 +11,5 @@ pub mod EvidenceRead
 pub mod RunRead
 pub mod ListRead
 pub mod Within
+pub mod Faults
+pub mod ProgramFaults

@@ -30,7 +30,8 @@ use Rattle.file_again.proofs.Rows.{stopped-records}
 use Rattle.file_again.proofs.Contents.{ListParts, RunParts, Outcome, outcome-refused, outcome-list, outcome-run, outcome, file-list, file-run, listed}
 use Rattle.file_written.specs.Written.{joined, claimBytes, memoryBytes, stepBytes, runBytes, programBytes}
 use Rattle.file_written.specs.Runs.{OnlyThese, RunReadIsWritten}
-use Rattle.file_written.proofs.Standing.{Stands, stands-moved, stands-join, stands-record}
+use Rattle.file_written.specs.Standing.{Stands}
+use Rattle.file_written.proofs.Standing.{stands-moved, stands-join, stands-record}
 use Rattle.file_written.proofs.ProgramRead.{PartRead, part-written}
 use Rattle.file_written.proofs.EvidenceRead.{parts-evidence, Claimed, claimed-steps, EvidenceStands, one-file, two-files}
 
