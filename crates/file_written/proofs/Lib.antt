@@ -13,3 +13,4 @@ pub mod ListRead
 pub mod Within
 pub mod Faults
 pub mod ProgramFaults
+pub mod RunFaults

@@ -55,7 +55,7 @@ module _ (s : Shape) (S : pws.Shape) (variables : s .variables ≡ S .variables)
   ]
 
   module _ (f : List ℕ) (at : ℕ) (T : Stands f at (memoryBytes m)) where
-    starts-there : startNames s f at ≡ true
+    pub starts-there : startNames s f at ≡ true
     unfolding startNames
     starts-there =
         rw (T .same 1 (omega arith), T .same 2 (omega arith), T .same 3 (omega arith), T .same 4 (omega arith))

@@ -4,3 +4,4 @@ pub mod ProgramPart
 pub mod Runs
 pub mod Lists
 pub mod Faults
+pub mod RunFaults
