@@ -21,23 +21,32 @@ use Rattle.file_records.specs.declared.program.Checked.the-variants.{Fine, Refu
 use Rattle.file_records.specs.declared.program.Counted.{Counted}
 use Rattle.file_records.specs.declared.program.Counted.the-variants.{Records, Stopped}
 use Rattle.base.specs.Bytes.{byte, cut}
-use Rattle.file_records.specs.Records.{checked, isKind, valueCount, claimNumber, startNames, startNumber, memoryAt, isStep, stepBody, exists, stepNames, stepNumber, stepAt}
-use Rattle.file_records.specs.ProgramPart.{unlessEnd, shapeOf}
-use Rattle.file_contents.specs.EvidencePart.{stepsFrom, stepsOf}
+use Rattle.file_records.specs.Records.{transitionAt, checked, isKind, valueCount, claimNumber, startNames, startNumber, memoryAt, isStep, stepBody, exists, stepNames, stepNumber, stepAt}
+use Rattle.file_records.specs.ProgramPart.{unlessEnd, shapeOf, programFrom, programOf, targetsOf}
+use Rattle.file_contents.specs.declared.evidence.Part.{Part}
+use Rattle.file_contents.specs.declared.evidence.Part.the-variants.{InProgram, InEvidence}
+use Rattle.file_contents.specs.EvidencePart.{EntriesRead, stepsFrom, stepsOf}
+use Rattle.file_contents.specs.Reading.{Input, evidenceAt, Evidence, refusal, entries, steps, FileRead, refused, list, run, psoRun, runRead, listRead, evidenceRead, runEvidence, evidenceFrom, partsRead, noParts, twoParts, partsOf, readFile}
+use Rattle.file_contents.proofs.ReadingLaws.{evidence-refused, evidence-run, start-refused, run-steps, parts-short, parts-refused, parts-both}
 use Rattle.file_records.proofs.RecordLaws.{step-fine, unless-fine, good}
 use Rattle.base.proofs.ByteLaws.{cut-fits}
 use Rattle.file_again.specs.Again.{placeOf}
 use Rattle.file_again.specs.Contents.{StepOf}
-use Rattle.file_again.proofs.Names.{no-true, both-exist, or-cases}
+use Rattle.file_again.proofs.Names.{no-true, both-exist, or-cases, start-named, memory-named}
+use Rattle.file_again.proofs.Tables.{table-length}
+use Rattle.file_again.proofs.ProgramPart.{part-shape}
 use Rattle.file_again.proofs.Rows.{steps-length, steps-at}
 use Rattle.file_written.specs.Standing.{Stands}
-use Rattle.file_written.specs.Written.{joined, claimBytes, memoryBytes, stepBytes, runBytes}
+use Rattle.file_written.specs.Written.{joined, claimBytes, memoryBytes, stepBytes, runBytes, programBytes}
 use Rattle.file_written.specs.Faults.{Fault}
-use Rattle.file_written.specs.RunFaults.{ClaimFault, MemoryFault, StepFault}
-use Rattle.file_written.proofs.Standing.{stands-moved, stands-join, stands-first}
+use Rattle.file_written.specs.RunFaults.{ClaimFault, MemoryFault, StepFault, RunFault, endsBeforeClaim, inClaim, endsBeforeMemory, inMemory, inSteps, EvidenceRefusal, RunRefused, ProgramPartRefused}
+use Rattle.file_written.proofs.Standing.{stands-moved, stands-join, stands-first, stands-record}
 use Rattle.file_written.proofs.Fine.{both, not-so}
 use Rattle.file_written.proofs.RunWritten.{kind-is, starts-there}
-use Rattle.file_written.proofs.RunRead.{step-back}
+use Rattle.file_written.proofs.RunRead.{step-back, start-stands}
+use Rattle.file_written.proofs.ProgramRead.{part-written}
+use Rattle.file_written.proofs.ProgramFaults.{program-refused}
+use Rattle.file_written.specs.Faults.{ProgramFault}
 use Rattle.file_written.proofs.Faults.{Told, fault-of, kind-told, kind-tells, false-true, unless-refused, Stop, row-stopped}
 
 claim-fault : (f : List ℕ) (at : ℕ) (r : Refusal) → checked (claimNumber f at) at ≡ Refused r → (r .place ≡ at) × ClaimFault f at (r .number)
@@ -143,3 +152,161 @@ module _ (s : Shape) (transitions : ℕ) (f : List ℕ) where
       let rest = joined stepBytes (stepsOf f next i) in
       let y : next ≡ at + length (stepBytes (stepAt f at)) = omega (arith, B .1) in
       (stands-join (stepBytes (stepAt f at)) rest (B .0) (stands-moved y (R .0)), omega (arith, R .1, B .1, length-append (stepBytes (stepAt f at)) rest))
+
+-- ---- the evidence
+
+refused-is : {w v : Part} {q r : Refusal} → refused w q ≡ refused v r → q ≡ r
+refused-is e = cc
+
+run-refused-not : (b : Bool) (P : pws.Program) (ts : List (ℕ → ℕ)) (m : List ℕ) (ss : List Step) (w : Part) (r : Refusal) → cond b (run P ts m ss) (psoRun P ts m ss) ≡ refused w r → ⊥
+run-refused-not true P ts m ss w r e = let z : _≡_ {A = ℕ} 0 1 = cc in omega arith
+run-refused-not false P ts m ss w r e = let z : _≡_ {A = ℕ} 0 1 = cc in omega arith
+
+module _ (x : Input) (area : ℕ) (r : Refusal) (fine : programFrom (x .alone) (x .code) 0 .answer ≡ Fine) where
+  abbrev f : List ℕ
+  f = x .file
+
+  abbrev p : Program
+  p = programFrom (x .alone) (x .code) 0 .program
+
+  abbrev at : ℕ
+  at = evidenceAt x p
+
+  abbrev P : pws.Program
+  P = programOf (x .code) p
+
+  abbrev Told′ : Type 0
+  Told′ = RunFault P f at r ⊎ Stands f at (claimBytes 0)
+
+  count : p .transitions .count ≡ length (P .transitions)
+  count = sym (table-length (λ i. transitionAt (x .code) (p .transitions .at + 8 * i)) 0 (p .transitions .count))
+
+  module _ (c : ℕ) (some : 1 ≤ c) (most : c ≤ 2) (C : Stands f at (claimBytes c)) where
+    by-memory : unlessEnd f (at + 2) (checked (startNumber (p .shape) f (at + 2)) (at + 2)) ≡ Refused r → Told′
+    by-memory q = ⊎-elim
+        (λ a. inl (endsBeforeMemory c some most C (omega (arith, a .0, C .fits)) (a .1) (a .2)))
+        (λ a.
+        let w = memory-fault P (p .shape) refl (λ v. refl) f (at + 2) r (a .1) in
+        inl (inMemory c some most C (w .0) (omega (arith, w .0, a .0)) (subst (λ (i : ℕ). MemoryFault P f i (r .number)) (sym (w .0)) (w .1))))
+        (unless-refused f (at + 2) _ r q)
+
+    by-steps : unlessEnd f (at + 2) (checked (startNumber (p .shape) f (at + 2)) (at + 2)) ≡ Fine → stepsFrom (p .shape) (p .transitions .count) f (at + 2 + 5) ≡ Stopped r → Told′
+    unfolding stepsFrom
+    by-steps m q =
+        let from = at + 2 + 5 in
+        let S = row-stopped (λ k n. leb (length f) k) (λ k n. checked (stepNumber (p .shape) (p .transitions .count) f k n) k) (λ k. 1 + stepBody f k) r 1024 from 0 q in
+        let M = start-stands (p .shape) f (at + 2) m in
+        let B = steps-before (p .shape) (p .transitions .count) f (S .count) from 0 (S .before) (M .fits) in
+        let ss = stepsOf f from (S .count) in
+        let place : ℕ = placeOf (λ k. 1 + stepBody f k) from (S .count) in
+        let n : length ss ≡ S .count = steps-length f from (S .count) in
+        let z : length ss ≡ 0 + S .count = omega arith in
+        let w = step-fault f place P (p .shape) (p .transitions .count) refl refl count (length ss) (0 + S .count) z r (S .stops) in
+        let memory = memoryAt f (at + 2) in
+        let here : r .place ≡ place = w .0 in
+        let end : place ≡ from + length (joined stepBytes ss) = B .1 in
+        let size : length (runBytes c memory ss) ≡ 2 + (5 + length (joined stepBytes ss)) =
+        omega (arith, length-append (claimBytes c) (memoryBytes memory ++ joined stepBytes ss), length-append (memoryBytes memory) (joined stepBytes ss)) in
+        inl (inSteps c memory ss some most
+        (memory-named (p .shape) f (at + 2) (start-named (p .shape) f (at + 2) (unless-fine f (at + 2) _ m .1)) (part-shape (x .alone) (x .code) 0 fine .variables .1))
+        (λ k l.
+        let i : k < S .count = omega arith in
+        let g = step-fine f (placeOf (λ k. 1 + stepBody f k) from k) (p .shape) (p .transitions .count) (0 + k) (S .before k i) in
+        subst (StepOf P) (sym (steps-at f from (S .count) k (Update 0) i))
+        (names-told f (placeOf (λ k. 1 + stepBody f k) from k) P (p .shape) (p .transitions .count) refl refl count (not-false _ (g .names))))
+        (omega (arith, S .most))
+        (stands-join (claimBytes c) (memoryBytes memory ++ joined stepBytes ss) C (stands-join (memoryBytes memory) (joined stepBytes ss) M (B .0)))
+        (omega arith) (omega (arith, leb-false (length f) place (S .goes)))
+        (subst (λ (i : ℕ). StepFault P (length ss) f i (r .number)) (sym here) (w .1)))
+
+    by-count : unlessEnd f (at + 2) (checked (startNumber (p .shape) f (at + 2)) (at + 2)) ≡ Fine → (n : Counted) → stepsFrom (p .shape) (p .transitions .count) f (at + 2 + 5) ≡ n
+        → evidenceRead x p (steps c (memoryAt f (at + 2)) n) ≡ refused InEvidence r → Told′
+    by-count m (Records n) d h = absurd (run-refused-not (eqb c 1) _ _ _ _ InEvidence r h)
+    by-count m (Stopped q) d h = by-steps m (d ∙ ap Stopped (refused-is h))
+
+    by-start : (y : Checked) → unlessEnd f (at + 2) (checked (startNumber (p .shape) f (at + 2)) (at + 2)) ≡ y → evidenceRead x p (runEvidence f c (at + 2) p) ≡ refused InEvidence r → Told′
+    by-start Fine d h = by-count d _ refl (ap (evidenceRead x p) (sym (run-steps f c (at + 2) p d)) ∙ h)
+    by-start (Refused q) d h = by-memory (d ∙ ap Refused (refused-is (ap (evidenceRead x p) (sym (start-refused f c (at + 2) p q d)) ∙ h)))
+
+  by-claim : (y : Checked) → unlessEnd f at (checked (claimNumber f at) at) ≡ y → evidenceRead x p (evidenceFrom f at p area) ≡ refused InEvidence r → Told′
+  unfolding claimNumber
+  by-claim (Refused q) d h =
+      let e = d ∙ ap Refused (refused-is (ap (evidenceRead x p) (sym (evidence-refused f at p area q d)) ∙ h)) in
+      ⊎-elim (λ a. inl (endsBeforeClaim (a .0) (a .1) (a .2))) (λ a. let w = claim-fault f at r (a .1) in inl (inClaim (a .0) (w .0) (w .1))) (unless-refused f at _ r e)
+  by-claim Fine d h =
+      let g = good at (unless-fine f at _ d .1) in
+      let C : Stands f at (claimBytes (byte f (at + 1))) = stands-record f at 15 1 (not-false _ (g .allowed)) (omega (arith, cut-fits f at 1 (g .whole))) in
+      elim (ℕ-discrete (byte f (at + 1)) 0) [
+        | yes z ↦ inr (subst (λ (k : ℕ). Stands f at (claimBytes k)) z C)
+        | no z ↦
+            let some : 1 ≤ byte f (at + 1) = elim (ℕ-discrete (byte f (at + 1)) 0) [ yes y ↦ absurd (z y) | no y ↦ omega arith ] in
+            by-start (byte f (at + 1)) some (leb-true (byte f (at + 1)) 2 (not-false _ (g .names))) C _ refl (ap (evidenceRead x p) (sym (evidence-run f at p area d z)) ∙ h)
+      ]
+
+-- ---- the whole
+
+module _ (x : Input) (area : ℕ) (r : Refusal) where
+  abbrev part : Program
+  part = programFrom (x .alone) (x .code) 0 .program
+
+  short-read : area < 65536 → readFile x area ≡ refused InProgram (record { number = 8; place = 0 })
+  unfolding readFile
+  short-read l = ap (partsRead x) (parts-short x area l)
+
+  part-refused : (q : Refusal) → 65536 ≤ area → programFrom (x .alone) (x .code) 0 .answer ≡ Refused q → readFile x area ≡ refused InProgram q
+  unfolding readFile
+  part-refused q l e = ap (partsRead x) (parts-refused x area q l e)
+
+  part-fine : 65536 ≤ area → programFrom (x .alone) (x .code) 0 .answer ≡ Fine → readFile x area ≡ evidenceRead x part (evidenceFrom (x .file) (evidenceAt x part) part area)
+  unfolding readFile
+  part-fine l e = ap (partsRead x) (parts-both x area l e)
+
+  at-place : (b : Bool) → (b ≡ true → cond b 0 (part .claim) ≡ 0) × (b ≡ false → cond b 0 (part .claim) ≡ part .claim)
+  at-place true = (λ e. refl, λ e. absurd (no-true (sym e)))
+  at-place false = (λ e. absurd (no-true e), λ e. refl)
+
+  evidence-refused-so : (y : Checked) → programFrom (x .alone) (x .code) 0 .answer ≡ y → 65536 ≤ area → readFile x area ≡ refused InEvidence r → EvidenceRefusal x r
+  evidence-refused-so (Refused q) d l h = absurd (let e = part-refused q l d in let z : _≡_ {A = ℕ} 0 1 = cc in omega arith)
+  evidence-refused-so Fine d l h =
+      let A = part-written (x .alone) (x .code) d in
+      let place = at-place (x .alone) in
+      record {
+        program = programOf (x .code) part;
+        targets = targetsOf (x .code) part;
+        at = evidenceAt x part;
+        reads = record { fine = d; program = refl; targets = refl };
+        alone = place .0;
+        after = λ e. place .1 e ∙ sym (A .size);
+        fault = by-claim x area r d _ refl (sym (part-fine l d) ∙ h);
+      }
+
+pub run-refused : RunRefused
+run-refused x area r h = elim (decLt area 65536) [
+  | yes l ↦ absurd (let e = short-read x area r l in let z : _≡_ {A = ℕ} 0 1 = cc in omega arith)
+  | no l ↦ evidence-refused-so x area r _ refl (omega arith) h
+]
+
+-- evidence is never refused in the program part
+in-evidence : (x : Input) (p : Program) (e : Evidence) (r : Refusal) → evidenceRead x p e ≡ refused InProgram r → ⊥
+in-evidence x p (refusal q) r h = let z : _≡_ {A = ℕ} 0 1 = cc in omega arith
+in-evidence x p (entries l) r h = go (l .answer) h
+  where
+    go : (y : Checked) → listRead x p y l ≡ refused InProgram r → ⊥
+    go Fine h = let z : _≡_ {A = ℕ} 0 1 = cc in omega arith
+    go (Refused q) h = let z : _≡_ {A = ℕ} 0 1 = cc in omega arith
+in-evidence x p (steps c m (Records n)) r h = run-refused-not (eqb c 1) _ _ _ _ InProgram r h
+in-evidence x p (steps c m (Stopped q)) r h = let z : _≡_ {A = ℕ} 0 1 = cc in omega arith
+
+pub program-part-refused : ProgramPartRefused
+program-part-refused x area r q = elim (decLt area 65536) [
+  | yes l ↦
+      let e = refused-is (sym (short-read x area r l) ∙ q) in
+      inl (l, ap (λ (p : Refusal). p .number) (sym e), ap (λ (p : Refusal). p .place) (sym e))
+  | no l ↦ inr (omega arith, go (omega arith) _ refl)
+]
+  where
+    go : 65536 ≤ area → (y : Checked) → programFrom (x .alone) (x .code) 0 .answer ≡ y → ProgramFault (x .alone) (x .code) r
+    go l (Refused p) d = program-refused (x .alone) (x .code) r (d ∙ ap Refused (refused-is (sym (part-refused x area r p l d) ∙ q)))
+    go l Fine d =
+        let p = programFrom (x .alone) (x .code) 0 .program in
+        absurd (in-evidence x p (evidenceFrom (x .file) (evidenceAt x p) p area) r (sym (part-fine x area r l d) ∙ q))

@@ -2,7 +2,7 @@
 use Prim.Native.Nat.{ℕ, _+_, _<_, _≤_}
 use mathlib.Core.Path.{_≡_}
 use mathlib.Core.Logic.{_⊎_}
-use mathlib.Core.Bool.{cond}
+use mathlib.Core.Bool.{true, false, cond}
 use mathlib.Core.List.{List}
 use lib.ListN.{length, getD}
 use lib.Dec.{eqb}
@@ -12,10 +12,13 @@ use Rattle.machine_pws.specs.Program.{Program}
 use Rattle.machine_pws.specs.Configurations.{StartingMemory}
 use Rattle.file_records.specs.declared.program.Refusal.{Refusal}
 use Rattle.base.specs.Bytes.{byte}
+use Rattle.file_contents.specs.declared.evidence.Part.the-variants.{InProgram, InEvidence}
+use Rattle.file_contents.specs.Reading.{Input, refused, readFile}
 use Rattle.file_again.specs.Contents.{StepOf}
 use Rattle.file_written.specs.Standing.{Stands}
-use Rattle.file_written.specs.Written.{claimBytes, memoryBytes, stepBytes, runBytes}
-use Rattle.file_written.specs.Faults.{Fault}
+use Rattle.file_written.specs.Written.{claimBytes, memoryBytes, stepBytes, runBytes, programBytes}
+use Rattle.file_written.specs.ProgramPart.{ProgramReadAs}
+use Rattle.file_written.specs.Faults.{Fault, ProgramFault}
 
 -- 0F: claim 0, 1 or 2
 abbrev pub ClaimFault : List ℕ → ℕ → ℕ → Type 0
@@ -38,3 +41,21 @@ pub data RunFault (P : Program) (f : List ℕ) (at : ℕ) (r : Refusal) : Type 0
   inMemory : (c : ℕ) → 1 ≤ c → c ≤ 2 → Stands f at (claimBytes c) → r .place ≡ at + 2 → r .place < length f → MemoryFault P f (r .place) (r .number) → RunFault P f at r
   inSteps : (c : ℕ) (m : List ℕ) (ss : List Step) → 1 ≤ c → c ≤ 2 → StartingMemory (P .shape) m → ((k : ℕ) → k < length ss → StepOf P (getD ss k (Update 0))) → length ss ≤ 1024
       → Stands f at (runBytes c m ss) → r .place ≡ at + length (runBytes c m ss) → r .place < length f → StepFault P (length ss) f (r .place) (r .number) → RunFault P f at r
+
+-- A refusal in the evidence: the program part is read, the evidence begins after it or with its own file, and it has one of these faults, if it is not a list's.
+pub record EvidenceRefusal (x : Input) (r : Refusal) : Type 0 where
+  pub program : Program
+  pub targets : List (ℕ → ℕ)
+  pub at : ℕ
+  pub reads : ProgramReadAs (x .alone) (x .code) program targets
+  pub alone : x .alone ≡ true → at ≡ 0
+  pub after : x .alone ≡ false → at ≡ length (programBytes program targets)
+  pub fault : RunFault program (x .file) at r ⊎ Stands (x .file) at (claimBytes 0)
+
+abbrev pub RunRefused : Type 0
+RunRefused = (x : Input) (area : ℕ) (r : Refusal) → readFile x area ≡ refused InEvidence r → EvidenceRefusal x r
+
+-- A refusal in the program part is 8, before anything is read, or one of its faults.
+abbrev pub ProgramPartRefused : Type 0
+ProgramPartRefused = (x : Input) (area : ℕ) (r : Refusal) → readFile x area ≡ refused InProgram r
+    → ((area < 65536) × (r .number ≡ 8) × (r .place ≡ 0)) ⊎ ((65536 ≤ area) × ProgramFault (x .alone) (x .code) r)
