@@ -25,7 +25,8 @@ use Rattle.file_records.proofs.ProgramLaws.{and-true}
 use Rattle.file_again.specs.Contents.{EntryRange}
 use Rattle.file_again.proofs.Tables.{of-four}
 use Rattle.file_written.specs.Written.{joined, EntryRecord, messageRecord, waitingRecord, recordBytes, EntryRecords, headBytes, entryBytes, channelOf, waitingOf, entryOf}
-use Rattle.file_written.proofs.Standing.{Stands, stands-moved, stands-left, stands-right, stands-first, stands-kind, not-cut}
+use Rattle.file_written.specs.Standing.{Stands}
+use Rattle.file_written.proofs.Standing.{stands-moved, stands-left, stands-right, stands-first, stands-kind, not-cut}
 use Rattle.file_written.proofs.Fine.{number-fine, both, not-so}
 use Rattle.file_written.proofs.ProgramWritten.{shapeFor, states-there}
 use Rattle.file_written.proofs.RunWritten.{kind-is}

@@ -22,7 +22,8 @@ use Rattle.base.proofs.ByteLaws.{cut-fits}
 use Rattle.file_records.proofs.RecordLaws.{good, unless-fine}
 use Rattle.file_contents.proofs.ReadingLaws.{evidence-refused, evidence-run, parts-short, parts-both}
 use Rattle.file_written.specs.Written.{claimBytes, programBytes}
-use Rattle.file_written.proofs.Standing.{Stands, stands-all, stands-join, stands-moved, stands-record}
+use Rattle.file_written.specs.Standing.{Stands}
+use Rattle.file_written.proofs.Standing.{stands-all, stands-join, stands-moved, stands-record}
 use Rattle.file_written.proofs.ProgramRead.{PartRead, program-file}
 
 -- ---- what was read of the parts

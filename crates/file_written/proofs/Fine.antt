@@ -14,7 +14,8 @@ use Rattle.file_records.specs.Records.{firstNumber, checked, inRange}
 use Rattle.file_records.specs.ProgramPart.{rowFrom}
 use Rattle.file_records.proofs.RecordLaws.{Good, row-ends, row-next}
 use Rattle.file_written.specs.Written.{joined}
-use Rattle.file_written.proofs.Standing.{Stands, stands-left, stands-right}
+use Rattle.file_written.specs.Standing.{Stands}
+use Rattle.file_written.proofs.Standing.{stands-left, stands-right}
 
 pub number-fine : {a b c d e : Bool} (at : ℕ) → Good a b c d e → checked (firstNumber a b c d e) at ≡ Fine
 unfolding checked firstNumber

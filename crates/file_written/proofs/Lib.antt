@@ -11,3 +11,6 @@ pub mod EvidenceRead
 pub mod RunRead
 pub mod ListRead
 pub mod Within
+pub mod Faults
+pub mod ProgramFaults
+pub mod RunFaults

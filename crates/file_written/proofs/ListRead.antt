@@ -27,7 +27,8 @@ use Rattle.file_again.proofs.Entry.{whole-inverse, bad-whole}
 use Rattle.file_again.proofs.Contents.{ListParts, RunParts, Outcome, outcome-refused, outcome-list, outcome-run, outcome, file-list, file-run, listed}
 use Rattle.file_written.specs.Written.{joined, claimBytes, EntryRecord, messageRecord, waitingRecord, recordBytes, EntryRecords, headBytes, entryBytes, listBytes, channelOf, waitingOf, entryOf, entriesOf, programBytes}
 use Rattle.file_written.specs.Lists.{ListReadIsWritten}
-use Rattle.file_written.proofs.Standing.{Stands, stands-moved, stands-join, stands-record}
+use Rattle.file_written.specs.Standing.{Stands}
+use Rattle.file_written.proofs.Standing.{stands-moved, stands-join, stands-record}
 use Rattle.file_written.proofs.ProgramRead.{PartRead, part-written}
 use Rattle.file_written.proofs.EvidenceRead.{parts-evidence, Claimed, claimed-list, EvidenceStands, one-file, two-files}
 use Rattle.file_written.proofs.EntryWritten.{added, addedAll, all-state, all-pointer, all-channel, all-queue}

@@ -16,7 +16,8 @@ use Rattle.file_contents.specs.Reading.{Input, combined, pair, evidenceAt, twoP
 use Rattle.file_contents.proofs.ReadingLaws.{parts-both}
 use Rattle.file_written.specs.Written.{programBytes}
 use Rattle.file_written.specs.ProgramPart.{ProgramContents}
-use Rattle.file_written.proofs.Standing.{Stands, stands-whole, stands-moved, stands-left, stands-right, stands-kind}
+use Rattle.file_written.specs.Standing.{Stands}
+use Rattle.file_written.proofs.Standing.{stands-whole, stands-moved, stands-left, stands-right, stands-kind}
 use Rattle.file_written.proofs.ProgramWritten.{placed, program-length, part-placed, program-same, targets-same}
 
 pub record Placed (x : Input) (P : pws.Program) (ts : List (ℕ → ℕ)) (evidence : List ℕ) : Type 0 where

@@ -33,7 +33,8 @@ use Rattle.file_again.proofs.Rows.{stopped-records, row-each, place-eight, plac
 use Rattle.file_again.proofs.ProgramPart.{ShapeRange, shape-in, of-process, part-read, transition-named}
 use Rattle.file_written.specs.Written.{joined, numbers, shapeBytes, statesBytes, operationByte, variableByte, valueByte, newValueByte, transitionBytes, targetBytes, programBytes}
 use Rattle.file_written.specs.ProgramPart.{ProgramContents, ProgramReadAs, ProgramReadIsWritten}
-use Rattle.file_written.proofs.Standing.{Stands, stands-moved, stands-all, stands-rest, stands-join, stands-record, joined-length, joined-stands}
+use Rattle.file_written.specs.Standing.{Stands}
+use Rattle.file_written.proofs.Standing.{stands-moved, stands-all, stands-rest, stands-join, stands-record, joined-length, joined-stands}
 use Rattle.file_written.proofs.ProgramWritten.{program-length}
 
 -- ---- where a row ends
@@ -132,26 +133,26 @@ module _ (s : Shape) (v x y : ℕ) where
 -- ---- each record stands as it is written
 
 module _ (f : List ℕ) (at : ℕ) where
-  shape-stands : unlessEnd f at (checked (shapeNumber Plain f at) at) ≡ Fine → Stands f at (shapeBytes (shapeOf (shapeAt f at)))
+  pub shape-stands : unlessEnd f at (checked (shapeNumber Plain f at) at) ≡ Fine → Stands f at (shapeBytes (shapeOf (shapeAt f at)))
   unfolding shapeNumber
   shape-stands e =
       let g = good at (unless-fine f at _ e .1) in
       stands-record f at 1 6 (not-false _ (g .allowed)) (omega (arith, cut-fits f at 6 (g .whole)))
 
   module _ (s : Shape) (states : List ℕ) (n : ℕ) where
-    transition-stands : checked (transitionNumber Plain s states f at n) at ≡ Fine → Stands f at (transitionBytes (transitionAt f at))
+    pub transition-stands : checked (transitionNumber Plain s states f at n) at ≡ Fine → Stands f at (transitionBytes (transitionAt f at))
     transition-stands e =
         let g = transition-fine f at Plain s states n e in
         let S = stands-record f at 3 7 (not-false _ (g .allowed)) (omega (arith, cut-fits f at 7 (g .whole))) in
         let o = operation-back s (byte f (at + 4)) (byte f (at + 5)) (byte f (at + 6)) (byte f (at + 3)) (parts-named Plain s states f at (not-false _ (g .names)) .operation) in
         subst (Stands f at) (λ i. 3 ∷ byte f (at + 1) ∷ byte f (at + 2) ∷ sym (o .operation) i ∷ sym (o .variable) i ∷ sym (o .value) i ∷ sym (o .newValue) i ∷ byte f (at + 7) ∷ []) S
 
-    target-stands : checked (targetNumber Plain s states f at n) at ≡ Fine → Stands f at (targetBytes (stateAt f at))
+    pub target-stands : checked (targetNumber Plain s states f at n) at ≡ Fine → Stands f at (targetBytes (stateAt f at))
     target-stands e =
         let g = target-fine f at Plain s states n e in
         stands-record f at 4 4 (not-false _ (g .allowed)) (omega (arith, cut-fits f at 4 (g .whole)))
 
-states-stand : (f : List ℕ) (at n : ℕ) → n ≤ 4 → statesFrom f at n ≡ Fine → (P : pws.Program) → ((p : ℕ) → p < n → P .states p ≡ getD (ofProcesses f at 1 n) p 0)
+pub states-stand : (f : List ℕ) (at n : ℕ) → n ≤ 4 → statesFrom f at n ≡ Fine → (P : pws.Program) → ((p : ℕ) → p < n → P .states p ≡ getD (ofProcesses f at 1 n) p 0)
     → ((p : ℕ) → p < n → P .initial p ≡ getD (ofProcesses f at 2 n) p 0) → (p : ℕ) → p < n → Stands f (at + 3 * p) (statesBytes P p)
 states-stand f at n few q P a b p l =
     let g = states-fine f (at + 3 * p) (states-each f at n q p l) in

@@ -27,7 +27,8 @@ use Rattle.file_again.proofs.Tables.{table-length, table-number, table-of, of-f
 use Rattle.file_again.proofs.ProgramCut.{states-all}
 use Rattle.file_written.specs.Written.{joined, numbers, shapeBytes, statesBytes, operationByte, variableByte, valueByte, newValueByte, transitionBytes, targetBytes, programBytes}
 use Rattle.file_written.specs.ProgramPart.{ProgramContents, ProgramReadAs, ProgramWrittenIsRead}
-use Rattle.file_written.proofs.Standing.{Stands, stands-whole, stands-moved, stands-left, stands-right, stands-first, stands-kind, not-cut, joined-length, joined-at}
+use Rattle.file_written.specs.Standing.{Stands}
+use Rattle.file_written.proofs.Standing.{stands-whole, stands-moved, stands-left, stands-right, stands-first, stands-kind, not-cut, joined-length, joined-at}
 use Rattle.file_written.proofs.Fine.{number-fine, both, not-so, range-in, row-written}
 
 -- ---- the shape as it is read
@@ -165,7 +166,7 @@ module _ (f : List ℕ) (at : ℕ) (t : Transition) (T : Stands f at (transition
 
   module _ (s : Shape) (states : List ℕ) (P : pws.Program) (processes : s .processes ≡ P .shape .processes) (variables : s .variables ≡ P .shape .variables)
       (counts : (v : ℕ) → valueCount s v ≡ P .shape .values v) (stated : (p : ℕ) → getD states p 0 ≡ P .states p) (w : pws.TransitionOf P t) where
-    transition-names : transitionNames Plain s states f at ≡ true
+    pub transition-names : transitionNames Plain s states f at ≡ true
     unfolding transitionNames
     transition-names =
         rw (T .same 1 (omega arith), T .same 2 (omega arith), T .same 3 (omega arith), T .same 4 (omega arith), T .same 5 (omega arith), T .same 6 (omega arith), T .same 7 (omega arith), stated (t .process))

@@ -30,7 +30,8 @@ use Rattle.file_again.proofs.Rows.{stopped-records}
 use Rattle.file_again.proofs.Contents.{ListParts, RunParts, Outcome, outcome-refused, outcome-list, outcome-run, outcome, file-list, file-run, listed}
 use Rattle.file_written.specs.Written.{joined, claimBytes, memoryBytes, stepBytes, runBytes, programBytes}
 use Rattle.file_written.specs.Runs.{OnlyThese, RunReadIsWritten}
-use Rattle.file_written.proofs.Standing.{Stands, stands-moved, stands-join, stands-record}
+use Rattle.file_written.specs.Standing.{Stands}
+use Rattle.file_written.proofs.Standing.{stands-moved, stands-join, stands-record}
 use Rattle.file_written.proofs.ProgramRead.{PartRead, part-written}
 use Rattle.file_written.proofs.EvidenceRead.{parts-evidence, Claimed, claimed-steps, EvidenceStands, one-file, two-files}
 
@@ -41,7 +42,7 @@ unfolding isKind
 kinds-apart f at a b = let x = eqb-true (byte f at) 32 a in let y = eqb-true (byte f at) 33 b in omega arith
 
 -- its bytes are those of the step
-step-back : (f : List ℕ) (at : ℕ) → isStep f at ≡ true → cut f at (stepBody f at) ≡ false
+pub step-back : (f : List ℕ) (at : ℕ) → isStep f at ≡ true → cut f at (stepBody f at) ≡ false
     → Stands f at (stepBytes (stepAt f at)) × (length (stepBytes (stepAt f at)) ≡ 1 + stepBody f at)
 unfolding stepAt stepBody
 step-back f at e c = go (isKind f at 32) refl (isKind f at 33) refl e (cut-fits f at (stepBody f at) c)
@@ -120,7 +121,7 @@ module _ (s : Shape) (transitions : ℕ) (f : List ℕ) where
 
 -- ---- the evidence
 
-start-stands : (s : Shape) (f : List ℕ) (at : ℕ) → unlessEnd f at (checked (startNumber s f at) at) ≡ Fine → Stands f at (memoryBytes (memoryAt f at))
+pub start-stands : (s : Shape) (f : List ℕ) (at : ℕ) → unlessEnd f at (checked (startNumber s f at) at) ≡ Fine → Stands f at (memoryBytes (memoryAt f at))
 unfolding startNumber
 start-stands s f at e =
     let g = good at (unless-fine f at _ e .1) in

@@ -28,7 +28,8 @@ use Rattle.file_again.proofs.Tables.{of-four}
 use Rattle.file_written.specs.Written.{joined, claimBytes, memoryBytes, stepBytes, programBytes, runBytes}
 use Rattle.file_written.specs.ProgramPart.{ProgramContents}
 use Rattle.file_written.specs.Runs.{BothReadAs, RunWrittenIsRead}
-use Rattle.file_written.proofs.Standing.{Stands, stands-moved, stands-left, stands-right, stands-first, stands-kind, not-cut}
+use Rattle.file_written.specs.Standing.{Stands}
+use Rattle.file_written.proofs.Standing.{stands-moved, stands-left, stands-right, stands-first, stands-kind, not-cut}
 use Rattle.file_written.proofs.Fine.{number-fine, both, not-so, row-written}
 use Rattle.file_written.proofs.ProgramWritten.{shapeFor, value-same, placed}
 use Rattle.file_written.proofs.Placed.{Placed, placed-one, placed-two, placed-read}
@@ -54,7 +55,7 @@ module _ (s : Shape) (S : pws.Shape) (variables : s .variables ≡ S .variables)
   ]
 
   module _ (f : List ℕ) (at : ℕ) (T : Stands f at (memoryBytes m)) where
-    starts-there : startNames s f at ≡ true
+    pub starts-there : startNames s f at ≡ true
     unfolding startNames
     starts-there =
         rw (T .same 1 (omega arith), T .same 2 (omega arith), T .same 3 (omega arith), T .same 4 (omega arith))

@@ -12,11 +12,8 @@ use Rattle.base.specs.Bytes.{byte, cut}
 use Rattle.file_records.specs.Records.{isKind}
 use Rattle.file_records.specs.ProgramPart.{tableFrom}
 use Rattle.file_again.proofs.Tables.{table-length, table-number, table-at}
+use Rattle.file_written.specs.Standing.{Stands}
 use Rattle.file_written.specs.Written.{joined}
-
-pub record Stands (f : List ℕ) (at : ℕ) (bs : List ℕ) : Type 0 where
-  pub fits : at + length bs ≤ length f
-  pub same : (k : ℕ) → k < length bs → byte f (at + k) ≡ byte bs k
 
 pub stands-whole : (f : List ℕ) → Stands f 0 f
 stands-whole f = record { fits = omega arith; same = λ k l. let z : 0 + k ≡ k = omega arith in ap (byte f) z }

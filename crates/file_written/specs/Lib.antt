@@ -1,4 +1,7 @@
+pub mod Standing
 pub mod Written
 pub mod ProgramPart
 pub mod Runs
 pub mod Lists
+pub mod Faults
+pub mod RunFaults
