@@ -1,10 +1,11 @@
 -- The theorems of specs/RegisterDemands: what C gets for the program file that is written (ForC), which is read as the program that is written
 -- (register_program), whose machines go step for step with those of the program with registers (register_machine).
-use Prim.Native.Nat.{ℕ, _<_}
+use Prim.Native.Nat.{ℕ, suc, _+_, _<_}
 use mathlib.Core.Path.{_≡_, refl, sym, ap, subst, _∙_}
 use mathlib.Core.List.{List, [], _∷_}
 use native.Mathlib.Omega.{arith}
-use lib.ListN.{length, getD}
+use native.Mathlib.Decide.{decLt}
+use lib.ListN.{length, getD, take}
 use Rattle.machine_pws.specs.declared.Step.{Step}
 use Rattle.machine_pws.specs.Program.{Program}
 use Rattle.machine_pws.specs.Machine.{Configuration}
@@ -29,7 +30,11 @@ use Rattle.register_machine.specs.Runs as registerRuns
 use Rattle.register_machine.specs.PsoMachine.{RegisterPsoConfiguration, RegisterPsoTakes, RegisterPsoVisited}
 use Rattle.register_machine.specs.PsoMachine as registerPsoRuns
 use Rattle.register_machine.specs.Written.{written, targetBecomes, writtenTargets}
-use Rattle.register_machine.proofs.Lists.{joined-at, found, joined-suc}
+use Rattle.register_machine.specs.Correspondence.{InWritten, StepForStep}
+use Rattle.register_machine.specs.Correspondence as correspondence
+use Rattle.register_machine.specs.PsoCorrespondence.{PsoStepForStep}
+use Rattle.register_machine.specs.PsoCorrespondence as psoCorrespondence
+use Rattle.register_machine.proofs.Lists.{joined-at, found, joined-grows, joined-suc}
 use Rattle.register_machine.proofs.Stepping.{written-well-formed}
 use Rattle.register_machine.proofs.Correspondence as machine
 use Rattle.register_machine.proofs.PsoCorrespondence as psoMachine
@@ -45,6 +50,7 @@ use Rattle.demands.specs.Demands as demands
 use Rattle.demands.specs.RegisterDemands.{
   NoneVisitedWithRegisters,
   TargetComesFrom,
+  TargetOrigins,
   ReachesWithRegisters,
   PsoReachesWithRegisters,
   RegisterSafety,
@@ -74,27 +80,22 @@ register-pso-takes-visited : {R : RegisterProgram} {c d : RegisterPsoConfigurati
 register-pso-takes-visited registerPsoRuns.done = registerPsoRuns.start
 register-pso-takes-visited (registerPsoRuns.step u t r) = registerPsoRuns.later u t (register-pso-takes-visited r)
 
--- ---- from the written program to the program with registers
+-- ---- steps that are written are as many
 
-module _ (R : RegisterProgram) (I : RegisterWellFormed R) (ts : List (ℕ → ℕ)) where
-  abbrev W : Program
-  W = written R
+steps-as-many : {R : RegisterProgram} {c : RegisterConfiguration} {d : Configuration} {ss ws : List Step} → StepForStep R c ss d ws → length ws ≡ length ss
+steps-as-many (correspondence.done e) = refl
+steps-as-many (correspondence.step s u e f a b r) = ap suc (steps-as-many r)
 
+pso-steps-as-many : {R : RegisterProgram} {c : RegisterPsoConfiguration} {d : PsoConfiguration} {us ws : List PsoStep} → PsoStepForStep R c us d ws
+    → length ws ≡ length us
+pso-steps-as-many (psoCorrespondence.done e) = refl
+pso-steps-as-many (psoCorrespondence.step u w e f a b r) = ap suc (pso-steps-as-many r)
+
+-- ---- which target a written one comes from
+
+module _ (R : RegisterProgram) (ts : List (ℕ → ℕ)) where
   abbrev none : ℕ → ℕ
   none p = 0
-
-  none-visited : NoneVisited W (writtenTargets R ts) → NoneVisitedWithRegisters R ts
-  none-visited N = record { pws = machine.register-safety R I ts quiet; pso = psoMachine.register-pso-safety R I ts quiet }
-    where
-      quiet : (d : Configuration) → Start W d → (us : List Step) (e : Configuration) → Visited W d us e
-          → (k : ℕ) → k < length (writtenTargets R ts) → InTarget (R .shape) (getD (writtenTargets R ts) k (λ p. 0)) e → ⊥
-      quiet d s us e v k l h =
-          let t = visited-takes v in
-          let m = startingMemory d in
-          let q =
-          same-reachability W (written-well-formed R I) m (getD (writtenTargets R ts) k (λ p. 0)) .0
-          (record { first = d; starts = start-of W m d s refl; steps = t .0; last = e; takes = t .1; reached = h }) in
-          N m (q .first) (q .starts) (q .steps) (q .last) (pso-takes-visited (q .takes)) k l (q .reached)
 
   -- the target that a written one comes from, and which of those it became that is
   record Source (k : ℕ) : Type 0 where
@@ -121,12 +122,57 @@ module _ (R : RegisterProgram) (I : RegisterWellFormed R) (ts : List (ℕ → �
         same = ap (target (writtenTargets R ts)) (f .sum) ∙ joined-at (targetBecomes R) none none ts n (f .place) (f .exists) (f .within);
       }
 
-  reaches : (m : List ℕ) (ws : List Step) (n k : ℕ) → Reaches W (writtenTargets R ts) m ws n k → ReachesWithRegisters R ts m ws k
+  -- local states in one that a lower target became are in a lower written target
+  lower-written : (state : ℕ → ℕ) (k n : ℕ) → TargetComesFrom R ts k n → (j : ℕ) → j < n → InWritten R (target ts j) state
+      → (i : ℕ) × (i < k) × ((p : ℕ) → p < R .shape .processes → state p ≡ target (writtenTargets R ts) i p)
+  lower-written state k n o j l w =
+      let a : j < length ts = omega (arith, o .exists) in
+      let i = length (writtenTargets R (take j ts)) + w .number in (
+        i,
+        omega (arith, w .exists, o .low, joined-suc (targetBecomes R) none ts j a, joined-grows (targetBecomes R) ts (suc j) n (omega arith)),
+        λ p b. w .met p b ∙ ap (λ (t : ℕ → ℕ). t p) (sym (joined-at (targetBecomes R) none none ts j (w .number) a (w .exists))),
+      )
+
+pub target-origins : TargetOrigins
+target-origins R ts k l =
+    let o = source R ts k l in
+    let n = o .number in (
+      n,
+      o .from,
+      λ j w. elim (decLt j n) [
+        | yes a ↦ absurd (omega (arith, w .high, o .from .low, joined-grows (targetBecomes R) ts (suc j) n (omega arith)))
+        | no a ↦ elim (decLt n j) [
+          | yes b ↦ absurd (omega (arith, w .low, o .from .high, joined-grows (targetBecomes R) ts (suc n) j (omega arith)))
+          | no b ↦ omega arith
+        ]
+      ],
+    )
+
+-- ---- from the written program to the program with registers
+
+module _ (R : RegisterProgram) (I : RegisterWellFormed R) (ts : List (ℕ → ℕ)) where
+  abbrev W : Program
+  W = written R
+
+  none-visited : NoneVisited W (writtenTargets R ts) → NoneVisitedWithRegisters R ts
+  none-visited N = record { pws = machine.register-safety R I ts quiet; pso = psoMachine.register-pso-safety R I ts quiet }
+    where
+      quiet : (d : Configuration) → Start W d → (us : List Step) (e : Configuration) → Visited W d us e
+          → (k : ℕ) → k < length (writtenTargets R ts) → InTarget (R .shape) (getD (writtenTargets R ts) k (λ p. 0)) e → ⊥
+      quiet d s us e v k l h =
+          let t = visited-takes v in
+          let m = startingMemory d in
+          let q =
+          same-reachability W (written-well-formed R I) m (getD (writtenTargets R ts) k (λ p. 0)) .0
+          (record { first = d; starts = start-of W m d s refl; steps = t .0; last = e; takes = t .1; reached = h }) in
+          N m (q .first) (q .starts) (q .steps) (q .last) (pso-takes-visited (q .takes)) k l (q .reached)
+
+  reaches : (m : List ℕ) (ws : List Step) (n k : ℕ) → Reaches W (writtenTargets R ts) m ws n k → ReachesWithRegisters R ts m ws n k
   reaches m ws n k h =
       let C = machine.correspondence R I in
       let s = C .0 .back m (h .start) (start-of W m (h .start) (h .permitted) (h .memory)) in
       let r = C .1 .back m (s .0) (s .1) ws (h .end) (subst (λ (d : Configuration). Takes W d ws (h .end)) (s .2) (h .takes)) in
-      let o = source k (h .exists) in
+      let o = source R ts k (h .exists) in
       let t = target ts (o .number) in
       let c = r .2 .0 in
       let i =
@@ -140,22 +186,26 @@ module _ (R : RegisterProgram) (I : RegisterWellFormed R) (ts : List (ℕ → �
         start = s .0;
         permitted = s .1;
         steps = r .0;
+        count = h .count ∙ steps-as-many (r .1);
         end = c;
         takes = r .2 .1;
         written = r .1;
         number = o .number;
         from = o .from;
         met = i;
+        lower = λ j l g.
+            let y = lower-written R ts _ k (o .number) (o .from) j l (C .2 (target ts j) m (s .0) c (r .0) (s .1) (register-takes-visited (r .2 .1)) .0 g) in
+            h .lower (y .0) (y .1) (λ p b. ap (λ (d : Configuration). d .state p) (r .2 .2) ∙ y .2 p b);
         pso = psoMachine.register-same-reachability R I m t .0
             (record { first = s .0; starts = s .1; steps = r .0; last = c; takes = r .2 .1; reached = i });
       }
 
-  pso-reaches : (m : List ℕ) (ws : List PsoStep) (n k : ℕ) → PsoReached W m (writtenTargets R ts) ws n k → PsoReachesWithRegisters R ts m ws k
+  pso-reaches : (m : List ℕ) (ws : List PsoStep) (n k : ℕ) → PsoReached W m (writtenTargets R ts) ws n k → PsoReachesWithRegisters R ts m ws n k
   pso-reaches m ws n k h =
       let C = psoMachine.pso-correspondence R I in
       let s = C .0 .back m (h .start) (h .permitted) in
       let r = C .1 .back m (s .0) (s .1) ws (h .end) (subst (λ (d : PsoConfiguration). PsoTakes W d ws (h .end)) (s .2) (h .takes)) in
-      let o = source k (h .exists) in
+      let o = source R ts k (h .exists) in
       let t = target ts (o .number) in
       let c = r .2 .0 in
       let i =
@@ -169,12 +219,16 @@ module _ (R : RegisterProgram) (I : RegisterWellFormed R) (ts : List (ℕ → �
         start = s .0;
         permitted = s .1;
         steps = r .0;
+        count = h .count ∙ pso-steps-as-many (r .1);
         end = c;
         takes = r .2 .1;
         written = r .1;
         number = o .number;
         from = o .from;
         met = i;
+        lower = λ j l g.
+            let y = lower-written R ts _ k (o .number) (o .from) j l (C .2 (target ts j) m (s .0) c (r .0) (s .1) (register-pso-takes-visited (r .2 .1)) .0 g) in
+            h .lower (y .0) (y .1) (λ p b. ap (λ (d : PsoConfiguration). d .state p) (r .2 .2) ∙ y .2 p b);
         pws = psoMachine.register-same-reachability R I m t .1
             (record { first = s .0; starts = s .1; steps = r .0; last = c; takes = r .2 .1; reached = i });
       }

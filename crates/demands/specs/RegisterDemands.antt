@@ -46,31 +46,41 @@ pub record TargetComesFrom (R : RegisterProgram) (ts : List (ℕ → ℕ)) (k n 
   pub low : length (writtenTargets R (take n ts)) ≤ k
   pub high : k < length (writtenTargets R (take (suc n) ts))
 
--- From a start with the memory m the register machine takes steps, for each of which the one of ws is written, and ends in the target that the written one of number k
--- comes from; and some run of the PSO machine, from the same memory, reaches that target.
-pub record ReachesWithRegisters (R : RegisterProgram) (ts : List (ℕ → ℕ)) (m : List ℕ) (ws : List Step) (k : ℕ) : Type 0 where
+-- so exactly one
+abbrev pub TargetOrigins : Type 0
+TargetOrigins =
+    (R : RegisterProgram) (ts : List (ℕ → ℕ)) (k : ℕ) → k < length (writtenTargets R ts)
+    → (n : ℕ) × TargetComesFrom R ts k n × ((j : ℕ) → TargetComesFrom R ts k j → j ≡ n)
+
+-- From a start with the memory m the register machine takes n steps, for each of which the one of ws is written, and ends in the target that the written one of
+-- number k comes from, and in no lower one; and some run of the PSO machine, from the same memory, reaches that target.
+pub record ReachesWithRegisters (R : RegisterProgram) (ts : List (ℕ → ℕ)) (m : List ℕ) (ws : List Step) (n k : ℕ) : Type 0 where
   pub start : RegisterConfiguration
   pub permitted : RegisterStart R m start
   pub steps : List Step
+  pub count : n ≡ length steps
   pub end : RegisterConfiguration
   pub takes : RegisterTakes R start steps end
   pub written : StepForStep R start steps (paired R start) ws
   pub number : ℕ
   pub from : TargetComesFrom R ts k number
   pub met : RegisterInTarget (R .shape) (target ts number) end
+  pub lower : (j : ℕ) → j < number → RegisterInTarget (R .shape) (target ts j) end → ⊥
   pub pso : RegisterPsoReachable R m (target ts number)
 
 -- the same of a run of the PSO machine, and some run of the register machine
-pub record PsoReachesWithRegisters (R : RegisterProgram) (ts : List (ℕ → ℕ)) (m : List ℕ) (ws : List PsoStep) (k : ℕ) : Type 0 where
+pub record PsoReachesWithRegisters (R : RegisterProgram) (ts : List (ℕ → ℕ)) (m : List ℕ) (ws : List PsoStep) (n k : ℕ) : Type 0 where
   pub start : RegisterPsoConfiguration
   pub permitted : RegisterPsoStart R m start
   pub steps : List PsoStep
+  pub count : n ≡ length steps
   pub end : RegisterPsoConfiguration
   pub takes : RegisterPsoTakes R start steps end
   pub written : PsoStepForStep R start steps (psoPaired R start) ws
   pub number : ℕ
   pub from : TargetComesFrom R ts k number
   pub met : RegisterPsoInTarget (R .shape) (target ts number) end
+  pub lower : (j : ℕ) → j < number → RegisterPsoInTarget (R .shape) (target ts j) end → ⊥
   pub pws : RegisterReachable R m (target ts number)
 
 -- ---- the verdict
@@ -83,12 +93,12 @@ RegisterSafety =
 abbrev pub RegisterReachability : Type 0
 RegisterReachability =
     (f w e : List ℕ) (area n k : ℕ) → registersOf f ≡ made w → judged (pair w e) area ≡ reachable n k
-    → StepsAreRead (pair w e) n × ReachesWithRegisters (programIn f) (targetsIn f) (memoryIn (pair w e)) (stepsIn (pair w e) n) k
+    → StepsAreRead (pair w e) n × ReachesWithRegisters (programIn f) (targetsIn f) (memoryIn (pair w e)) (stepsIn (pair w e) n) n k
 
 abbrev pub RegisterPsoReachability : Type 0
 RegisterPsoReachability =
     (f w e : List ℕ) (area n k : ℕ) → registersOf f ≡ made w → judged (pair w e) area ≡ pso n k
-    → StepsAreRead (pair w e) n × PsoReachesWithRegisters (programIn f) (targetsIn f) (memoryIn (pair w e)) (psoSteps (stepsIn (pair w e) n)) k
+    → StepsAreRead (pair w e) n × PsoReachesWithRegisters (programIn f) (targetsIn f) (memoryIn (pair w e)) (psoSteps (stepsIn (pair w e) n)) n k
 
 -- ---- what C gets: kinds 0, 1 and 3
 
@@ -101,10 +111,10 @@ abbrev pub RegisterReachableForC : Type 0
 RegisterReachableForC =
     (f w e : List ℕ) (area : ℕ) (r : declared.Verdict) → registersOf f ≡ made w → Answered (pair w e) area r → r .kind ≡ 1
     → StepsAreRead (pair w e) (r .first)
-    × ReachesWithRegisters (programIn f) (targetsIn f) (memoryIn (pair w e)) (stepsIn (pair w e) (r .first)) (r .second)
+    × ReachesWithRegisters (programIn f) (targetsIn f) (memoryIn (pair w e)) (stepsIn (pair w e) (r .first)) (r .first) (r .second)
 
 abbrev pub RegisterPsoForC : Type 0
 RegisterPsoForC =
     (f w e : List ℕ) (area : ℕ) (r : declared.Verdict) → registersOf f ≡ made w → Answered (pair w e) area r → r .kind ≡ 3
     → StepsAreRead (pair w e) (r .first)
-    × PsoReachesWithRegisters (programIn f) (targetsIn f) (memoryIn (pair w e)) (psoSteps (stepsIn (pair w e) (r .first))) (r .second)
+    × PsoReachesWithRegisters (programIn f) (targetsIn f) (memoryIn (pair w e)) (psoSteps (stepsIn (pair w e) (r .first))) (r .first) (r .second)
