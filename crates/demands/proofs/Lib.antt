@@ -8,3 +8,4 @@ pub mod ForC
 pub mod Cases
 pub mod GroupLaws
 pub mod Pairs
+pub mod RegisterDemands

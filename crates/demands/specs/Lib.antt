@@ -4,3 +4,4 @@ pub mod PsoDemands
 pub mod Cases
 pub mod Groups
 pub mod Pairs
+pub mod RegisterDemands
