@@ -4,6 +4,7 @@ pub mod Runs
 pub mod PsoRuns
 pub mod Demands
 pub mod PsoDemands
+pub mod ForC
 pub mod Cases
 pub mod GroupLaws
 pub mod Pairs

@@ -1,8 +1,8 @@
 -- The demands, as statements about the verdict of what is judged: x is one file (`combined f`), or a program file and an evidence file (`pair g f`,
--- document 02, N6). The theorems are in proofs/Demands, under the same names in small letters. A
--- configuration, a step and a sequence of steps are the machine's (pws/specs), with no bound of any kind; `area` is the length of any work area.
--- Of a file whose claim is 2 they speak of the PSO machine (pso/specs). What the answers to claims 0 and 1 say of it stands in specs/PsoDemands.
-use Prim.Native.Nat.{ℕ, _<_, _≤_}
+-- document 02, N6). First what C gets, then the verdict itself. The theorems are in proofs/Demands and proofs/ForC, under the same names in small letters. A
+-- configuration, a step and a sequence of steps are the machine's (machine_pws/specs), with no bound of any kind; `area` is the length of any work area.
+-- Of a file whose claim is 2 they speak of the PSO machine (machine_pso/specs). What the answers to claims 0 and 1 say of it stands in specs/PsoDemands.
+use Prim.Native.Nat.{ℕ, _+_, _<_, _≤_}
 use mathlib.Core.Path.{_≡_}
 use mathlib.Core.Logic.{_↔_, _⊎_}
 use mathlib.Core.Bool.{false}
@@ -18,15 +18,91 @@ use Rattle.machine_pws.specs.Configurations.{startingMemory, Start, InTarget}
 use Rattle.machine_pws.specs.Entries.{AboveList}
 use Rattle.machine_pws.specs.Sequences.{Takes, Visited, Simulated}
 use Rattle.machine_pws.specs.Ranges.{CountsOf, KeepsRanges}
+use Rattle.machine_pso.specs.declared.PsoStep.{PsoStep}
+use Rattle.machine_pso.specs.Machine.{PsoConfiguration}
+use Rattle.machine_pso.specs.Runs.{PsoStart, PsoVisited, PsoInTarget, PsoReachable}
 use Rattle.machine_pso.specs.Ranges.{PsoKeepsRanges}
 use Rattle.list_theory.specs.Verdict.{target, SafeList, Unheld, Started, Entered}
 use Rattle.base.specs.Bytes.{byte}
+use Rattle.file_records.specs.declared.program.Checked.the-variants.{Fine}
+use Rattle.file_records.specs.declared.program.Counted.the-variants.{Records}
+use Rattle.file_records.specs.declared.program.Program as records
+use Rattle.file_records.specs.Records.{memoryAt}
+use Rattle.file_records.specs.ProgramPart.{programFrom, programOf, targetsOf}
 use Rattle.file_contents.specs.declared.evidence.Part.{Part}
+use Rattle.file_contents.specs.EvidencePart.{stepsFrom, stepsOf}
 use Rattle.file_contents.specs.Reading as reading
 use Rattle.run_causes.specs.declared.Cause.the-variants.{State, Queue, Value, Nothing}
-use Rattle.pso_replay.specs.Answers.{PsoReached, PsoStopped, PsoMissed}
+use Rattle.pso_replay.specs.Answers.{psoSteps, PsoReached, PsoStopped, PsoMissed}
+use Rattle.verdict.specs.declared.answer.Verdict as declared
 use Rattle.verdict.specs.Judge.{Verdict, safe, reachable, pso, refused, entered, Judged, judged}
+use Rattle.verdict.specs.Answers.{Answered}
 use Rattle.demands.specs.PsoRuns.{OfPsoRun, PsoHalts}
+
+-- ---- what C gets
+
+-- where the records of the program stand, and the program and the targets that they are; none of them is refused
+abbrev pub recordsIn : reading.Input → records.Program
+recordsIn x = programFrom (x .alone) (x .code) 0 .program
+
+abbrev pub programIn : reading.Input → Program
+programIn x = programOf (x .code) (recordsIn x)
+
+abbrev pub targetsIn : reading.Input → List (ℕ → ℕ)
+targetsIn x = targetsOf (x .code) (recordsIn x)
+
+abbrev pub ProgramIsRead : reading.Input → Type 0
+ProgramIsRead x = programFrom (x .alone) (x .code) 0 .answer ≡ Fine
+
+-- after the two bytes of its claim, the starting memory of a run; after the five of that, n steps; up to the file's end there are so many
+abbrev pub memoryIn : reading.Input → List ℕ
+memoryIn x = memoryAt (x .file) (reading.evidenceAt x (recordsIn x) + 2)
+
+abbrev pub stepsIn : reading.Input → ℕ → List Step
+stepsIn x n = stepsOf (x .file) (reading.evidenceAt x (recordsIn x) + 2 + 5) n
+
+abbrev pub StepsAreRead : reading.Input → ℕ → Type 0
+StepsAreRead x n = stepsFrom (recordsIn x .shape) (recordsIn x .transitions .count) (x .file) (reading.evidenceAt x (recordsIn x) + 2 + 5) ≡ Records n
+
+-- no sequence of steps of the PSO machine, of any length and from any memory, visits a target: not at its start and not after any step
+abbrev pub NoneVisited : Program → List (ℕ → ℕ) → Type 0
+NoneVisited P ts =
+    (memory : List ℕ) (d : PsoConfiguration) → PsoStart P memory d → (us : List PsoStep) (e : PsoConfiguration) → PsoVisited P d us e
+    → (k : ℕ) → k < length ts → PsoInTarget (P .shape) (getD ts k (λ p. 0)) e → ⊥
+
+-- the PWS machine takes the steps in turn from a start with the memory m, and ends in the target of number k, and in no lower one; n is the number of steps
+pub record Reaches (P : Program) (ts : List (ℕ → ℕ)) (m : List ℕ) (ss : List Step) (n k : ℕ) : Type 0 where
+  pub count : n ≡ length ss
+  pub start : Configuration
+  pub permitted : Start P start
+  pub memory : startingMemory start ≡ m
+  pub end : Configuration
+  pub takes : Takes P start ss end
+  pub exists : k < length ts
+  pub met : InTarget (P .shape) (target ts k) end
+  pub lower : (j : ℕ) → j < k → InTarget (P .shape) (target ts j) end → ⊥
+
+-- `Answered x area r` is what the contracts of `hrafnolt_judge` and `hrafnolt_judge_pair` (crates/exports) say of their result r. Nothing here names
+-- a list of entries, an order of configurations, or how it is decided.
+
+-- kind 0
+abbrev pub SafeForC : Type 0
+SafeForC = (x : reading.Input) (area : ℕ) (r : declared.Verdict) → Answered x area r → r .kind ≡ 0 → ProgramIsRead x × NoneVisited (programIn x) (targetsIn x)
+
+-- kind 1: the steps are a run of the PWS machine, with as many steps as `first` says, to the target of number `second`; and some run of the PSO
+-- machine, from the same memory, reaches that target
+abbrev pub ReachableForC : Type 0
+ReachableForC =
+    (x : reading.Input) (area : ℕ) (r : declared.Verdict) → Answered x area r → r .kind ≡ 1
+    → ProgramIsRead x × StepsAreRead x (r .first) × Reaches (programIn x) (targetsIn x) (memoryIn x) (stepsIn x (r .first)) (r .first) (r .second)
+    × PsoReachable (programIn x) (memoryIn x) (target (targetsIn x) (r .second))
+
+-- kind 3: the steps are themselves such a run of the PSO machine
+abbrev pub PsoForC : Type 0
+PsoForC =
+    (x : reading.Input) (area : ℕ) (r : declared.Verdict) → Answered x area r → r .kind ≡ 3
+    → ProgramIsRead x × StepsAreRead x (r .first)
+    × PsoReached (programIn x) (memoryIn x) (targetsIn x) (psoSteps (stepsIn x (r .first))) (r .first) (r .second)
 
 -- ---- what the bytes give
 
@@ -48,18 +124,6 @@ pub record OfRun (x : reading.Input) (area : ℕ) (F : Program → List (ℕ →
   pub holds : F program targets memory steps
 
 -- ---- what the machine does with a run's steps
-
--- reachable: it takes every step in turn from a start with the memory m and ends in the target of number k, and in no lower one; n is the number of steps
-pub record Reaches (P : Program) (ts : List (ℕ → ℕ)) (m : List ℕ) (ss : List Step) (n k : ℕ) : Type 0 where
-  pub count : n ≡ length ss
-  pub start : Configuration
-  pub permitted : Start P start
-  pub memory : startingMemory start ≡ m
-  pub end : Configuration
-  pub takes : Takes P start ss end
-  pub exists : k < length ts
-  pub met : InTarget (P .shape) (target ts k) end
-  pub lower : (j : ℕ) → j < k → InTarget (P .shape) (target ts j) end → ⊥
 
 -- from a start with the memory m it takes the steps before that of number k, and does not take that one for the reason F
 pub record Stops (F : Program → Configuration → Step → Type 0) (P : Program) (m : List ℕ) (ss : List Step) (k : ℕ) : Type 0 where
