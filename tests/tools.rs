@@ -76,7 +76,8 @@ fn main() {
     let number = |n: usize| words[n].parse::<usize>().expect("a number");
     let (mut random, count) = (Random(number(1) as u64 * 2 + 1), number(2));
     let read = |ending: &str, other: bool| -> Vec<Vec<u8>> {
-        let names = words[3..].iter().filter(|name| name.ends_with(ending) && (!other || !name.ends_with(".evid") && !name.ends_with(".reg")));
+        let names =
+            words[3..].iter().filter(|name| name.ends_with(ending) && (!other || !name.ends_with(".evid") && !name.ends_with(".reg")));
         names.map(|name| std::fs::read(name).expect("a file")).collect()
     };
     let (files, programs, evidence) = (read("", true), read(".reg", false), read(".evid", false));
