@@ -159,7 +159,10 @@ fn target_words(told: &Told, entries: &[Entry], target: usize) -> Option<String>
         0 => "the list has no entry".to_string(),
         all => format!("{there} of the list's {all} entries have its states; -w shows one"),
     };
-    Some(format!("a configuration of target {target}{from} (states {}) is above no entry; {list}", told.states(&states[..program.processes.min(4)])))
+    Some(format!(
+        "a configuration of target {target}{from} (states {}) is above no entry; {list}",
+        told.states(&states[..program.processes.min(4)])
+    ))
 }
 
 // ---- runs
@@ -263,7 +266,9 @@ fn cause_words(told: &Told, c: &Configuration, step: Step, cause: Cause) -> Opti
         }
     };
     Some(match cause {
-        Cause::State { is, wanted } => format!("process {p} is in state {}, and this starts in state {}", told.state(p, is), told.state(p, wanted)),
+        Cause::State { is, wanted } => {
+            format!("process {p} is in state {}, and this starts in state {}", told.state(p, is), told.state(p, wanted))
+        }
         Cause::Queue { variable } => {
             format!("the {held} of process {p} and variable {variable} must be empty, and has {}", waits(variable))
         }

@@ -7,6 +7,7 @@ pub mod contents;
 pub mod explain;
 pub mod figures;
 pub mod input;
+pub mod jobs;
 pub mod library;
 pub mod machine;
 pub mod names;

@@ -6,21 +6,20 @@ use hrafnolt_tools::batch::{self, Progress};
 use hrafnolt_tools::explain::why_from;
 use hrafnolt_tools::figures::Figures;
 use hrafnolt_tools::input;
+use hrafnolt_tools::jobs::{Job, Named};
 use hrafnolt_tools::library::{self, Area, Lent, Verdict, PROGRAM_FILE, TRANSITION};
 use hrafnolt_tools::names::{hex, json_name, json_string, quoted};
 use hrafnolt_tools::options::{self, choice, Choice, Word, NO_LETTER};
 use hrafnolt_tools::output::{misused, print_and_end, say, Output};
 use hrafnolt_tools::outside::{outside, Stop};
-use hrafnolt_tools::registers::{self, Origins};
-use hrafnolt_tools::trace;
+use hrafnolt_tools::registers;
 use hrafnolt_tools::timeout::{self, Failed, Other};
+use hrafnolt_tools::trace;
 use hrafnolt_tools::words;
-use std::collections::HashMap;
-use std::ffi::{OsStr, OsString};
-use std::os::unix::ffi::{OsStrExt, OsStringExt};
+use std::ffi::OsStr;
+use std::os::unix::ffi::OsStrExt;
 use std::panic::AssertUnwindSafe;
 use std::process::exit;
-use std::sync::Arc;
 use std::time::{Duration, Instant};
 
 const NAME: &str = "hrafnolt-files";
@@ -62,10 +61,7 @@ static CHOICES: [Choice; 16] = [
 
 #[derive(Default)]
 struct Options {
-    program: Option<OsString>,
-    registers: Option<OsString>,
-    pairs: Option<OsString>,
-    files: Vec<OsString>,
+    named: Named,
     records: bool,
     explain: bool,
     outside: bool,
@@ -76,42 +72,6 @@ struct Options {
     null: bool,
     threads: usize,
     timeout: Option<Duration>,
-}
-
-struct Program {
-    name: OsString,
-    bytes: Result<Vec<u8>, String>,
-    registers: Option<Registers>,
-}
-
-/// Of a program with registers: its bytes are those that the library writes for it without them, or none if it is refused.
-struct Registers {
-    file: Vec<u8>,
-    refused: Option<(u64, u64)>,
-    origins: Option<Origins>,
-}
-
-impl Program {
-    fn with_registers(name: OsString, file: Vec<u8>) -> Program {
-        let written = library::registers(&file);
-        let refused = written.as_ref().err().copied();
-        let bytes = written.unwrap_or_default();
-        let origins = Origins::of(&file, &bytes);
-        Program { name, bytes: Ok(bytes), registers: Some(Registers { file, refused, origins }) }
-    }
-}
-
-/// A file to be judged, or one that is already known to be none.
-struct Job {
-    program: Option<Arc<Program>>,
-    name: OsString,
-    problem: Option<String>,
-}
-
-impl Job {
-    fn registers(&self) -> Option<&Registers> {
-        self.program.as_ref()?.registers.as_ref()
-    }
 }
 
 struct Answer {
@@ -190,7 +150,9 @@ impl Options {
         let refused = job.registers().and_then(|registers| registers.refused);
         let origins = job.registers().and_then(|registers| registers.origins.as_ref());
         let in_program = match &job.program {
-            Some(program) if refused.is_some() || v.about_records() && v.record_file == PROGRAM_FILE => format!(" in {}", quoted(program.name.as_bytes())),
+            Some(program) if refused.is_some() || v.about_records() && v.record_file == PROGRAM_FILE => {
+                format!(" in {}", quoted(program.name.as_bytes()))
+            }
             _ => String::new(),
         };
         let mut shown = vec![("line", format!("{v}{in_program}"))];
@@ -302,7 +264,7 @@ fn read_options() -> Result<Options, i32> {
     for word in options::read(&CHOICES, std::env::args_os().skip(1)).map_err(misuse)? {
         let (long, value) = match word {
             Word::File(name) => {
-                options.files.push(name);
+                options.named.files.push(name);
                 continue;
             }
             Word::Option(long, value) => (long, value),
@@ -311,12 +273,16 @@ fn read_options() -> Result<Options, i32> {
             "help" => return Err(print_and_end(&format!("{USAGE}{ABOUT}{}{STATUS}", options::help(&CHOICES)))),
             "reasons" => return Err(print_and_end(&words::table())),
             "version" => return Err(print_and_end(&format!("{NAME} {}\n", hrafnolt_tools::version()))),
-            "program" if options.program.is_some() => return Err(misuse("there is one program file, and -p was given twice".to_string())),
-            "program" => options.program = Some(value),
-            "registers" if options.registers.is_some() => return Err(misuse("there is one program, and -g was given twice".to_string())),
-            "registers" => options.registers = Some(value),
-            "pairs" if options.pairs.is_some() => return Err(misuse("--pairs was given twice".to_string())),
-            "pairs" => options.pairs = Some(value),
+            "program" if options.named.program.is_some() => {
+                return Err(misuse("there is one program file, and -p was given twice".to_string()))
+            }
+            "program" => options.named.program = Some(value),
+            "registers" if options.named.registers.is_some() => {
+                return Err(misuse("there is one program, and -g was given twice".to_string()))
+            }
+            "registers" => options.named.registers = Some(value),
+            "pairs" if options.named.pairs.is_some() => return Err(misuse("--pairs was given twice".to_string())),
+            "pairs" => options.named.pairs = Some(value),
             "record" => options.records = true,
             "explain" => options.explain = true,
             "outside" => options.outside = true,
@@ -329,16 +295,16 @@ fn read_options() -> Result<Options, i32> {
             _ => options.timeout = Some(Duration::from_secs(options::number(long, &value, 1 << 32).map_err(misuse)?)),
         }
     }
-    let named = options.files.iter().chain(&options.program).chain(&options.registers).chain(&options.pairs);
+    let named = options.named.files.iter().chain(&options.named.program).chain(&options.named.registers).chain(&options.named.pairs);
     let inputs = named.filter(|name| input::is_standard_input(name)).count();
     let wrong = if inputs > 1 {
         "standard input can be read once, and - was given twice"
-    } else if options.pairs.is_some() && options.program.is_some() {
+    } else if options.named.pairs.is_some() && options.named.program.is_some() {
         "--pairs and -p don't go together"
-    } else if options.registers.is_some() && (options.program.is_some() || options.pairs.is_some()) {
+    } else if options.named.registers.is_some() && (options.named.program.is_some() || options.named.pairs.is_some()) {
         "-g goes with neither -p nor --pairs"
-    } else if options.pairs.is_some() != options.files.is_empty() {
-        if options.files.is_empty() {
+    } else if options.named.pairs.is_some() != options.named.files.is_empty() {
+        if options.named.files.is_empty() {
             "no file to judge"
         } else {
             "the files of --pairs stand in its LIST"
@@ -349,94 +315,10 @@ fn read_options() -> Result<Options, i32> {
     Err(misuse(wrong.to_string()))
 }
 
-/// The files that the command line names, with folders opened.
-fn jobs(options: &Options) -> Result<Vec<Job>, i32> {
-    let unread = |name: &OsStr, what: String| {
-        say(&format!("{}: {what}", quoted(name.as_bytes())));
-        2
-    };
-    if let Some(list) = &options.pairs {
-        let bytes = input::read(list).map_err(|what| unread(list, what))?;
-        return pairs(&bytes, options.null).map_err(|what| unread(list, what));
-    }
-    let program = match options.program.as_ref().or(options.registers.as_ref()) {
-        None => None,
-        Some(name) => {
-            let bytes = input::read(name).map_err(|what| unread(name, what))?;
-            Some(Arc::new(match options.registers {
-                None => Program { name: name.clone(), bytes: Ok(bytes), registers: None },
-                Some(_) => Program::with_registers(name.clone(), bytes),
-            }))
-        }
-    };
-    let mut jobs = Vec::with_capacity(options.files.len());
-    for (name, is_folder) in options.files.iter().zip(folders(options)?) {
-        let mut add = |name: OsString, problem: Option<String>| jobs.push(Job { program: program.clone(), name, problem });
-        if !is_folder {
-            add(name.clone(), None);
-            continue;
-        }
-        let below = input::below(name.as_ref());
-        if below.is_empty() {
-            add(name.clone(), Some("no file stands below this folder".to_string()));
-        }
-        for (path, read) in below {
-            add(path.into_os_string(), read.err());
-        }
-    }
-    Ok(jobs)
-}
-
-/// Which names are folders. Each takes a call, so they are shared out too.
-fn folders(options: &Options) -> Result<Vec<bool>, i32> {
-    let is_folder = |name: &OsString| !input::is_standard_input(name) && std::path::Path::new(name).is_dir();
-    let parts: Vec<&[OsString]> = options.files.chunks(256).collect();
-    let mut all = Vec::with_capacity(options.files.len());
-    batch::run(
-        &parts,
-        options.threads.min(parts.len()),
-        || (),
-        |_, part| part.iter().map(is_folder).collect::<Vec<bool>>(),
-        |part| {
-            all.extend(part);
-            Ok(())
-        },
-    )?;
-    Ok(all)
-}
-
-/// Each line has a program file, a tab and an evidence file; or each name has a NUL byte behind it. A program file is read once.
-fn pairs(list: &[u8], null: bool) -> Result<Vec<Job>, String> {
-    let mut names = Vec::new();
-    if null {
-        let all: Vec<&[u8]> = list.strip_suffix(b"\0").unwrap_or(list).split(|byte| *byte == 0).collect();
-        for two in all.chunks(2) {
-            let [program, evidence] = two else { return Err("its last program file has no evidence file".to_string()) };
-            names.push((*program, *evidence));
-        }
-    } else {
-        for (number, line) in list.strip_suffix(b"\n").unwrap_or(list).split(|byte| *byte == b'\n').enumerate() {
-            let tab = line.iter().position(|byte| *byte == b'\t');
-            let two = tab.and_then(|tab| Some((line.get(..tab)?, line.get(tab + 1..)?)));
-            names.push(two.ok_or(format!("line {} is no program file, a tab and an evidence file", number + 1))?);
-        }
-    }
-    let mut programs: HashMap<&[u8], Arc<Program>> = HashMap::new();
-    let own = |name: &[u8]| OsString::from_vec(name.to_vec());
-    let read = |name: &[u8]| Arc::new(Program { name: own(name), bytes: input::read(&own(name)), registers: None });
-    Ok(names
-        .into_iter()
-        .map(|(program, evidence)| {
-            let program = programs.entry(program).or_insert_with(|| read(program)).clone();
-            Job { program: Some(program), name: own(evidence), problem: None }
-        })
-        .collect())
-}
-
 fn judge_all() -> Result<i32, i32> {
     let options = read_options()?;
     let mut output = Output::new()?;
-    let jobs = jobs(&options)?;
+    let jobs = options.named.jobs(options.threads, options.null)?;
     let mut figures = Figures::default();
     let mut incomplete = false;
     let progress = Progress::new(jobs.len());
