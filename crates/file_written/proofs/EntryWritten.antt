@@ -28,7 +28,8 @@ use Rattle.file_written.specs.Written.{joined, EntryRecord, messageRecor
 use Rattle.file_written.specs.Standing.{Stands}
 use Rattle.file_written.proofs.Standing.{stands-moved, stands-left, stands-right, stands-first, stands-kind, not-cut}
 use Rattle.file_written.proofs.Fine.{number-fine, both, not-so}
-use Rattle.file_written.proofs.ProgramWritten.{shapeFor, states-there}
+use Rattle.file_written.specs.ProgramPart.{shapeFor}
+use Rattle.file_written.proofs.ProgramWritten.{states-there}
 use Rattle.file_written.proofs.RunWritten.{kind-is}
 
 -- ---- one record

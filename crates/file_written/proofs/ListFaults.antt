@@ -30,7 +30,7 @@ use Rattle.file_written.specs.Written.{joined, EntryRecord, messageRecor
 use Rattle.file_written.specs.Faults.{Fault}
 use Rattle.file_written.specs.ListFaults.{MessageFault, Waits, WaitingFault, Complete, EntryFault, otherKind, inMessage, inWaiting, notComplete, EntryRefused}
 use Rattle.file_written.proofs.Fine.{both, not-so}
-use Rattle.file_written.proofs.ProgramWritten.{shapeFor}
+use Rattle.file_written.specs.ProgramPart.{shapeFor}
 use Rattle.file_written.proofs.Standing.{stands-moved, stands-join, stands-record}
 use Rattle.file_written.proofs.ProgramWritten.{value-same}
 use Rattle.file_written.proofs.EntryWritten.{message-names, waiting-names, or-left, or-right, addedAll}

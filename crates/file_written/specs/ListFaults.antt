@@ -2,24 +2,20 @@
 use Prim.Native.Nat.{ℕ, _+_, _<_, _≤_}
 use mathlib.Core.Path.{_≡_}
 use mathlib.Core.Logic.{_⊎_}
-use mathlib.Core.List.{List, [], _∷_}
+use mathlib.Core.List.{List}
 use lib.ListN.{length}
 use Rattle.machine_pws.specs.declared.Message.{Message}
-use Rattle.machine_pws.specs.Program.{Shape, Program}
+use Rattle.machine_pws.specs.Program.{Program}
 use Rattle.machine_pws.specs.Machine.{Configuration}
 use Rattle.machine_pws.specs.Configurations.{MessageIn, StatesOf}
 use Rattle.machine_pws.specs.Entries.{ValueOrFF}
-use Rattle.file_records.specs.declared.program.Shape as declared
 use Rattle.file_records.specs.declared.program.Refusal.{Refusal}
 use Rattle.base.specs.Bytes.{byte}
 use Rattle.file_contents.specs.EvidencePart.{bad, entryRead}
 use Rattle.file_written.specs.Standing.{Stands}
+use Rattle.file_written.specs.ProgramPart.{shapeFor}
 use Rattle.file_written.specs.Written.{EntryRecord, messageRecord, waitingRecord, recordBytes, EntryRecords, headBytes, entryBytes, entryOf, waitingOf}
 use Rattle.file_written.specs.Faults.{Fault, ShapeBegun}
-
--- the shape as the code holds it
-abbrev pub shapeFor : Shape → declared.Shape
-shapeFor S = record { processes = S .processes; variables = S .variables; values = S .values 0 ∷ S .values 1 ∷ S .values 2 ∷ S .values 3 ∷ [] }
 
 -- 11: a message of the latest entry, of which so many stand before
 abbrev pub MessageFault : Program → ℕ → List ℕ → ℕ → ℕ → Type 0
