@@ -28,7 +28,8 @@ use Rattle.file_written.specs.Written.{joined, EntryRecord, messageRecor
 use Rattle.file_written.specs.Standing.{Stands}
 use Rattle.file_written.proofs.Standing.{stands-moved, stands-left, stands-right, stands-first, stands-kind, not-cut}
 use Rattle.file_written.proofs.Fine.{number-fine, both, not-so}
-use Rattle.file_written.proofs.ProgramWritten.{shapeFor, states-there}
+use Rattle.file_written.specs.ProgramPart.{shapeFor}
+use Rattle.file_written.proofs.ProgramWritten.{states-there}
 use Rattle.file_written.proofs.RunWritten.{kind-is}
 
 -- ---- one record
@@ -80,7 +81,7 @@ module _ (S : pws.Shape) (range : pws.ShapeInRange S) (counts : (v : ℕ) → va
     ]
 
     module _ (f : List ℕ) (at : ℕ) (T : Stands f at (recordBytes (messageRecord m))) where
-      message-names : messageNames s f at ≡ true
+      pub message-names : messageNames s f at ≡ true
       unfolding messageNames valueNames
       message-names =
           rw (T .same 1 (omega arith), T .same 2 (omega arith), T .same 3 (omega arith), T .same 4 (omega arith), T .same 5 (omega arith), T .same 6 (omega arith))
@@ -101,7 +102,7 @@ module _ (S : pws.Shape) (range : pws.ShapeInRange S) (counts : (v : ℕ) → va
           number-fine at (record { allowed = refl; whole = not-cut f at 6 (T .fits); room = lt-leb 16 n l; range = refl; names = not-so message-names })
 
   module _ (p v x : ℕ) (a : p < S .processes) (b : v < S .variables) (w : Val S v x) (f : List ℕ) (at : ℕ) (T : Stands f at (recordBytes (waitingRecord p v x))) where
-    waiting-names : waitingNames s f at ≡ true
+    pub waiting-names : waitingNames s f at ≡ true
     unfolding waitingNames
     waiting-names =
         rw (T .same 1 (omega arith), T .same 2 (omega arith), T .same 3 (omega arith))
@@ -280,10 +281,10 @@ module _ (S : pws.Shape) where
 
 -- ---- the 10
 
-or-left : (a b : Bool) → a ≡ true → (a || b) ≡ true
+pub or-left : (a b : Bool) → a ≡ true → (a || b) ≡ true
 or-left a b e = rw e
 
-or-right : (a b : Bool) → b ≡ true → (a || b) ≡ true
+pub or-right : (a b : Bool) → b ≡ true → (a || b) ≡ true
 or-right true b e = refl
 or-right false b e = e
 

@@ -14,3 +14,4 @@ pub mod Within
 pub mod Faults
 pub mod ProgramFaults
 pub mod RunFaults
+pub mod ListFaults

@@ -35,13 +35,13 @@ use Rattle.file_written.proofs.EntryWritten.{added, addedAll, all-state
 
 -- ---- one record after a 10
 
-record Back (f : List ℕ) (at : ℕ) (e : Configuration) : Type 0 where
-  item : EntryRecord
-  stands : Stands f at (recordBytes item)
-  says : extended f at e ≡ added e item
-  size : bodySize f at ≡ length (recordBytes item)
+pub record Back (f : List ℕ) (at : ℕ) (e : Configuration) : Type 0 where
+  pub item : EntryRecord
+  pub stands : Stands f at (recordBytes item)
+  pub says : extended f at e ≡ added e item
+  pub size : bodySize f at ≡ length (recordBytes item)
 
-record-back : (s : Shape) (f : List ℕ) (at : ℕ) (e : Configuration) → checked (bodyNumber s f at e) at ≡ Fine → Back f at e
+pub record-back : (s : Shape) (f : List ℕ) (at : ℕ) (e : Configuration) → checked (bodyNumber s f at e) at ≡ Fine → Back f at e
 unfolding bodyNumber messageNumber waitingNumber checked extended bodySize
 record-back s f at e d = go (isKind f at 17) refl (isKind f at 18) refl d
   where
@@ -109,7 +109,7 @@ module _ (s : Shape) (f : List ℕ) (start : ℕ) where
 
 -- ---- an entry
 
-says-entry : (e : Configuration) (rs : List EntryRecord) → e .memory .channel ≡ [] → ((p v : ℕ) → e .queue p v ≡ [])
+pub says-entry : (e : Configuration) (rs : List EntryRecord) → e .memory .channel ≡ [] → ((p v : ℕ) → e .queue p v ≡ [])
     → addedAll e rs ≡ entryOf (record { state = e .state; pointer = e .memory .pointer; body = rs })
 says-entry e rs c q =
     let a = all-state e rs in

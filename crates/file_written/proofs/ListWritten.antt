@@ -22,7 +22,8 @@ use Rattle.file_written.specs.ProgramPart.{ProgramContents}
 use Rattle.file_written.specs.Lists.{RecordsWrittenIsRead}
 use Rattle.file_written.specs.Standing.{Stands}
 use Rattle.file_written.proofs.Standing.{stands-left, stands-right, stands-kind}
-use Rattle.file_written.proofs.ProgramWritten.{shapeFor, four, four-each, value-same, placed}
+use Rattle.file_written.specs.ProgramPart.{shapeFor}
+use Rattle.file_written.proofs.ProgramWritten.{four, four-each, value-same, placed}
 use Rattle.file_written.proofs.Placed.{Placed, placed-one, placed-two, placed-read}
 use Rattle.file_written.proofs.RunWritten.{claim-passes}
 use Rattle.file_written.proofs.EntryWritten.{head-passes, entry-written}

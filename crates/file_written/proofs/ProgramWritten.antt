@@ -26,15 +26,12 @@ use Rattle.file_records.proofs.RecordLaws.{unless-not}
 use Rattle.file_again.proofs.Tables.{table-length, table-number, table-of, of-four}
 use Rattle.file_again.proofs.ProgramCut.{states-all}
 use Rattle.file_written.specs.Written.{joined, numbers, shapeBytes, statesBytes, operationByte, variableByte, valueByte, newValueByte, transitionBytes, targetBytes, programBytes}
-use Rattle.file_written.specs.ProgramPart.{ProgramContents, ProgramReadAs, ProgramWrittenIsRead}
+use Rattle.file_written.specs.ProgramPart.{shapeFor, ProgramContents, ProgramReadAs, ProgramWrittenIsRead}
 use Rattle.file_written.specs.Standing.{Stands}
 use Rattle.file_written.proofs.Standing.{stands-whole, stands-moved, stands-left, stands-right, stands-first, stands-kind, not-cut, joined-length, joined-at}
 use Rattle.file_written.proofs.Fine.{number-fine, both, not-so, range-in, row-written}
 
 -- ---- the shape as it is read
-
-abbrev pub shapeFor : pws.Shape → Shape
-shapeFor S = record { processes = S .processes; variables = S .variables; values = S .values 0 ∷ S .values 1 ∷ S .values 2 ∷ S .values 3 ∷ [] }
 
 abbrev pub four : (ℕ → ℕ) → List ℕ
 four g = g 0 ∷ g 1 ∷ g 2 ∷ g 3 ∷ []

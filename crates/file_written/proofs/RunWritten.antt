@@ -31,7 +31,8 @@ use Rattle.file_written.specs.Runs.{BothReadAs, RunWrittenIsRead}
 use Rattle.file_written.specs.Standing.{Stands}
 use Rattle.file_written.proofs.Standing.{stands-moved, stands-left, stands-right, stands-first, stands-kind, not-cut}
 use Rattle.file_written.proofs.Fine.{number-fine, both, not-so, row-written}
-use Rattle.file_written.proofs.ProgramWritten.{shapeFor, value-same, placed}
+use Rattle.file_written.specs.ProgramPart.{shapeFor}
+use Rattle.file_written.proofs.ProgramWritten.{value-same, placed}
 use Rattle.file_written.proofs.Placed.{Placed, placed-one, placed-two, placed-read}
 
 -- ---- the claim

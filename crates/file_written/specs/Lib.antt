@@ -5,3 +5,4 @@ pub mod Runs
 pub mod Lists
 pub mod Faults
 pub mod RunFaults
+pub mod ListFaults

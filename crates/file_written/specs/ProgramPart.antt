@@ -2,13 +2,18 @@
 use Prim.Native.Nat.{ℕ, _≤_}
 use mathlib.Core.Path.{_≡_}
 use mathlib.Core.Bool.{Bool, true, false}
-use mathlib.Core.List.{List, _∷_, _++_}
+use mathlib.Core.List.{List, [], _∷_, _++_}
 use lib.ListN.{length}
-use Rattle.machine_pws.specs.Program.{Program}
+use Rattle.machine_pws.specs.Program.{Shape, Program}
+use Rattle.file_records.specs.declared.program.Shape as declared
 use Rattle.file_records.specs.declared.program.Checked.the-variants.{Fine}
 use Rattle.file_records.specs.ProgramPart.{programFrom, programOf, targetsOf}
 use Rattle.file_again.specs.Contents.{ProgramPartRead}
 use Rattle.file_written.specs.Written.{programBytes}
+
+-- the shape as the code holds it
+abbrev pub shapeFor : Shape → declared.Shape
+shapeFor S = record { processes = S .processes; variables = S .variables; values = S .values 0 ∷ S .values 1 ∷ S .values 2 ∷ S .values 3 ∷ [] }
 
 -- A program and targets within the limits: 1 to 4 processes, variables and values, 1 to 32 states, at most 256 transitions, 1 to 4,096 targets (document
 -- 02, N8), and every field names what exists. What the shape does not have is 0 (document 01, "Records"; document 02, N5).
