@@ -14,7 +14,7 @@ use Rattle.machine_pws.specs.Sequences.{Takes, Visited}
 use Rattle.machine_pws.specs.Sequences as sequences
 use Rattle.machine_pso.specs.declared.PsoStep.{PsoStep}
 use Rattle.machine_pso.specs.Machine.{PsoConfiguration}
-use Rattle.machine_pso.specs.Runs.{PsoTakes, PsoVisited, PsoInTarget}
+use Rattle.machine_pso.specs.Runs.{PsoTakes, PsoVisited}
 use Rattle.machine_pso.specs.Runs as runs
 use Rattle.machine_equal.proofs.Reachability.{start-of, same-reachability}
 use Rattle.list_theory.specs.Verdict.{target}
@@ -38,7 +38,7 @@ use Rattle.register_machine.proofs.Lists.{joined-at, found, joined-grows, joine
 use Rattle.register_machine.proofs.Stepping.{written-well-formed}
 use Rattle.register_machine.proofs.Correspondence as machine
 use Rattle.register_machine.proofs.PsoCorrespondence as psoMachine
-use Rattle.register_program.specs.Registers.{ofRead, partOf, registersOf, programIn, targetsIn, ReadAs}
+use Rattle.register_program.specs.Registers.{ofRead, partOf, registersOf, programIn, targetsIn}
 use Rattle.register_program.proofs.WrittenIsRead.{found-well-formed, written-is-read}
 use Rattle.pso_replay.specs.Answers.{psoSteps, PsoReached}
 use Rattle.verdict.specs.declared.answer.Verdict as declared
