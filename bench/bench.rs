@@ -174,6 +174,7 @@ fn main() {
     bench.list("(1, 4; 12)", &inputs::chain(1, 4, 12));
     bench.list("(3, 1; 1)", &inputs::chain(3, 1, 1));
     bench.list("(2, 2; 1)", &inputs::chain(2, 2, 1));
+    bench.list("(2, 2; 1), its target 4,096 times", &inputs::repeated(inputs::chain(2, 2, 1), 4_096));
     bench.list("(3, 1; 11)", &inputs::chain(3, 1, 11));
     let long = inputs::chain(2, 2, 10);
     bench.list("(2, 2; 10)", &long);

@@ -135,6 +135,13 @@ pub fn many_targets(processes: usize, variables: usize, targets: u8) -> Listing 
     Listing { program, entries }
 }
 
+/// The same list for a file that names its targets as often.
+pub fn repeated(listing: Listing, times: usize) -> Listing {
+    let mut program = listing.program;
+    program.targets = program.targets.repeat(times);
+    Listing { program, entries: listing.entries }
+}
+
 /// What a backward search finds for an operation that needs a 1, in a state where its process does not start: entries with values. Of an arw the
 /// newest value decides, of a read that of any message which its process has before it.
 fn found_for(operation: Operation) -> Listing {
