@@ -287,10 +287,6 @@ pub fn judge_list(program: &Program, list: &List) -> Verdict {
     let count = least_count(program, list.len());
     let mut held: HashMap<[u8; 4], bool> = HashMap::new();
     for (number, target) in program.targets.iter().enumerate() {
-        // equal targets are held alike
-        if program.targets[..number].contains(target) {
-            continue;
-        }
         if !*held.entry(*target).or_insert_with(|| target_held(&index, *target, count)) {
             return Verdict::Refused(9, number as u64);
         }
