@@ -16,10 +16,10 @@ all: build
 build: prove
 	@tools/build
 
+# Nothing is proved again if no crate has changed.
 prove:
-	@[ -e target/bin/hrafnolt-files ] || echo 'proving the judge, then building it: some minutes, the first time'
-	@.ci/prove hrafnolt exports.a
-	@$(MAKE) --no-print-directory mark
+	@[ -e target/bin/hrafnolt ] || .ci/first
+	@$(proved) | cmp -s - target/proved || { .ci/prove hrafnolt exports.a && $(MAKE) --no-print-directory mark; }
 
 # What was proved, so that `make install` knows whether anything has changed since.
 mark:
@@ -28,9 +28,7 @@ mark:
 test:
 	@.ci/run
 
-install:
-	@$(proved) | cmp -s - target/proved || $(MAKE) --no-print-directory prove
-	@tools/build
+install: build
 	@tools/install "$(PREFIX)" "$(DESTDIR)"
 
 uninstall:

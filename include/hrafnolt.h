@@ -197,6 +197,8 @@ static inline const char *hrafnolt_reason(uint64_t number)
         return "the pointer is not at the newest message, for an mfence or an arw; never under claim 2";
     case 18:
         return "nothing waits to be serialised, or there is no newer message to update to; under claim 2 no value heads the buffer, or a mark does not head all of them";
+    case 19:
+        return "programs with registers only: a process would need more than 32 local states";
     case 24:
         return "figures only: no safe result to take the mean or variance of, or no result at all to take the share of";
     case 25:
@@ -205,6 +207,10 @@ static inline const char *hrafnolt_reason(uint64_t number)
         return "drawings only: the output is too short";
     case 27:
         return "drawings only: the text is no drawing";
+    case 28:
+        return "programs with registers only: more than 256 transitions would be written";
+    case 29:
+        return "programs with registers only: the output is too short";
     default:
         return NULL;
     }

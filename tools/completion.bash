@@ -13,4 +13,4 @@ _hrafnolt() {
     esac
     mapfile -t COMPREPLY < <(compgen -W "$help" -- "$current")
 }
-complete -o default -F _hrafnolt hrafnolt-files hrafnolt-dot hrafnolt-text hrafnolt-draw
+complete -o default -F _hrafnolt hrafnolt-files hrafnolt-dot hrafnolt-text hrafnolt-draw hrafnolt-registers

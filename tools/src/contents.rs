@@ -424,6 +424,11 @@ pub fn read_pair(program: &[u8], evidence: &[u8]) -> Result<(Program, Evidence),
     Ok((program, evidence))
 }
 
+/// A program with registers as hrafnolt_registers takes it.
+pub fn read_registers(file: &[u8]) -> Result<Program, Fault> {
+    Reader { file, at: 0, judge: false }.program(End::Registers)
+}
+
 /// Bare step records, as hrafnolt-dot takes them.
 pub fn read_steps(file: &[u8]) -> Result<Vec<Step>, Fault> {
     Reader { file, at: 0, judge: true }.steps(&Scope::of(None), false)

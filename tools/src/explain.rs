@@ -4,24 +4,30 @@
 use crate::contents::{self, Entry, Evidence, Item, Machine, Operation, Program, Run, Step};
 use crate::library::{Lent, Verdict, PROGRAM_FILE, SERIALISE, TRANSITION};
 use crate::machine::{Cause, Configuration, Source, Waiting};
+use crate::registers::Origins;
 use crate::words;
 
 /// Without a line feed or a full stop.
 pub fn why(lent: Lent, v: Verdict) -> String {
-    told(lent, v).unwrap_or_else(|| {
+    why_from(lent, v, None)
+}
+
+/// The same of a program that was written for one with registers: transitions, states and targets are named with what they came from.
+pub fn why_from(lent: Lent, v: Verdict, origins: Option<&Origins>) -> String {
+    told(lent, v, origins).unwrap_or_else(|| {
         let file = lent.program.filter(|_| v.record_file == PROGRAM_FILE).unwrap_or(lent.file);
         let at = usize::try_from(v.second).ok().filter(|_| v.about_records());
         at.map_or(String::new(), |at| format!("at byte {at}{}: ", record_words(file, at))) + words::says(v.first)
     })
 }
 
-fn told(lent: Lent, v: Verdict) -> Option<String> {
+fn told(lent: Lent, v: Verdict, origins: Option<&Origins>) -> Option<String> {
     let read = match lent.program {
         None => contents::read_combined(lent.file).map_err(|fault| (false, fault)),
         Some(program) => contents::read_pair(program, lent.file),
     };
     let (program, evidence) = match read {
-        Ok(both) => both,
+        Ok((program, evidence)) => (Told { program, origins }, evidence),
         Err((in_program, fault)) => {
             let file = if in_program { lent.program? } else { lent.file };
             let same = (fault.number, fault.place as u64) == (v.first, v.second);
@@ -29,27 +35,45 @@ fn told(lent: Lent, v: Verdict) -> Option<String> {
             return (same && there).then(|| format!("at byte {}{}: {}", fault.place, record_words(file, fault.place), fault.words));
         }
     };
+    let program = &program;
     let place = usize::try_from(v.second).ok()?;
     match (evidence, v.first) {
-        (Evidence::List(entries), 9) => target_words(&program, &entries, place),
+        (Evidence::List(entries), 9) => target_words(program, &entries, place),
         (Evidence::List(entries), 10) => Some(format!(
             "entry {place} ({}) has every process in its initial state, one message, and nothing that waits, so starts are above it",
-            entry_words(&program, entries.get(place)?)
+            entry_words(&program.program, entries.get(place)?)
         )),
         (Evidence::List(entries), 11) => {
-            let step = step_words(&program, Machine::Pws, step_of(v)?)?;
-            let entry = entry_words(&program, entries.get(place)?);
+            let step = step_words(program, Machine::Pws, step_of(v)?)?;
+            let entry = entry_words(&program.program, entries.get(place)?);
             Some(format!("{step} leads above entry {place} ({entry}) from a configuration that is above no entry; -w shows one"))
         }
-        (Evidence::Run(run), number) => run_words(&program, &run, number, place),
+        (Evidence::Run(run), number) => run_words(program, &run, number, place),
         _ => None,
+    }
+}
+
+/// The program that the judge read, and what it came from.
+struct Told<'a> {
+    program: Program,
+    origins: Option<&'a Origins>,
+}
+
+impl Told<'_> {
+    fn state(&self, process: usize, state: u8) -> String {
+        format!("{state}{}", self.origins.map_or(String::new(), |origins| origins.state(process, state)))
+    }
+
+    fn states(&self, states: &[u8]) -> String {
+        let between = if self.origins.is_some() { ", " } else { " " };
+        states.iter().enumerate().map(|(p, state)| self.state(p, *state)).collect::<Vec<_>>().join(between)
     }
 }
 
 // ---- records
 
 /// Which record stands there: `, entry 3 (10)`, or `, message 2 of entry 3 (11)`.
-fn record_words(file: &[u8], place: usize) -> String {
+pub(crate) fn record_words(file: &[u8], place: usize) -> String {
     let (mut at, mut entries, mut messages, mut counts) = (0, 0usize, 0usize, [0usize; 256]);
     while at < place {
         let Some(byte) = file.get(at).copied() else { return String::new() };
@@ -70,6 +94,7 @@ fn record_words(file: &[u8], place: usize) -> String {
         0x02 => format!("the states of process {}", count(2)),
         0x03 => format!("transition {}", count(3)),
         0x04 => format!("target {}", count(4)),
+        0x05 => format!("transition {}", count(5)),
         0x0F => "the claim".to_string(),
         0x10 => format!("entry {entries}"),
         0x11 => format!("message {} of entry {entry}", messages + 1),
@@ -125,14 +150,16 @@ fn entry_words(program: &Program, entry: &Entry) -> String {
     text + &format!("; pointers {}", numbers(&entry.pointers[..processes]))
 }
 
-fn target_words(program: &Program, entries: &[Entry], target: usize) -> Option<String> {
+fn target_words(told: &Told, entries: &[Entry], target: usize) -> Option<String> {
+    let program = &told.program;
     let states = program.targets.get(target)?;
+    let from = told.origins.map_or(String::new(), |origins| origins.target(target));
     let there = entries.iter().filter(|entry| entry.states == *states).count();
     let list = match entries.len() {
         0 => "the list has no entry".to_string(),
         all => format!("{there} of the list's {all} entries have its states; -w shows one"),
     };
-    Some(format!("a configuration of target {target} (states {}) is above no entry; {list}", numbers(&states[..program.processes.min(4)])))
+    Some(format!("a configuration of target {target}{from} (states {}) is above no entry; {list}", told.states(&states[..program.processes.min(4)])))
 }
 
 // ---- runs
@@ -147,14 +174,16 @@ fn step_of(v: Verdict) -> Option<Step> {
 }
 
 /// `t1 (process 0 reads variable 0 as 1)`.
-fn step_words(program: &Program, machine: Machine, step: Step) -> Option<String> {
+fn step_words(told: &Told, machine: Machine, step: Step) -> Option<String> {
+    let mut from = String::new();
     let what = match (step, machine) {
         (Step::Serialise(p, v), Machine::Pws) => format!("the serialise of process {p} and variable {v}"),
         (Step::Serialise(p, v), Machine::Pso) => format!("the update of process {p} and variable {v}"),
         (Step::Update(p), Machine::Pws) => format!("the update of process {p}"),
         (Step::Update(p), Machine::Pso) => format!("the removal of process {p}'s mark"),
         (Step::Transition(number), _) => {
-            let t = program.transitions.get(usize::from(number))?;
+            let t = told.program.transitions.get(usize::from(number))?;
+            from = told.origins.map_or(String::new(), |origins| origins.transition(usize::from(number)));
             let p = t.process;
             match t.operation {
                 Operation::Nop => format!("process {p} goes from state {} to {}", t.from, t.to),
@@ -167,43 +196,47 @@ fn step_words(program: &Program, machine: Machine, step: Step) -> Option<String>
             }
         }
     };
-    Some(format!("{step} ({what})"))
+    Some(format!("{step}{from} ({what})"))
 }
 
-fn run_words(program: &Program, run: &Run, number: u64, place: usize) -> Option<String> {
+fn run_words(told: &Told, run: &Run, number: u64, place: usize) -> Option<String> {
+    let program = &told.program;
     let mut c = Configuration::start(program, run.machine, run.memory);
     for step in run.steps.get(..place)? {
         c.take(program, *step).ok()?;
     }
     if number == 13 {
-        return end_words(program, &c, place);
+        return end_words(told, &c, place);
     }
     let step = *run.steps.get(place)?;
     let before = c.clone();
     let cause = c.take(program, step).err().filter(|cause| cause.number() == number)?;
-    Some(format!("step {place}, {}: {}", step_words(program, run.machine, step)?, cause_words(program, &before, step, cause)?))
+    Some(format!("step {place}, {}: {}", step_words(told, run.machine, step)?, cause_words(told, &before, step, cause)?))
 }
 
 /// Where the run ended, and the target that most processes are in.
-fn end_words(program: &Program, c: &Configuration, steps: usize) -> Option<String> {
+fn end_words(told: &Told, c: &Configuration, steps: usize) -> Option<String> {
+    let program = &told.program;
     let processes = program.processes.min(4);
     let apart = |target: &[u8; 4]| (0..processes).filter(|p| target[*p] != c.states[*p]).collect::<Vec<_>>();
     let (number, target) = program.targets.iter().enumerate().min_by_key(|(_, target)| apart(target).len())?;
-    let wanted: Vec<String> = apart(target).iter().map(|p| format!("process {p} in state {}", target[*p])).collect();
+    let wanted: Vec<String> = apart(target).iter().map(|p| format!("process {p} in state {}", told.state(*p, target[*p]))).collect();
     let nearest = if program.targets.len() == 1 {
         "the target".to_string()
     } else {
-        format!("target {number}, the nearest of {},", program.targets.len())
+        let from = told.origins.map_or(String::new(), |origins| origins.target(number));
+        format!("target {number}{from}, the nearest of {},", program.targets.len())
     };
     let ended = if steps == 1 { "1 step".to_string() } else { format!("{steps} steps") };
-    Some(format!("after {ended} the local states are {}; {nearest} wants {}", numbers(&c.states[..processes]), wanted.join(" and ")))
+    Some(format!("after {ended} the local states are {}; {nearest} wants {}", told.states(&c.states[..processes]), wanted.join(" and ")))
 }
 
 fn queue_words(queue: &[Waiting]) -> String {
     queue.iter().map(|item| item.value.map_or("mark".to_string(), |value| value.to_string())).collect::<Vec<_>>().join(", ")
 }
 
-fn cause_words(program: &Program, c: &Configuration, step: Step, cause: Cause) -> Option<String> {
+fn cause_words(told: &Told, c: &Configuration, step: Step, cause: Cause) -> Option<String> {
+    let program = &told.program;
     let pso = c.machine == Machine::Pso;
     let p = match step {
         Step::Serialise(p, _) | Step::Update(p) => usize::from(p),
@@ -230,7 +263,7 @@ fn cause_words(program: &Program, c: &Configuration, step: Step, cause: Cause) -
         }
     };
     Some(match cause {
-        Cause::State { is, wanted } => format!("process {p} is in state {is}, and this starts in state {wanted}"),
+        Cause::State { is, wanted } => format!("process {p} is in state {}, and this starts in state {}", told.state(p, is), told.state(p, wanted)),
         Cause::Queue { variable } => {
             format!("the {held} of process {p} and variable {variable} must be empty, and has {}", waits(variable))
         }

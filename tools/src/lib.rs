@@ -14,6 +14,7 @@ pub mod options;
 pub mod output;
 pub mod outside;
 pub mod picture;
+pub mod registers;
 pub mod text;
 pub mod timeout;
 pub mod trace;

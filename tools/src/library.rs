@@ -1,4 +1,4 @@
-//! The judge, the figures and the drawings, as include/hrafnolt.h declares them. What that header asks of a caller is kept here: slices don't
+//! The judge, the front part for registers, the figures and the drawings, as include/hrafnolt.h declares them. What that header asks of a caller is kept here: slices don't
 //! overlap, and nobody else writes to them during a call, since Rust lends them.
 
 use std::fmt;
@@ -27,6 +27,7 @@ pub const SERIALISE: u64 = 0x21;
 pub const UPDATE: u64 = 0x22;
 
 pub const PROGRAM_FILE: u64 = 0;
+pub const EVIDENCE_FILE: u64 = 1;
 
 pub const WORK_LEAST: usize = 65_536;
 pub const ENTRIES_MOST: usize = 524_288;
@@ -39,6 +40,7 @@ pub struct Written {
 }
 
 pub const DOT_MOST: usize = 33_560;
+pub const PROGRAM_MOST: usize = 22_547;
 pub const STEPS_MOST: usize = 3 * 1024;
 
 #[repr(C)]
@@ -78,6 +80,7 @@ extern "C" {
     ) -> Verdict;
     fn hrafnolt_dot_write(steps: *const u8, steps_len: usize, out: *mut u8, out_len: usize) -> Written;
     fn hrafnolt_dot_read(text: *const u8, text_len: usize, out: *mut u8, out_len: usize) -> Written;
+    fn hrafnolt_registers(program: *const u8, program_len: usize, out: *mut u8, out_len: usize) -> Written;
     fn hrafnolt_add_safe(c: Collection, entries: u64) -> Collected;
     fn hrafnolt_add_other(c: Collection) -> Collected;
     fn hrafnolt_mean(c: Collection) -> Fraction;
@@ -131,6 +134,13 @@ pub fn dot_write(steps: &[u8]) -> Result<Vec<u8>, (u64, u64)> {
 pub fn dot_read(text: &[u8]) -> Result<Vec<u8>, (u64, u64)> {
     let mut out = vec![0; STEPS_MOST];
     let written = unsafe { hrafnolt_dot_read(text.as_ptr(), text.len(), out.as_mut_ptr(), out.len()) };
+    taken(written, out)
+}
+
+/// The program file that is written for a program with registers.
+pub fn registers(program: &[u8]) -> Result<Vec<u8>, (u64, u64)> {
+    let mut out = vec![0; PROGRAM_MOST];
+    let written = unsafe { hrafnolt_registers(program.as_ptr(), program.len(), out.as_mut_ptr(), out.len()) };
     taken(written, out)
 }
 

@@ -3,7 +3,7 @@
 
 use crate::contents::{self, Evidence, Machine, Operation, Program, Run, Step};
 use crate::machine::{Cause, Configuration, Done, Source};
-use crate::text::Names;
+use crate::text::{self, Names};
 
 /// The lines of a run, and whether every step was taken and the last local states are a target.
 #[derive(Clone, PartialEq, Eq, Debug)]
@@ -265,13 +265,19 @@ pub fn lines(program: &Program, names: &Names, run: &Run) -> Told {
 
 /// The trace of a file or a pair of files as the judge takes them, with names made up. Why there is none, in words: the
 /// file's fault, or that it holds no run.
-pub fn of_files(file: &[u8], evidence: Option<&[u8]>) -> Result<Told, String> {
+pub fn of_files(file: &[u8], evidence: Option<&[u8]>, registers: Option<&Program>) -> Result<Told, String> {
     let read = match evidence {
         None => contents::read_combined(file).map_err(|fault| fault.words),
         Some(evidence) => contents::read_pair(file, evidence).map_err(|(_, fault)| fault.words),
     };
     match read? {
-        (program, Evidence::Run(run)) => Ok(lines(&program, &Names::made_up(Some(&program)), &run)),
+        (program, Evidence::Run(run)) => {
+            let names = match registers {
+                Some(own) => text::registers::names(own, &Names::made_up(Some(own))),
+                None => Names::made_up(Some(&program)),
+            };
+            Ok(lines(&program, &names, &run))
+        }
         _ => Err(String::from("it holds no run")),
     }
 }

@@ -49,6 +49,7 @@ pub const REASONS: &[Reason] = &[
         "nothing waits to be serialised, or there is no newer message to update to; under claim 2 no value heads the buffer, or a mark does not head all of them",
         STEP,
     ),
+    reason(19, "programs with registers only: a process would need more than 32 local states", "the lowest such process"),
     reason(24, "figures only: no safe result to take the mean or variance of, or no result at all to take the share of", "none"),
     reason(25, "figures only: more than 4,096 results, a safe result of more than 524,288 entries, or a collection that no addition made", "none"),
     reason(26, "drawings only: the output is too short", "the bytes needed"),
@@ -57,6 +58,8 @@ pub const REASONS: &[Reason] = &[
         "drawings only: the text is no drawing",
         "offset of the first byte that no drawing has after the same beginning, or the text's length if it stops early",
     ),
+    reason(28, "programs with registers only: more than 256 transitions would be written", "the number of the 05 that the 257th comes from"),
+    reason(29, "programs with registers only: the output is too short", "the bytes needed"),
 ];
 
 pub fn says(number: u64) -> &'static str {

@@ -7,3 +7,6 @@ pub mod RecordLaws
 pub mod TargetLaws
 pub mod LoopLaws
 pub mod Answers
+pub mod ReadBack
+pub mod WrittenIsRead
+pub mod Sources

@@ -118,3 +118,20 @@ module _ (s : Shape) (v x y : ℕ) where
   pub test-low : operationNames Registers s 8 v x y ≡ true → x < 4
   unfolding namesOf
   test-low e = ltb-true x 4 (and-true (ltb x 4) (eqb y 0) (and-true (eqb v 0) (ltb x 4 && eqb y 0) (named-of 8 e) .1) .0)
+
+  -- what an operation names exists
+  variable-only : (ltb v (s .variables) && (eqb x 0 && eqb y 0)) ≡ true → v < s .variables
+  variable-only e = ltb-true v (s .variables) (and-true (ltb v (s .variables)) (eqb x 0 && eqb y 0) e .0)
+
+  abbrev Names : ℕ → Type 0
+  Names o = operationNames Registers s o v x y ≡ true → RegisterOperationOf (shapeOf s) (registerOperationOf o v x y)
+
+  pub named-operation : (o : ℕ) → Names o
+  unfolding registerOperationOf namesOf
+  named-operation =
+      of-nine Names (λ e. tt) (λ e. value-exists s v x y x (and-true (valueExists s v x) (eqb y 0) (named-of 1 e) .0))
+      (λ e. value-exists s v x y x (and-true (valueExists s v x) (eqb y 0) (named-of 2 e) .0)) (λ e. tt) (λ e. tt)
+      (λ e.
+      let r = and-true (valueExists s v x) (valueExists s v y) (named-of 5 e) in
+      let a = value-exists s v x y x (r .0) in
+      (a .0, a .1, value-exists s v x y y (r .1) .1)) (λ e. variable-only (named-of 6 e)) (λ e. variable-only (named-of 7 e)) test-low (λ o l e. absurd (none-beyond o l e))

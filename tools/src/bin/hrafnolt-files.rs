@@ -3,14 +3,15 @@
 //! options are wrong.
 
 use hrafnolt_tools::batch::{self, Progress};
-use hrafnolt_tools::explain::why;
+use hrafnolt_tools::explain::why_from;
 use hrafnolt_tools::figures::Figures;
 use hrafnolt_tools::input;
-use hrafnolt_tools::library::{self, Area, Lent, Verdict, PROGRAM_FILE};
+use hrafnolt_tools::library::{self, Area, Lent, Verdict, PROGRAM_FILE, TRANSITION};
 use hrafnolt_tools::names::{hex, json_name, json_string, quoted};
 use hrafnolt_tools::options::{self, choice, Choice, Word, NO_LETTER};
 use hrafnolt_tools::output::{misused, print_and_end, say, Output};
 use hrafnolt_tools::outside::{outside, Stop};
+use hrafnolt_tools::registers::{self, Origins};
 use hrafnolt_tools::trace;
 use hrafnolt_tools::timeout::{self, Failed, Other};
 use hrafnolt_tools::words;
@@ -26,6 +27,7 @@ const NAME: &str = "hrafnolt-files";
 
 const USAGE: &str = "usage: hrafnolt-files [OPTION].. FILE..
        hrafnolt-files [OPTION].. -p PROGRAM EVIDENCE..
+       hrafnolt-files [OPTION].. -g REGISTERS EVIDENCE..
        hrafnolt-files [OPTION].. --pairs LIST
 ";
 
@@ -39,8 +41,9 @@ const STATUS: &str = "
 Exit status: 0 if all were accepted, 1 if any was refused, 2 if a file can't be read.
 ";
 
-static CHOICES: [Choice; 15] = [
+static CHOICES: [Choice; 16] = [
     choice('p', "program", "PROGRAM", "judge evidence files against this program file; a refusal that stands in it ends\nin `in PROGRAM`"),
+    choice('g', "registers", "REGISTERS", "judge evidence files for this program with registers"),
     choice(NO_LETTER, "pairs", "LIST", "judge pairs: each line of LIST has a program file, a tab and an evidence file"),
     choice('r', "record", "", "under each refusal 1 to 7 the offending record, in hexadecimal digits"),
     choice('e', "explain", "", "under each refusal why it is refused, in a sentence"),
@@ -60,6 +63,7 @@ static CHOICES: [Choice; 15] = [
 #[derive(Default)]
 struct Options {
     program: Option<OsString>,
+    registers: Option<OsString>,
     pairs: Option<OsString>,
     files: Vec<OsString>,
     records: bool,
@@ -77,6 +81,24 @@ struct Options {
 struct Program {
     name: OsString,
     bytes: Result<Vec<u8>, String>,
+    registers: Option<Registers>,
+}
+
+/// Of a program with registers: its bytes are those that the library writes for it without them, or none if it is refused.
+struct Registers {
+    file: Vec<u8>,
+    refused: Option<(u64, u64)>,
+    origins: Option<Origins>,
+}
+
+impl Program {
+    fn with_registers(name: OsString, file: Vec<u8>) -> Program {
+        let written = library::registers(&file);
+        let refused = written.as_ref().err().copied();
+        let bytes = written.unwrap_or_default();
+        let origins = Origins::of(&file, &bytes);
+        Program { name, bytes: Ok(bytes), registers: Some(Registers { file, refused, origins }) }
+    }
 }
 
 /// A file to be judged, or one that is already known to be none.
@@ -84,6 +106,12 @@ struct Job {
     program: Option<Arc<Program>>,
     name: OsString,
     problem: Option<String>,
+}
+
+impl Job {
+    fn registers(&self) -> Option<&Registers> {
+        self.program.as_ref()?.registers.as_ref()
+    }
 }
 
 struct Answer {
@@ -138,6 +166,10 @@ impl Options {
             Ok(bytes) => bytes,
             Err(what) => return self.failed(job, &job.name, &what),
         };
+        if let Some((registers, refused)) = job.registers().and_then(|registers| Some((registers, registers.refused?))) {
+            let verdict = registers::verdict(&registers.file, refused, file.len());
+            return self.show(job, Lent { program: Some(&registers.file), file: &file }, verdict);
+        }
         let lent = Lent { program, file: &file };
         let verdict = match self.timeout {
             None => library::judge(lent, &mut room.area).ok_or(Failed::Other("no memory for a work area".to_string())),
@@ -155,8 +187,10 @@ impl Options {
         if self.quiet && !v.is_refused() {
             return answer;
         }
+        let refused = job.registers().and_then(|registers| registers.refused);
+        let origins = job.registers().and_then(|registers| registers.origins.as_ref());
         let in_program = match &job.program {
-            Some(program) if v.about_records() && v.record_file == PROGRAM_FILE => format!(" in {}", quoted(program.name.as_bytes())),
+            Some(program) if refused.is_some() || v.about_records() && v.record_file == PROGRAM_FILE => format!(" in {}", quoted(program.name.as_bytes())),
             _ => String::new(),
         };
         let mut shown = vec![("line", format!("{v}{in_program}"))];
@@ -165,11 +199,21 @@ impl Options {
             shown.push(("record", record.map_or("none, the file ends here".to_string(), |record| hex(record, " "))));
         }
         if self.explain && v.is_refused() {
-            shown.push(("why", why(lent, v)));
+            shown.push((
+                "why",
+                match (refused, lent.program) {
+                    (Some(refused), Some(file)) => registers::why(file, refused),
+                    _ => why_from(lent, v, origins),
+                },
+            ));
         }
         if self.outside && v.refuses(&[9, 11]) {
             match outside(lent, v, self.timeout.map(|limit| Instant::now() + limit)) {
-                Ok(words) => shown.push(("outside", words)),
+                Ok(words) => {
+                    let step = usize::try_from(v.step_first).ok().filter(|_| v.step_kind == TRANSITION);
+                    let from = step.zip(origins).map_or(String::new(), |(step, origins)| origins.transition(step));
+                    shown.push(("outside", words + &from));
+                }
                 Err(stop) => {
                     answer.errors = format!("{}: {}\n", quoted(job.name.as_bytes()), self.why_not(stop));
                 }
@@ -178,8 +222,8 @@ impl Options {
         if self.trace && !v.about_records() {
             // What holds no run has no trace.
             let told = match lent.program {
-                Some(program) => trace::of_files(program, Some(lent.file)),
-                None => trace::of_files(lent.file, None),
+                Some(program) => trace::of_files(program, Some(lent.file), origins.map(|origins| &origins.program)),
+                None => trace::of_files(lent.file, None, None),
             };
             shown.extend(told.ok().map(|told| ("trace", told.lines.join("\n"))));
         }
@@ -242,7 +286,10 @@ impl Options {
 fn named(job: &Job) -> String {
     let name = json_name("name", job.name.as_bytes());
     match &job.program {
-        Some(program) => format!("{name},{}", json_name("program", program.name.as_bytes())),
+        Some(program) => {
+            let key = if program.registers.is_some() { "registers" } else { "program" };
+            format!("{name},{}", json_name(key, program.name.as_bytes()))
+        }
         None => name,
     }
 }
@@ -266,6 +313,8 @@ fn read_options() -> Result<Options, i32> {
             "version" => return Err(print_and_end(&format!("{NAME} {}\n", hrafnolt_tools::version()))),
             "program" if options.program.is_some() => return Err(misuse("there is one program file, and -p was given twice".to_string())),
             "program" => options.program = Some(value),
+            "registers" if options.registers.is_some() => return Err(misuse("there is one program, and -g was given twice".to_string())),
+            "registers" => options.registers = Some(value),
             "pairs" if options.pairs.is_some() => return Err(misuse("--pairs was given twice".to_string())),
             "pairs" => options.pairs = Some(value),
             "record" => options.records = true,
@@ -280,11 +329,14 @@ fn read_options() -> Result<Options, i32> {
             _ => options.timeout = Some(Duration::from_secs(options::number(long, &value, 1 << 32).map_err(misuse)?)),
         }
     }
-    let inputs = options.files.iter().chain(&options.program).chain(&options.pairs).filter(|name| input::is_standard_input(name)).count();
+    let named = options.files.iter().chain(&options.program).chain(&options.registers).chain(&options.pairs);
+    let inputs = named.filter(|name| input::is_standard_input(name)).count();
     let wrong = if inputs > 1 {
         "standard input can be read once, and - was given twice"
     } else if options.pairs.is_some() && options.program.is_some() {
         "--pairs and -p don't go together"
+    } else if options.registers.is_some() && (options.program.is_some() || options.pairs.is_some()) {
+        "-g goes with neither -p nor --pairs"
     } else if options.pairs.is_some() != options.files.is_empty() {
         if options.files.is_empty() {
             "no file to judge"
@@ -307,11 +359,14 @@ fn jobs(options: &Options) -> Result<Vec<Job>, i32> {
         let bytes = input::read(list).map_err(|what| unread(list, what))?;
         return pairs(&bytes, options.null).map_err(|what| unread(list, what));
     }
-    let program = match &options.program {
+    let program = match options.program.as_ref().or(options.registers.as_ref()) {
         None => None,
         Some(name) => {
             let bytes = input::read(name).map_err(|what| unread(name, what))?;
-            Some(Arc::new(Program { name: name.clone(), bytes: Ok(bytes) }))
+            Some(Arc::new(match options.registers {
+                None => Program { name: name.clone(), bytes: Ok(bytes), registers: None },
+                Some(_) => Program::with_registers(name.clone(), bytes),
+            }))
         }
     };
     let mut jobs = Vec::with_capacity(options.files.len());
@@ -368,7 +423,7 @@ fn pairs(list: &[u8], null: bool) -> Result<Vec<Job>, String> {
     }
     let mut programs: HashMap<&[u8], Arc<Program>> = HashMap::new();
     let own = |name: &[u8]| OsString::from_vec(name.to_vec());
-    let read = |name: &[u8]| Arc::new(Program { name: own(name), bytes: input::read(&own(name)) });
+    let read = |name: &[u8]| Arc::new(Program { name: own(name), bytes: input::read(&own(name)), registers: None });
     Ok(names
         .into_iter()
         .map(|(program, evidence)| {

@@ -45,6 +45,8 @@ pub(super) enum End {
     /// At a claim or a mark.
     Claim,
     Either,
+    /// With its file, and its transitions are 05s.
+    Registers,
 }
 
 pub(super) struct Reader<'a> {
@@ -56,6 +58,10 @@ pub(super) struct Reader<'a> {
 
 fn judged(byte: u8) -> bool {
     !matches!(byte, 0x05 | 0x13..=0x15 | 0x30)
+}
+
+fn four_values(variable: usize, count: u8) -> String {
+    format!("with registers every variable has four values, but variable {variable} has {count}")
 }
 
 impl<'a> Reader<'a> {
@@ -147,10 +153,8 @@ impl<'a> Reader<'a> {
     }
 
     pub(super) fn program(&mut self, end: End) -> Result<Program, Fault> {
-        let wanted = match end {
-            End::File => "a target (04)",
-            _ => "the claim (0F)",
-        };
+        let file = matches!(end, End::File | End::Registers);
+        let wanted = if file { "a target (04)" } else { "the claim (0F)" };
         let ended = |reader: &Self| {
             let what = if end == End::Claim { "its claim (0F)" } else { "its first target (04)" };
             reader.fault(6, format!("the file ends before {what}"))
@@ -181,6 +185,9 @@ impl<'a> Reader<'a> {
             if !(1..=4).contains(count) {
                 return self.fault(3, format!("variable {v} has {count} values: there are 1 to 4"));
             }
+            if end == End::Registers && *count != 4 {
+                return self.fault(3, four_values(v, *count));
+            }
         }
         for (v, count) in values.iter().enumerate().skip(variables as usize) {
             self.check(*count == 0, || {
@@ -208,13 +215,13 @@ impl<'a> Reader<'a> {
             program.initial[p] = initial;
             self.passed(2);
         }
-        let mut first = None;
+        let mut first = (end == End::Registers).then_some(0x05);
         loop {
             let byte = match self.peek() {
                 None if !program.targets.is_empty() && end != End::Claim => break,
                 None => return ended(self),
-                Some(0x0f) if !program.targets.is_empty() && end != End::File => break,
-                Some(0x30) if !program.targets.is_empty() && !self.judge => break,
+                Some(0x0f) if !program.targets.is_empty() && !file => break,
+                Some(0x30) if !program.targets.is_empty() && !self.judge && end != End::Registers => break,
                 Some(byte) => byte,
             };
             if self.judge && !judged(byte) {
@@ -229,11 +236,7 @@ impl<'a> Reader<'a> {
                     if byte == 0x05 && program.transitions.is_empty() {
                         for v in 0..program.variables {
                             if program.values[v] != 4 {
-                                let words = format!(
-                                    "with registers every variable has four values, but variable {v} has {}",
-                                    program.values[v]
-                                );
-                                return Err(Fault { number: 3, place: 0, words });
+                                return Err(Fault { number: 3, place: 0, words: four_values(v, program.values[v]) });
                             }
                         }
                     }
@@ -306,9 +309,10 @@ impl<'a> Reader<'a> {
                     self.passed(4);
                 }
                 other if program.targets.is_empty() => {
-                    return self.refuse_kind(other, "a transition (03) or a target (04)")
+                    let transition = if end == End::Registers { "05" } else { "03" };
+                    return self.refuse_kind(other, &format!("a transition ({transition}) or a target (04)"));
                 }
-                other => return self.refuse_kind(other, if end == End::File { "a target (04)" } else { wanted }),
+                other => return self.refuse_kind(other, wanted),
             }
         }
         program.registers = first == Some(0x05);

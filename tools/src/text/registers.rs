@@ -12,6 +12,36 @@ pub struct TooLarge {
     pub words: String,
 }
 
+/// The register's value before and after a transition; none in a process without a register.
+pub type Held = Option<(u8, u8)>;
+
+/// What a transition becomes: an operation for each register value that it can start from, and each value it can read.
+fn becomes(operation: Operation, with: bool) -> Vec<(Held, Operation)> {
+    if !with {
+        return vec![(None, operation)];
+    }
+    let from = |r: u8| match operation {
+        Operation::Load { variable } => {
+            (0..4).map(|x| (Some((r, x)), Operation::Read { variable, value: x })).collect()
+        }
+        Operation::Save { variable } => vec![(Some((r, r)), Operation::Write { variable, value: r })],
+        Operation::Test { value } if value == r => vec![(Some((r, r)), Operation::Nop)],
+        Operation::Test { .. } => Vec::new(),
+        operation => vec![(Some((r, r)), operation)],
+    };
+    (0..4).flat_map(from).collect()
+}
+
+/// For each transition that is written, the number of the one that it comes from, and its register.
+pub fn sources(program: &Program) -> Vec<(usize, Held)> {
+    let has: Vec<bool> = (0..4).map(|p| program.has_register(p)).collect();
+    let of = |(number, t): (usize, &Transition)| {
+        let with = has.get(t.process as usize).copied().unwrap_or(false);
+        becomes(t.operation, with).into_iter().map(move |(held, _)| (number, held)).collect::<Vec<_>>()
+    };
+    program.transitions.iter().enumerate().flat_map(of).collect()
+}
+
 /// The program without registers. Local states are pairs, numbered by state and then by register; each transition
 /// becomes one for each register value that it can start from, then each value it can read.
 pub fn without(program: &Program) -> Result<Program, TooLarge> {
@@ -31,23 +61,9 @@ pub fn without(program: &Program) -> Result<Program, TooLarge> {
     for (number, t) in program.transitions.iter().enumerate() {
         let process = t.process as usize;
         let with = has.get(process).copied().unwrap_or(false);
-        let mut add = |from: u8, operation: Operation, to: u8| {
-            out.transitions.push(Transition { process: t.process, from, operation, to })
-        };
-        if !with {
-            add(t.from, t.operation, t.to);
-        }
-        for r in 0..if with { 4 } else { 0 } {
-            let (from, to) = (4 * t.from + r, 4 * t.to + r);
-            match t.operation {
-                Operation::Load { variable } => {
-                    (0..4).for_each(|x| add(from, Operation::Read { variable, value: x }, 4 * t.to + x))
-                }
-                Operation::Save { variable } => add(from, Operation::Write { variable, value: r }, to),
-                Operation::Test { value } if value == r => add(from, Operation::Nop, to),
-                Operation::Test { .. } => {}
-                operation => add(from, operation, to),
-            }
+        for (held, operation) in becomes(t.operation, with) {
+            let (from, to) = held.map_or((t.from, t.to), |(r, x)| (4 * t.from + r, 4 * t.to + x));
+            out.transitions.push(Transition { process: t.process, from, operation, to });
         }
         if out.transitions.len() > TRANSITIONS {
             let words = format!("the transitions become more than {TRANSITIONS}");

@@ -1,0 +1,13 @@
+pub mod Standing
+pub mod Fine
+pub mod ProgramWritten
+pub mod Placed
+pub mod RunWritten
+pub mod EntryWritten
+pub mod ListWritten
+pub mod OneOrder
+pub mod ProgramRead
+pub mod EvidenceRead
+pub mod RunRead
+pub mod ListRead
+pub mod Within

@@ -1,0 +1,4 @@
+pub mod Written
+pub mod ProgramPart
+pub mod Runs
+pub mod Lists
