@@ -155,7 +155,7 @@ module _ (R : RegisterProgram) (I : RegisterWellFormed R) (ts : List (ℕ → �
   W = written R
 
   none-visited : NoneVisited W (writtenTargets R ts) → NoneVisitedWithRegisters R ts
-  none-visited N = record { pws = machine.register-safety R I ts quiet; pso = psoMachine.register-pso-safety R I ts quiet }
+  none-visited N = record { pws = machine.safe-if-written R I ts quiet; pso = psoMachine.register-pso-safety R I ts quiet }
     where
       quiet : (d : Configuration) → Start W d → (us : List Step) (e : Configuration) → Visited W d us e
           → (k : ℕ) → k < length (writtenTargets R ts) → InTarget (R .shape) (getD (writtenTargets R ts) k (λ p. 0)) e → ⊥

@@ -32,9 +32,9 @@ use Rattle.register_machine.specs.Correspondence.{
   StartsExist,
   InWritten,
   Correspondence,
-  RegisterSafety,
+  SafeIfWritten,
   ReachedWritten,
-  RegisterReachability,
+  ReachedAsWritten,
   ReachedTarget,
   Origins,
 }
@@ -318,14 +318,14 @@ module _ (R : RegisterProgram) (I : RegisterWellFormed R) where
             });
       }
 
-pub register-reachability : RegisterReachability
-register-reachability R I memory target = (
+pub reached-as-written : ReachedAsWritten
+reached-as-written R I memory target = (
   λ w. visits R I target memory (w .first) (w .last) (w .steps) (w .starts) (takes-visits R I (w .takes)) (w .reached),
   reaches R I target memory,
 )
 
-pub register-safety : RegisterSafety
-register-safety R I targets safe memory c s ss e v k l h =
+pub safe-if-written : SafeIfWritten
+safe-if-written R I targets safe memory c s ss e v k l h =
     let t = getD targets k (λ p. 0) in
     let w = visits R I t memory c e ss s v h in
     let r = w .reached in

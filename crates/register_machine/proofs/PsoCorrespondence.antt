@@ -40,7 +40,7 @@ use Rattle.register_machine.specs.PsoCorrespondence.{
 }
 use Rattle.register_machine.proofs.Lists.{joined-at, joined-below, found}
 use Rattle.register_machine.proofs.Stepping.{written-well-formed}
-use Rattle.register_machine.proofs.Correspondence.{target-there, target-back, register-reachability}
+use Rattle.register_machine.proofs.Correspondence.{target-there, target-back, reached-as-written}
 use Rattle.register_machine.proofs.PsoStepping.{PsoRanged, configuration-eq, step-there, step-back, step-ranged}
 
 -- a process that does not exist has no register
@@ -175,7 +175,7 @@ pso-correspondence R I = (
 pub register-same-reachability : RegisterSameReachability
 register-same-reachability R I memory target = (
   λ w.
-      let r = register-reachability R I memory target .0 w in
+      let r = reached-as-written R I memory target .0 w in
       reaches R I target memory
       (record {
         number = r .number;
@@ -184,7 +184,7 @@ register-same-reachability R I memory target = (
       }),
   λ w.
       let r = takes-to R I target memory (w .first) (w .last) (w .steps) (w .starts) (w .takes) (w .reached) in
-      register-reachability R I memory target .1
+      reached-as-written R I memory target .1
       (record {
         number = r .number;
         exists = r .exists;

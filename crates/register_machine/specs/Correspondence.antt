@@ -113,8 +113,8 @@ Correspondence = (R : RegisterProgram) → RegisterWellFormed R → StartsCorres
 -- ---- what the judge's answers for the written program say of the program with registers
 
 -- if no run of the written program visits a written target, no run of the register machine visits a target
-abbrev pub RegisterSafety : Type 0
-RegisterSafety =
+abbrev pub SafeIfWritten : Type 0
+SafeIfWritten =
     (R : RegisterProgram) → RegisterWellFormed R → (targets : List (ℕ → ℕ))
     → ((d : Configuration) → Start (written R) d → (us : List Step) (e : Configuration) → Visited (written R) d us e
     → (k : ℕ) → k < length (writtenTargets R targets) → InTarget (R .shape) (getD (writtenTargets R targets) k (λ p. 0)) e → ⊥)
@@ -127,8 +127,8 @@ pub record ReachedWritten (R : RegisterProgram) (memory : List ℕ) (target : �
   pub exists : number < length (targetBecomes R target)
   pub reached : PwsReachable (written R) memory (getD (targetBecomes R target) number (λ p. 0))
 
-abbrev pub RegisterReachability : Type 0
-RegisterReachability =
+abbrev pub ReachedAsWritten : Type 0
+ReachedAsWritten =
     (R : RegisterProgram) → RegisterWellFormed R → (memory : List ℕ) (target : ℕ → ℕ)
     → RegisterReachable R memory target ↔ ReachedWritten R memory target
 
