@@ -82,27 +82,32 @@ pub record Reaches (P : Program) (ts : List (ℕ → ℕ)) (m : List ℕ) (ss : 
   pub met : InTarget (P .shape) (target ts k) end
   pub lower : (j : ℕ) → j < k → InTarget (P .shape) (target ts j) end → ⊥
 
--- `Answered x area r` is what the contracts of `hrafnolt_judge` and `hrafnolt_judge_pair` (crates/exports) say of their result r. Nothing here names
--- a list of entries, an order of configurations, or how it is decided.
+-- What the kinds say. Nothing here names a list of entries, an order of configurations, or how it is decided.
 
 -- kind 0
-abbrev pub SafeForC : Type 0
-SafeForC = (x : reading.Input) (area : ℕ) (r : declared.Verdict) → Answered x area r → r .kind ≡ 0 → ProgramIsRead x × NoneVisited (programIn x) (targetsIn x)
+abbrev pub SaysSafe : reading.Input → Type 0
+SaysSafe x = ProgramIsRead x × NoneVisited (programIn x) (targetsIn x)
 
--- kind 1: the steps are a run of the PWS machine, with as many steps as `first` says, to the target of number `second`; and some run of the PSO
--- machine, from the same memory, reaches that target
-abbrev pub ReachableForC : Type 0
-ReachableForC =
-    (x : reading.Input) (area : ℕ) (r : declared.Verdict) → Answered x area r → r .kind ≡ 1
-    → ProgramIsRead x × StepsAreRead x (r .first) × Reaches (programIn x) (targetsIn x) (memoryIn x) (stepsIn x (r .first)) (r .first) (r .second)
-    × PsoReachable (programIn x) (memoryIn x) (target (targetsIn x) (r .second))
+-- kind 1: the steps, n of them, are a run of the PWS machine to the target of number k, and some run of the PSO machine, from the same memory,
+-- reaches that target
+abbrev pub SaysReachable : reading.Input → ℕ → ℕ → Type 0
+SaysReachable x n k =
+    ProgramIsRead x × StepsAreRead x n × Reaches (programIn x) (targetsIn x) (memoryIn x) (stepsIn x n) n k
+    × PsoReachable (programIn x) (memoryIn x) (target (targetsIn x) k)
 
 -- kind 3: the steps are themselves such a run of the PSO machine
+abbrev pub SaysPso : reading.Input → ℕ → ℕ → Type 0
+SaysPso x n k = ProgramIsRead x × StepsAreRead x n × PsoReached (programIn x) (memoryIn x) (targetsIn x) (psoSteps (stepsIn x n)) n k
+
+-- `Answered x area r` is what the contracts of `hrafnolt_judge` and `hrafnolt_judge_pair` (crates/exports) say of their result r
+abbrev pub SafeForC : Type 0
+SafeForC = (x : reading.Input) (area : ℕ) (r : declared.Verdict) → Answered x area r → r .kind ≡ 0 → SaysSafe x
+
+abbrev pub ReachableForC : Type 0
+ReachableForC = (x : reading.Input) (area : ℕ) (r : declared.Verdict) → Answered x area r → r .kind ≡ 1 → SaysReachable x (r .first) (r .second)
+
 abbrev pub PsoForC : Type 0
-PsoForC =
-    (x : reading.Input) (area : ℕ) (r : declared.Verdict) → Answered x area r → r .kind ≡ 3
-    → ProgramIsRead x × StepsAreRead x (r .first)
-    × PsoReached (programIn x) (memoryIn x) (targetsIn x) (psoSteps (stepsIn x (r .first))) (r .first) (r .second)
+PsoForC = (x : reading.Input) (area : ℕ) (r : declared.Verdict) → Answered x area r → r .kind ≡ 3 → SaysPso x (r .first) (r .second)
 
 -- ---- what the bytes give
 

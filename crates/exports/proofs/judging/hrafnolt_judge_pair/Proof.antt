@@ -1,4 +1,5 @@
 use borrow.Author.Needs.{needs}
+use Rattle.demands.proofs.ForC.{safe-for-c, reachable-for-c, pso-for-c}
 use Rattle.exports.proofs.judging.hrafnolt_judge_pair.Statement.{statement}
 use Rattle.exports.proofs.judging.hrafnolt_judge_pair.Tie as tie
 
@@ -9,7 +10,9 @@ same-length : tie.Need-same-length
 same-length c = search needs
 
 returns : tie.Need-returns
-returns c = search needs
+returns c =
+    let a = c .before .before .judge-pair .ensures .0 in
+    (a, (λ e. safe-for-c _ _ _ a e, (λ e. reachable-for-c _ _ _ a e, (λ e. pso-for-c _ _ _ a e, (search needs, search needs)))))
 
 pub hrafnolt-judge-pair-spec : {M : Type 1} → statement M
 hrafnolt-judge-pair-spec = tie.close (tie.spec judge-pair-requires same-length returns)
