@@ -4,6 +4,7 @@ use Rattle.drawing.specs.declared.read.Size.the-variants.{Bytes, Outside
 use Rattle.drawing.specs.Reading.{endSize, wayPlace}
 use mathlib.Core.Path.{_≡_, sym, ap, _∙_}
 use Prim.Native.Nat.{_+_}
+use lib.ListN.{length}
 use native.Mathlib.Omega.{arith}
 use borrow.Author.Needs.{needs}
 use Rattle.drawing.proofs.read.end_size.Statement.{statement}
@@ -30,11 +31,11 @@ returns c = rw (sym (c .before .before .before .expect .ensures) ∙ c .before .
 
 returns-2 : tie.Need-returns-2
 unfolding endSize recordsOf
-returns-2 c = rw (sym (c .before .before .before .before .expect .ensures) ∙ c .before .before .way .given .1, lt-ltb _ _ (c .if1 .taken))
+returns-2 c = rw (sym (c .before .before .before .before .expect .ensures) ∙ c .before .before .way .given .1, lt-ltb (c .before .before .way .given .0 .0) (length (c .before .before .before .before .before .before .before .args .text .now)) (omega (arith, c .if1 .taken)))
 
 returns-3 : tie.Need-returns-3
 unfolding endSize recordsOf
-returns-3 c = let z : c .before .before .before .before .before .before .before .args .total ≡ c .before .before .before .before .before .before .before .args .total + 0 = omega arith in rw (sym (c .before .before .before .before .expect .ensures) ∙ c .before .before .way .given .1, le-ltb _ _ (c .if1 .left)) (ap Bytes z)
+returns-3 c = let z : c .before .before .before .before .before .before .before .args .total ≡ c .before .before .before .before .before .before .before .args .total + 0 = omega arith in rw (sym (c .before .before .before .before .expect .ensures) ∙ c .before .before .way .given .1, le-ltb (c .before .before .way .given .0 .0) (length (c .before .before .before .before .before .before .before .args .text .now)) (omega (arith, c .if1 .left))) (ap Bytes z)
 
 pub end-size-spec : {M : Type 1} → statement M
 end-size-spec =

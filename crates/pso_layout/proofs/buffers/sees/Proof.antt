@@ -1,4 +1,6 @@
 use borrow.Author.Tests.{lt-ltb, le-ltb}
+use mathlib.Core.Path.{_≡_}
+use lib.ListN.{getD}
 use Rattle.pso_layout.specs.Layout.{seesIn}
 use borrow.Author.Needs.{needs}
 use Rattle.pso_layout.proofs.buffers.sees.Statement.{statement}
@@ -18,8 +20,8 @@ sees-spec = tie.close (tie.spec
     -- item-at-requires
     (λ c κs. tt)
     -- returns
-    (λ c. rw (← (c .before .before .before .before .before .before .queue-number .ensures), ← (c .before .before .before .of-queues .ensures), ← (c .before .before .of-queues2 .ensures), lt-ltb _ _ (c .before .if1 .taken)) (c .item-at .ensures))
+    (λ c. let l : c .before .before .before .of-queues .result ≡ getD (c .before .before .before .before .before .before .before .before .args .run .lasts) (c .before .before .before .before .before .before .queue-number .result) 0 = c .before .before .before .of-queues .ensures in rw (← (c .before .before .before .before .before .before .queue-number .ensures), ← l, ← (c .before .before .of-queues2 .ensures), lt-ltb _ _ (c .before .if1 .taken)) (c .item-at .ensures))
     -- of-four-requires
     (λ c κs. tt)
     -- returns-2
-    (λ c. rw (← (c .before .before .before .before .before .before .before .queue-number .ensures), ← (c .before .before .before .before .of-queues .ensures), ← (c .before .before .before .of-queues2 .ensures), le-ltb _ _ (c .before .before .if1 .left)) (c .of-four .ensures)))
+    (λ c. let l : c .before .before .before .before .of-queues .result ≡ getD (c .before .before .before .before .before .before .before .before .before .args .run .lasts) (c .before .before .before .before .before .before .before .queue-number .result) 0 = c .before .before .before .before .of-queues .ensures in rw (← (c .before .before .before .before .before .before .before .queue-number .ensures), ← l, ← (c .before .before .before .of-queues2 .ensures), le-ltb _ _ (c .before .before .if1 .left)) (c .of-four .ensures)))
