@@ -19,7 +19,7 @@ build: prove
 # Nothing is proved again if no crate has changed.
 prove:
 	@[ -e target/bin/hrafnolt ] || .ci/first
-	@$(proved) 2>&1 | cmp -s - target/proved 2>/dev/null || { .ci/prove hrafnolt exports.a && $(MAKE) --no-print-directory mark; }
+	@$(proved) | cmp -s - target/proved 2>/dev/null || { .ci/prove hrafnolt exports.a && $(MAKE) --no-print-directory mark; }
 
 # What was proved, so that `make install` knows whether anything has changed since.
 mark:
