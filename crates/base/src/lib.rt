@@ -1,4 +1,6 @@
 // The prelude: bytes and numbers of lent slices, read totally; tests and places of numbers. Every other crate may stand on it.
 
+#![tactic(auto)]
+
 pub mod bytes;
 pub mod places;

@@ -1,5 +1,7 @@
 // A dispatcher over the judge (document 02, N9): the units of a case, and the answer of a turn by what its unit gave. What a turn means stands in
 // dispatcher_theory/specs; places are in the crate dispatcher_places.
+#![tactic(auto)]
+
 ghost use Rattle.std.specs.Prelude.{◌≡◌, ◌<◌};
 ghost use Rattle.dispatcher_theory.specs.Places.{turned_of};
 ghost use Rattle.dispatcher_theory.specs.Histories.{TurnFits};

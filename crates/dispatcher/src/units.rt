@@ -10,7 +10,7 @@ use run_step::last_test::RunAnswer;
 use verdict::answer::{Answer, Verdict};
 
 // The case ended with this answer, or its place holds this now.
-#[derive(Drop)]
+#[derive(Clone, Copy)]
 pub struct Answered {
     pub ended: bool,
     pub answer: Answer,
@@ -18,7 +18,7 @@ pub struct Answered {
 }
 
 // The same, with the verdict as C has it.
-#[derive(Drop)]
+#[derive(Clone, Copy)]
 pub struct Stepped {
     pub ended: bool,
     pub verdict: Verdict,

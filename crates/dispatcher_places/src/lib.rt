@@ -1,5 +1,7 @@
 // The places of a dispatcher (document 02, N9): the round over the open ones, opening and withdrawing. What they mean stands in
 // dispatcher_theory/specs/Places.antt. Nothing here reads a file.
+#![tactic(auto)]
+
 ghost use Rattle.std.specs.Prelude.{◌≡◌, true, ◌++◌, ◌≤◌, ◌<◌, length, drop, replicate};
 ghost use Rattle.verdict.specs.Judge.{used_of, area_after};
 ghost use Rattle.dispatcher_theory.specs.Places.{no_replay, no_pso_replay, place_for, place_at, is_open, due_of, lowest_free, open_of, withdraw_of, withdrawn_area, served};

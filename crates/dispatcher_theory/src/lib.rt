@@ -1,5 +1,7 @@
 // A dispatcher with eight places over the judge (document 02, N9): what its calls are given and hand back. There is no code here: specs/ has what a
 // dispatcher does and the statements over histories of calls, proofs/ the proofs. The crate `dispatcher` has the code.
+#![tactic(auto)]
+
 use file_contents::evidence::Contents;
 use pso_replay::units::PsoReplay;
 use run_replay::units::Replay;
@@ -7,7 +9,7 @@ use verdict::answer::Verdict;
 
 // A place. All 0 is a free one.
 #[repr(C)]
-#[derive(Drop)]
+#[derive(Clone, Copy)]
 pub struct Place {
     // 0 free, 1 a combined file, 2 a program file and an evidence file
     pub taken: u64,
@@ -25,7 +27,7 @@ pub struct Place {
 
 // All 0 is the empty dispatcher. Behind the place last served comes `next`, from which the round goes on: 0 before any was served.
 #[repr(C)]
-#[derive(Drop)]
+#[derive(Clone, Copy)]
 pub struct Dispatcher {
     pub next: u64,
     pub places: [Place; 8],
@@ -33,7 +35,7 @@ pub struct Dispatcher {
 
 // number 0, and the place taken; or 20, and 0.
 #[repr(C)]
-#[derive(Drop)]
+#[derive(Clone, Copy)]
 pub struct Opened {
     pub number: u64,
     pub place: u64,
@@ -42,7 +44,7 @@ pub struct Opened {
 
 // number 0: nothing is open. 1: a unit of this place was done. 2: its case ended, with this verdict. The place is 0 with 0, the verdict all 0 with 0 and 1.
 #[repr(C)]
-#[derive(Drop)]
+#[derive(Clone, Copy)]
 pub struct Turned {
     pub number: u64,
     pub place: u64,
@@ -52,7 +54,7 @@ pub struct Turned {
 
 // number 0, and the place freed; or 21, and 0.
 #[repr(C)]
-#[derive(Drop)]
+#[derive(Clone, Copy)]
 pub struct Withdrawn {
     pub number: u64,
     pub place: u64,
@@ -61,7 +63,7 @@ pub struct Withdrawn {
 
 // Units done and units in all of a case: all 0 where no case is open, and `all` is 0 before its records are read.
 #[repr(C)]
-#[derive(Drop)]
+#[derive(Clone, Copy)]
 pub struct Progress {
     pub done: u64,
     pub all: u64,

@@ -7,7 +7,7 @@ use base::bytes::{both, byte_at, wide};
 use machine_pws::Step;
 
 // An edge's step and the place after it, or where something else stands.
-#[derive(Drop)]
+#[derive(Clone, Copy)]
 pub enum EdgeRead {
     Edge { step: Step, next: usize },
     NoEdge(usize),

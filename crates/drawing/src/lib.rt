@@ -1,5 +1,7 @@
 // Runs as drawings (request N12): step records to DOT text, and the text back to step records.
 
+#![tactic(auto)]
+
 mod label;
 pub mod put;
 mod read;
@@ -12,7 +14,7 @@ pub use write::dot_write;
 
 // number 0: value bytes were written; else the refusal's number and place.
 #[repr(C)]
-#[derive(Drop)]
+#[derive(Clone, Copy)]
 pub struct Written {
     pub number: u64,
     pub value: u64,

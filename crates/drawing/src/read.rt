@@ -13,14 +13,14 @@ use crate::word::{Way, expect, has, way_place};
 use machine_pws::Step;
 
 // How many edges there are to be and where they begin, or where no node's line goes on.
-#[derive(Drop)]
+#[derive(Clone, Copy)]
 pub enum NodesRead {
     Nodes { edges: usize, at: usize },
     NoNodes(usize),
 }
 
 // How many bytes the step records take, or where the text is wrong.
-#[derive(Drop)]
+#[derive(Clone, Copy)]
 pub enum Size {
     Bytes(usize),
     Outside(usize),

@@ -3,7 +3,7 @@ ghost use Rattle.std.specs.Prelude.{◌≡◌};
 ghost use Rattle.drawing.specs.Reading.{has_byte, expect_at, way_place};
 
 // The place after what was expected, or where it is missing.
-#[derive(Drop)]
+#[derive(Clone, Copy)]
 pub enum Way {
     On(usize),
     Stuck(usize),

@@ -4,6 +4,8 @@
 // Nothing overflows 64 bits. A plausible collection has at most 4,096 = 2^12 results, of at most 524,288 = 2^19 entries each: the sum is at
 // most 2^31, the squares add up to at most 2^50, and both products of the variance are at most 2^62. Every other collection is refused before
 // it is used, and its own test goes from the counts up, so that each product is made of numbers that are already known to be small.
+#![tactic(auto)]
+
 ghost use Rattle.std.specs.Prelude.{◌≡◌, ◌<◌};
 ghost use Rattle.figures.specs.Collections.{plausible, has_room, add_safe, add_other, join, gcd, reduced, mean_of, variance_of, share_of};
 
@@ -13,7 +15,7 @@ const MOST_ENTRIES: u64 = 524288;
 
 // Counts of results: all, the safe ones, their entries, the squares of their entries. All 0 is the empty collection.
 #[repr(C)]
-#[derive(Drop)]
+#[derive(Clone, Copy)]
 pub struct Collection {
     pub results: u64,
     pub safe: u64,
@@ -23,7 +25,7 @@ pub struct Collection {
 
 // number 0, and the collection after an addition; or 25, and the collection as it was.
 #[repr(C)]
-#[derive(Drop)]
+#[derive(Clone, Copy)]
 pub struct Collected {
     pub number: u64,
     pub collection: Collection,
@@ -31,7 +33,7 @@ pub struct Collected {
 
 // number 0, and a fraction in lowest terms; or 24 or 25, then 0 and 0.
 #[repr(C)]
-#[derive(Drop)]
+#[derive(Clone, Copy)]
 pub struct Fraction {
     pub number: u64,
     pub numerator: u64,

@@ -1,5 +1,7 @@
 // What a file holds, read again by number: entries by the list of their offsets, transitions and targets by their places. Each function is
 // total on any bytes and any places; for a file that was read they give what the reading says (proofs/Again).
+#![tactic(auto)]
+
 ghost use Rattle.std.specs.Prelude.{◌≡◌, ℕ, ◌+◌, ◌*◌, ◌≤◌, ◌<◌, min, length, get_or, eqb};
 ghost use Rattle.file_again.specs.Again.{offset_at, cube_at, place_in, transition_of, target_of};
 

@@ -8,7 +8,7 @@ use file_records::record::is_kind;
 use machine_pws::Message;
 
 // Waiting values, oldest first.
-#[derive(Drop)]
+#[derive(Clone, Copy)]
 pub struct Queue {
     pub values: [u8; 9],
     pub count: u8,
@@ -17,7 +17,7 @@ pub struct Queue {
 // A configuration whose values may be 255, for any value: four local states and pointers, the queue of process p and variable v at
 // 4 p + v, and the messages, oldest first. There is room for one message and one waiting value more than an entry has, and for the
 // messages of a shape.
-#[derive(Drop)]
+#[derive(Clone, Copy)]
 pub struct Cube {
     pub states: [u8; 4],
     pub pointers: [u8; 4],
@@ -84,7 +84,7 @@ fn loads_waiting(file: &[u8], at: usize) -> bool
 }
 
 // The queues and messages of an entry, so far: the proofs speak of them.
-#[derive(Drop)]
+#[derive(Clone, Copy)]
 pub struct Loaded {
     pub queues: [Queue; 16],
     pub messages: [Message; 20],

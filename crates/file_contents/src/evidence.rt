@@ -5,7 +5,7 @@ ghost use Rattle.file_contents.specs.EvidencePart.{entries_allowed};
 use file_records::program::{Checked, Program, Row};
 
 // What a file holds: its program, its claim, and its entries (claim 0), or the memory that a run starts from and its steps (claims 1 and 2).
-#[derive(Drop)]
+#[derive(Clone, Copy)]
 pub struct Contents {
     pub program: Program,
     pub claim: u8,
@@ -14,14 +14,14 @@ pub struct Contents {
 }
 
 // The part of what is judged that a refused record stands in.
-#[derive(Drop)]
+#[derive(Clone, Copy)]
 pub enum Part {
     InProgram,
     InEvidence,
 }
 
 // The part is that of the refusal, where there is one.
-#[derive(Drop)]
+#[derive(Clone, Copy)]
 pub struct Reading {
     pub answer: Checked,
     pub part: Part,

@@ -113,7 +113,7 @@ fn at_boundary(file: &[u8], at: usize) -> bool
 }
 
 // How much of the latest entry was read: its messages, and the waiting values of process p and variable v at 4 p + v.
-#[derive(Drop)]
+#[derive(Clone, Copy)]
 pub struct Tally {
     pub messages: usize,
     pub waiting: [u8; 16],
@@ -177,7 +177,7 @@ fn body_number(file: &[u8], at: usize, shape: Shape, tally: Tally) -> u8
 }
 
 // Where an entry ends, or why it is refused.
-#[derive(Drop)]
+#[derive(Clone, Copy)]
 pub enum EntryEnd {
     Next(usize),
     Bad(Refusal),

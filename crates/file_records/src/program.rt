@@ -5,35 +5,35 @@ ghost use Rattle.file_records.specs.Records.{value_count};
 ghost use Rattle.file_records.specs.ProgramPart.{refusal_of, stop_of, unless_end};
 
 // What a program is written as: the judge's own 03s, or the 05s of a program with registers (document 02, N8).
-#[derive(Drop)]
+#[derive(Clone, Copy)]
 pub enum Format {
     Plain,
     Registers,
 }
 
 // Why a file is refused: document 01's number, and the place.
-#[derive(Drop)]
+#[derive(Clone, Copy)]
 pub struct Refusal {
     pub number: u8,
     pub place: usize,
 }
 
 // What is said of a record.
-#[derive(Drop)]
+#[derive(Clone, Copy)]
 pub enum Checked {
     Fine,
     Refused(Refusal),
 }
 
 // How many records of a kind stand in a row, or why one of them is refused.
-#[derive(Drop)]
+#[derive(Clone, Copy)]
 pub enum Counted {
     Records(usize),
     Stopped(Refusal),
 }
 
 // Kind 01. Each of four variables has its number of values, 0 where the shape does not have the variable.
-#[derive(Drop)]
+#[derive(Clone, Copy)]
 pub struct Shape {
     pub processes: usize,
     pub variables: usize,
@@ -41,14 +41,14 @@ pub struct Shape {
 }
 
 // Records of one kind and size in a row: where the first stands, and how many there are.
-#[derive(Drop)]
+#[derive(Clone, Copy)]
 pub struct Row {
     pub at: usize,
     pub count: usize,
 }
 
 // Where the program part's records stand, and where the claim does (in a program file, its end).
-#[derive(Drop)]
+#[derive(Clone, Copy)]
 pub struct Program {
     pub shape: Shape,
     pub states: [u8; 4],
@@ -58,7 +58,7 @@ pub struct Program {
     pub claim: usize,
 }
 
-#[derive(Drop)]
+#[derive(Clone, Copy)]
 pub struct ProgramRead {
     pub answer: Checked,
     pub program: Program,

@@ -1,4 +1,6 @@
 // Reads a file from standard input to its end, judges it, and prints one line (document 01).
+#![tactic(auto)]
+
 ghost use Rattle.std.specs.Prelude.{◌≡◌, ◌++◌, ◌∷◌, ◌+◌, ◌≤◌, length, take};
 ghost use Rattle.io.specs.Counts.{IsPrefixLen};
 ghost use Rattle.verdict.specs.Judge.{Verdict as Judge-as-Verdict};

@@ -1,4 +1,6 @@
 // The whole judgement (document 01). What it says stands in verdict/specs/Judge.antt; the demands, as theorems about it, in demands/specs/Demands.antt.
+#![tactic(auto)]
+
 ghost use Rattle.std.specs.Prelude.{◌≡◌, ◌++◌, ◌+◌, ◌*◌, ◌-◌, ◌≤◌, length, drop, replicate};
 ghost use Rattle.file_contents.specs.EvidencePart.{entries_allowed};
 ghost use Rattle.list_summary.specs.Groups.{summarised};

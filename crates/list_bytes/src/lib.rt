@@ -1,5 +1,7 @@
 // An entry against a cube by the bytes of its records (theory, section 6): nothing is built for it. Most entries that a walk leads to are told so; the others,
 // whose records stand in an order of their own or whose messages could stand for others too, are left to the crate `cover`.
+#![tactic(auto)]
+
 ghost use Rattle.std.specs.Prelude.{◌≡◌, true, ◌&&◌, not, min};
 ghost use Rattle.list_bytes.specs.Same.{Within};
 ghost use Rattle.file_contents.specs.Cube.{load_entry};
@@ -18,7 +20,7 @@ mod messages;
 mod queues;
 
 // The entry is told, and then whether it matches.
-#[derive(Drop)]
+#[derive(Clone, Copy)]
 pub struct Compared {
     pub same: bool,
     pub related: bool,

@@ -26,7 +26,7 @@ fn waits_at(file: &[u8], k: usize, q: usize) -> bool
 }
 
 // The values of the 12s of one queue that stand one after another, and where these end.
-#[derive(Drop)]
+#[derive(Clone, Copy)]
 struct Held {
     queue: Queue,
     next: usize,
@@ -73,7 +73,7 @@ fn ends_at(file: &[u8], k: usize) -> bool
 }
 
 // Whether the 12s at a place are of these queues, where a value waits in them, in their order; then whether they are related, and where they end.
-#[derive(Drop)]
+#[derive(Clone, Copy)]
 struct Walked {
     same: bool,
     related: bool,

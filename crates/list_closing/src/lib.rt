@@ -2,6 +2,8 @@
 // after another, and each is searched for (theory, section 5, T7 and T8). Steps that have none are passed over before a cube is made.
 // `code` is the file that holds the program, `file` the one that holds the entries; they may be the same. What reads no transition takes no
 // `code`, and its contract is for any bytes g that the program is read from.
+#![tactic(auto)]
+
 ghost use Rattle.std.specs.Prelude.{◌≡◌, true, List, ℕ, ◌+◌, ◌/◌, ◌%◌, ◌≤◌, ◌<◌, min};
 ghost use Rattle.machine_pws.specs.declared.Step.TheVariants.{Take, Serialise, Update};
 ghost use Rattle.file_records.specs.ProgramPart.{shape_of, program_of};
@@ -31,7 +33,7 @@ mod take;
 mod update;
 
 // The lowest step through which a configuration outside the list gets above an entry, if there is one.
-#[derive(Drop)]
+#[derive(Clone, Copy)]
 pub enum Opening {
     Shut,
     Through { step: Step },

@@ -194,7 +194,7 @@ fn unswapped_held(
     old: u8,
     x: u8,
 ) -> bool
-    ensures { Families (shape_of program.shape) (entries_of file.now list.now n) families.now → (g : List ℕ) → Walkable g file.now list.now sum.now n program cube → (j : ℕ) → Acting (program_of g program) (configuration_of cube) j p from (Arw v old x) → (is_empty ((configuration_of cube).queue p v) && lists.swapped (shape_of program.shape) (configuration_of cube).memory p v x) ≡ true → result ≡ cond (lists.arwKind (shape_of program.shape) (configuration_of cube).memory v old lists.undone) (held (shape_of program.shape) (entries_of file.now list.now n) (take_before (configuration_of cube) p from (Arw v old x) lists.undone)) true }
+    ensures { Families (shape_of program.shape) (entries_of file.now list.now n) families.now → (g : List ℕ) → Walkable g file.now list.now sum.now n program cube → (j : ℕ) → Acting (program_of g program) (configuration_of cube) j p from (Arw v old x) → (is_empty ((configuration_of cube).queue p v) && lists.swapped (shape_of program.shape) (configuration_of cube).memory p v x) ≡ true → result ≡ cond (lists.arw_kind (shape_of program.shape) (configuration_of cube).memory v old lists.undone) (held (shape_of program.shape) (entries_of file.now list.now n) (take_before (configuration_of cube) p from (Arw v old x) lists.undone)) true }
 {
     let shape = program.shape;
     if !alike_before(cube, v, old) {
@@ -227,7 +227,7 @@ fn on_top_held(
     x: u8,
     u: u8,
 ) -> bool
-    ensures { Families (shape_of program.shape) (entries_of file.now list.now n) families.now → (g : List ℕ) → Walkable g file.now list.now sum.now n program cube → (j : ℕ) → Acting (program_of g program) (configuration_of cube) j p from (Arw v old x) → (is_empty ((configuration_of cube).queue p v) && lists.swapped (shape_of program.shape) (configuration_of cube).memory p v x) ≡ true → u < program.shape.variables → result ≡ held (shape_of program.shape) (entries_of file.now list.now n) (take_before (configuration_of cube) p from (Arw v old x) (lists.onTop u)) }
+    ensures { Families (shape_of program.shape) (entries_of file.now list.now n) families.now → (g : List ℕ) → Walkable g file.now list.now sum.now n program cube → (j : ℕ) → Acting (program_of g program) (configuration_of cube) j p from (Arw v old x) → (is_empty ((configuration_of cube).queue p v) && lists.swapped (shape_of program.shape) (configuration_of cube).memory p v x) ≡ true → u < program.shape.variables → result ≡ held (shape_of program.shape) (entries_of file.now list.now n) (take_before (configuration_of cube) p from (Arw v old x) (lists.on_top u)) }
 {
     let shape = program.shape;
     found(

@@ -26,7 +26,7 @@ fn unpointed_held(
     cube: Cube,
     p: usize,
 ) -> bool
-    ensures { (g : List ℕ) → Walkable g file.now list.now sum.now n program cube → p < program.shape.processes → result ≡ cond (lists.updateKind (shape_of program.shape) (configuration_of cube).memory p lists.undone) (held (shape_of program.shape) (entries_of file.now list.now n) (update_before (shape_of program.shape) (configuration_of cube) p lists.undone)) true }
+    ensures { (g : List ℕ) → Walkable g file.now list.now sum.now n program cube → p < program.shape.processes → result ≡ cond (lists.update_kind (shape_of program.shape) (configuration_of cube).memory p lists.undone) (held (shape_of program.shape) (entries_of file.now list.now n) (update_before (shape_of program.shape) (configuration_of cube) p lists.undone)) true }
 {
     let shape = program.shape;
     let pointers = cube.pointers;
@@ -58,7 +58,7 @@ fn pointed_held(
     p: usize,
     i: usize,
 ) -> bool
-    ensures { (g : List ℕ) → Walkable g file.now list.now sum.now n program cube → p < program.shape.processes → i < 16 → lists.updateKind (shape_of program.shape) (configuration_of cube).memory p (lists.pointed (i / 4) (i % 4)) ≡ true → result ≡ held (shape_of program.shape) (entries_of file.now list.now n) (update_before (shape_of program.shape) (configuration_of cube) p (lists.pointed (i / 4) (i % 4))) }
+    ensures { (g : List ℕ) → Walkable g file.now list.now sum.now n program cube → p < program.shape.processes → i < 16 → lists.update_kind (shape_of program.shape) (configuration_of cube).memory p (lists.pointed (i / 4) (i % 4)) ≡ true → result ≡ held (shape_of program.shape) (entries_of file.now list.now n) (update_before (shape_of program.shape) (configuration_of cube) p (lists.pointed (i / 4) (i % 4))) }
 {
     if 16 <= i {
         return true;

@@ -10,7 +10,7 @@ use list_key::{lowest, related, values_related, waiting};
 use machine_pws::Message;
 
 // One of them, and how many there are.
-#[derive(Drop)]
+#[derive(Clone, Copy)]
 pub(crate) struct Gaps {
     pub place: Place,
     pub count: u8,

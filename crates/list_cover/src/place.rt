@@ -9,7 +9,7 @@ use list_key::waiting;
 use machine_pws::Message;
 
 // A waiting value, or a value of a message, by number; or the whole cube, which is its own only part.
-#[derive(Drop)]
+#[derive(Clone, Copy)]
 pub(crate) enum Place {
     Whole,
     Waiting {

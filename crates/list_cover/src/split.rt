@@ -21,7 +21,7 @@ use list_key::{tags_of, widened};
 use list_summary::{onward, walk_from};
 
 // The place to split at, so far: of the entry with the fewest gaps. `met` if some entry may meet the cube.
-#[derive(Drop)]
+#[derive(Clone, Copy)]
 pub(crate) struct Split {
     pub(crate) place: Place,
     pub(crate) count: u8,

@@ -1,5 +1,7 @@
 // A list judged to its end: each target against the list, each entry against the starts, each entry's predecessors (document 01, numbers 9, 10
 // and 11).
+#![tactic(auto)]
+
 ghost use Rattle.std.specs.Prelude.{◌≡◌, List, ℕ, ◌<◌};
 ghost use Rattle.list_known.specs.Tables.{Below};
 ghost use Rattle.list_closing.specs.Walk.{LowestFailing};

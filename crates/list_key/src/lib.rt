@@ -1,6 +1,8 @@
 // An entry against a cube (theory, section 1, T1, and section 6). Leftmost matching is exact, since a message with a role is never skipped:
 // no map of messages is searched for. What all matches of a cube have in common is its key, and a key has a number.
 
+#![tactic(auto)]
+
 mod channel;
 mod cues;
 mod number;

@@ -50,7 +50,7 @@ fn empty_bit(queue: Queue) -> u64
 }
 
 // h, with a bit behind it for each queue: is it empty? And the bits of queues in a signature.
-#[derive(Drop)]
+#[derive(Clone, Copy)]
 struct Queued {
     packed: u64,
     bits: usize,

@@ -169,7 +169,7 @@ fn last_bit(unit: usize, queue: Queue) -> usize {
 }
 
 // A bit for each queue: does something wait there? And the bits of the newest waiting values, a pair for each queue, behind those of the variables.
-#[derive(Drop)]
+#[derive(Clone, Copy)]
 struct Waiting {
     busy: u64,
     bits: usize,
@@ -201,7 +201,7 @@ fn waiting_bits(shape: Shape, queues: [Queue; 16]) -> Waiting {
 
 // What a cube is looked for by: the row in which full families with its local states and empty queues stand; bits of the number of its local states that the row
 // has not; and the bits of its values. A cube in the family of an entry has the entry's mark and all of the entry's bits.
-#[derive(Drop)]
+#[derive(Clone, Copy)]
 struct Look {
     row: usize,
     mark: usize,

@@ -1,4 +1,6 @@
 // Starts: number 10 (theory, section 4).
+#![tactic(auto)]
+
 ghost use Rattle.std.specs.Prelude.{◌≡◌, ◌≤◌, ◌<◌, get_or, eqb};
 ghost use Rattle.machine_pws.specs.Machine.{is_empty, all_below};
 ghost use Rattle.file_contents.specs.Cube.{waiting_of, queue_of, configuration_of};

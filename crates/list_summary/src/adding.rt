@@ -87,7 +87,7 @@ fn join_group(sum: &mut [u8], j: usize, number: u64, n: usize, k: usize)
 }
 
 // Where an entry joins: the first entry of its group, counted from 1, or 0 if it is the first itself; and the number of its chain.
-#[derive(Drop)]
+#[derive(Clone, Copy)]
 struct Joining {
     leader: usize,
     number: u64,

@@ -1,6 +1,8 @@
 // The summary of a list (request N2): its entries in groups by local states, in eight bytes for each entry allowed. Whatever bytes it holds, a walk
 // over it ends, and what it leads to is held against the file: a summary that came back changed can't make a wrong cover.
 
+#![tactic(auto)]
+
 mod adding;
 mod slots;
 mod walking;

@@ -10,7 +10,7 @@ use file_records::program::Shape;
 
 // An entry, counted from 1, or 0 where the walk ends; and where it goes on: below which entry and with which link, and whether the first entry
 // of the group was met.
-#[derive(Drop)]
+#[derive(Clone, Copy)]
 pub struct Walk {
     pub entry: usize,
     pub below: usize,

@@ -1,4 +1,6 @@
 // Targets and starts of a list (theory, sections 3 and 4): the shapes of a target here, starts in their own file.
+#![tactic(auto)]
+
 ghost use Rattle.std.specs.Prelude.{◌≡◌, ◌+◌, ◌-◌, ◌*◌, ◌≤◌, ◌<◌, get_or, take, cond, not, eqb, ltb};
 ghost use Rattle.machine_pws.specs.Program.{Program};
 ghost use Rattle.machine_pws.specs.Machine.{all_below, labelled};
@@ -229,7 +231,7 @@ fn queues_held(
 
 // What the walk looks for at each shape: for 0 the cubes of a target, else cubes of entry `rep`, counted from 1. These are of its family, or with `sees`
 // those in whose memory the process can come to see the value.
-#[derive(Drop)]
+#[derive(Clone, Copy)]
 pub(crate) struct Aim {
     pub rep: usize,
     pub sees: bool,

@@ -2,7 +2,9 @@
 // crate pws; there is no code here.
 
 // A step of the PSO machine: a transition by its number, or one of the memory's own two steps.
-#[derive(Drop)]
+#![tactic(auto)]
+
+#[derive(Clone, Copy)]
 pub enum PsoStep {
     Operate { transition: usize },
     UpdateVariable { process: usize, variable: usize },

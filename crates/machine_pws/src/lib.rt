@@ -2,7 +2,9 @@
 // What they mean is defined in specs/, over these types; there is no code here.
 
 // One of six forms, in the order of document 01's first sentence.
-#[derive(Drop)]
+#![tactic(auto)]
+
+#[derive(Clone, Copy)]
 pub enum Operation {
     Nop,
     Read { variable: usize, value: u8 },
@@ -13,7 +15,7 @@ pub enum Operation {
 }
 
 // Two local states of a process, and the operation between them.
-#[derive(Drop)]
+#[derive(Clone, Copy)]
 pub struct Transition {
     pub process: usize,
     pub from: u8,
@@ -22,7 +24,7 @@ pub struct Transition {
 }
 
 // A step of the machine: a transition by its number, or one of the memory's own two steps.
-#[derive(Drop)]
+#[derive(Clone, Copy)]
 pub enum Step {
     Take { transition: usize },
     Serialise { process: usize, variable: usize },
@@ -30,7 +32,7 @@ pub enum Step {
 }
 
 // A snapshot of memory, with the process and the variable that wrote it (its label).
-#[derive(Drop)]
+#[derive(Clone, Copy)]
 pub struct Message {
     pub process: u8,
     pub variable: u8,

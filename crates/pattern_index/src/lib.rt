@@ -1,5 +1,7 @@
 // Patterns found by their local states, in eight bytes for each pattern. Whatever bytes the table holds, a walk over it ends, and what it leads to is held
 // against the file: a table that came back changed can't make a wrong cover.
+#![tactic(auto)]
+
 ghost use Rattle.std.specs.Prelude.{◌≡◌, ◌+◌, ◌*◌, ◌≤◌, ◌<◌, min, length, get_or, take, drop};
 ghost use Rattle.machine_pws.specs.Machine.{all_below};
 ghost use Rattle.list_key.specs.Number.{states_mixed};

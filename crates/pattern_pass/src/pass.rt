@@ -14,7 +14,7 @@ use file_records::program::{Checked, Counted, Refusal, Shape, refusal_of};
 use file_records::record::answer;
 
 // Where a pattern ends, or why it is refused.
-#[derive(Drop)]
+#[derive(Clone, Copy)]
 pub enum PatternEnd {
     Next(usize),
     Bad(Refusal),

@@ -13,7 +13,7 @@ use file_records::program::{
 };
 
 // What was read: program and number of patterns, or why and in which part not.
-#[derive(Drop)]
+#[derive(Clone, Copy)]
 pub struct PatternReading {
     pub answer: Checked,
     pub part: Part,

@@ -12,7 +12,7 @@ use file_records::record::is_kind;
 
 // At 4 p + v the 12s of the queue of process p and variable v, and its 15: 0 for none, else its last byte and 1. At p the 14s of process p, and
 // the last byte of the first of them.
-#[derive(Drop)]
+#[derive(Clone, Copy)]
 pub struct Seen {
     pub words: [u8; 16],
     pub marks: [u8; 16],

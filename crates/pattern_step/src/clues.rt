@@ -10,7 +10,7 @@ use base::bytes::{least, wide};
 
 // A word of values, 255 for any. Kind 0: the queue contains it; 1: and has `last` as its newest value; else: the queue is empty.
 // There is room for one value more than a pattern of a file has.
-#[derive(Drop)]
+#[derive(Clone, Copy)]
 pub struct Clue {
     pub kind: u8,
     pub count: u8,
@@ -19,7 +19,7 @@ pub struct Clue {
 }
 
 // A clue, if it can be.
-#[derive(Drop)]
+#[derive(Clone, Copy)]
 pub struct ClueBefore {
     pub there: bool,
     pub clue: Clue,

@@ -11,7 +11,7 @@ use crate::paths::PathReads;
 use crate::patterns::Pattern;
 
 // A predecessor, if it is there.
-#[derive(Drop)]
+#[derive(Clone, Copy)]
 pub struct Before {
     pub there: bool,
     pub pattern: Pattern,

@@ -8,7 +8,7 @@ ghost use Rattle.pattern_step.specs.Meaning.{given, read_of, path_of, newest_of,
 use base::bytes::{both, least, wide};
 
 // A read of a variable's value; own: from a message of the process's own that lies ahead of its pointer.
-#[derive(Drop)]
+#[derive(Clone, Copy)]
 pub struct Read {
     pub variable: u8,
     pub value: u8,
@@ -16,21 +16,21 @@ pub struct Read {
 }
 
 // A path: there is room for one read more than a pattern of a file has.
-#[derive(Drop)]
+#[derive(Clone, Copy)]
 pub struct PathReads {
     pub reads: [Read; 17],
     pub count: u8,
 }
 
 // What is asked of the newest message, if it can be.
-#[derive(Drop)]
+#[derive(Clone, Copy)]
 pub struct Joined {
     pub there: bool,
     pub newest: [u8; 4],
 }
 
 // A value, if there is one.
-#[derive(Drop)]
+#[derive(Clone, Copy)]
 pub struct Found {
     pub there: bool,
     pub value: u8,

@@ -19,7 +19,7 @@ use list_key::states_match;
 
 // Four local states; what is asked of the newest message, 255 for nothing; the clue of process p and variable v at 4 p + v; the
 // path of each process.
-#[derive(Drop)]
+#[derive(Clone, Copy)]
 pub struct Pattern {
     pub states: [u8; 4],
     pub newest: [u8; 4],
@@ -184,7 +184,7 @@ pub fn start_fits(shape: Shape, initial: [u8; 4], a: Pattern) -> bool
 
 // The pattern of a target: its local states, and nothing else.
 pub fn target(states: [u8; 4]) -> Pattern
-    ensures { (shape : Shape) → shape.processes ≤ 4 → shape.variables ≤ 4 → Stands shape 0 0 result (patterns.targetPattern (λ p. get_or states p 0)) }
+    ensures { (shape : Shape) → shape.processes ≤ 4 → shape.variables ≤ 4 → Stands shape 0 0 result (patterns.target_pattern (λ p. get_or states p 0)) }
 {
     let values = [0u8; 9];
     let clue = Clue {

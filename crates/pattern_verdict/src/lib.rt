@@ -1,4 +1,6 @@
 // The verdict on a pattern file as C has it (docs/PATTERNS.md, "Records"). What is not refused in the reading is shown as the judge shows it.
+#![tactic(auto)]
+
 ghost use Rattle.std.specs.Prelude.{◌≡◌, length};
 ghost use Rattle.file_contents.specs.Reading.{input};
 ghost use Rattle.file_again.specs.Offending.{is_in_program, is_of_record};

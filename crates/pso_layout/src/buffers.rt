@@ -10,7 +10,7 @@ use run_layout::arrays::of_queues;
 
 // The small part of a configuration. The items in buffer q = 4 p + v are those from the number heads[q] to the one before tails[q], of all
 // that were put into it; lasts[q] is one past the number of the newest value of these, or 0.
-#[derive(Drop)]
+#[derive(Clone, Copy)]
 pub struct PsoRun {
     pub states: [u8; 4],
     pub memory: [u8; 4],

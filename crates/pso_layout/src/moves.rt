@@ -7,7 +7,7 @@ use machine_pws::{Step, Transition};
 use run_layout::moves::transition_in;
 
 // A step with its transition; a transition that does not exist is in no local state.
-#[derive(Drop)]
+#[derive(Clone, Copy)]
 pub enum PsoMove {
     Absent,
     Operate(Transition),

@@ -19,13 +19,13 @@ use run_replay::units::next_step;
 use run_step::last_test::{RunAnswer, last_answer};
 
 // The small part of a configuration, and where the next step stands.
-#[derive(Drop)]
+#[derive(Clone, Copy)]
 pub struct PsoReplay {
     pub run: PsoRun,
     pub place: usize,
 }
 
-#[derive(Drop)]
+#[derive(Clone, Copy)]
 pub struct PsoStepped {
     pub answer: Answer,
     pub replay: PsoReplay,

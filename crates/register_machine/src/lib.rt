@@ -2,7 +2,9 @@
 // machine_pws; there is no code here.
 
 // One of nine forms: the six of document 01, and those that use the register, 6, 7 and 8 of N8.
-#[derive(Drop)]
+#![tactic(auto)]
+
+#[derive(Clone, Copy)]
 pub enum RegisterOperation {
     Nop,
     Read { variable: usize, value: u8 },
@@ -16,7 +18,7 @@ pub enum RegisterOperation {
 }
 
 // Two local states of a process, and the operation between them.
-#[derive(Drop)]
+#[derive(Clone, Copy)]
 pub struct RegisterTransition {
     pub process: usize,
     pub from: u8,

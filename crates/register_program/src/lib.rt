@@ -1,6 +1,8 @@
 // Programs with registers (document 02, N8): a file of 01, 02s, 05s and 04s is read, and the program without registers is written as 01 to 04.
 // What is written is defined in specs/, over the machine of the crate register_machine.
 
+#![tactic(auto)]
+
 mod count;
 mod has;
 mod numbers;

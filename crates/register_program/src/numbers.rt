@@ -11,14 +11,14 @@ use file_records::program::Program;
 
 // Of the 05s of one process: does one use 6, 7 or 8, and how many transitions do they become without a register and
 // with one?
-#[derive(Drop)]
+#[derive(Clone, Copy)]
 pub struct Share {
     pub has: bool,
     pub without: usize,
     pub expanded: usize,
 }
 
-#[derive(Drop)]
+#[derive(Clone, Copy)]
 pub struct Numbers {
     pub has: [bool; 4],
     pub transitions: usize,

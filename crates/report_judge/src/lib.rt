@@ -1,5 +1,7 @@
 // The judgement of a report (document 02, N10): its marks, its list for the program, and each mark's run for the program in which that fence is a nop,
 // each by the judge as it is. What it says stands in report_verdict/specs/Answers.antt.
+#![tactic(auto)]
+
 ghost use Rattle.std.specs.Prelude.{◌≡◌, ◌-◌, ◌+◌, ◌*◌, ◌≤◌, length, set, take, drop};
 ghost use Rattle.file_contents.specs.Reading.{pair};
 ghost use Rattle.verdict.specs.Judge.{area_after};

@@ -1,4 +1,6 @@
 // The answer to a report as C has it (document 02, N10).
+#![tactic(auto)]
+
 ghost use Rattle.std.specs.Prelude.{◌≡◌, length};
 ghost use Rattle.verdict.specs.Answers.{stepless, with_record};
 ghost use Rattle.report_reading.specs.Parts.{report_offending, report_offending_at};

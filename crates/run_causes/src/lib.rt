@@ -1,10 +1,12 @@
 // Why the machine refuses a step (document 01, "The machine"; document 02, N1), and the first of several causes.
+#![tactic(auto)]
+
 ghost use Rattle.std.specs.Prelude.{◌≡◌};
 ghost use Rattle.run_causes.specs.Causes.{cause_number, first_cause};
 
 // Why the machine refuses a step, in the order in which it is tested: the process is in another local state; a queue is not empty; the
 // pointer is not at the newest message; another value is there; there is nothing to serialise, or no newer message.
-#[derive(Drop)]
+#[derive(Clone, Copy)]
 pub enum Cause {
     State,
     Queue,
@@ -13,7 +15,7 @@ pub enum Cause {
     Nothing,
 }
 
-#[derive(Drop)]
+#[derive(Clone, Copy)]
 pub enum Answer {
     Permitted,
     Refused(Cause),

@@ -10,7 +10,7 @@ use base::bytes::wide;
 
 // The small part of a configuration. The values of queue q = 4 p + v that wait are those from the number heads[q] to the one before
 // tails[q], of all that were written into it.
-#[derive(Drop)]
+#[derive(Clone, Copy)]
 pub struct Run {
     pub states: [u8; 4],
     pub messages: u16,

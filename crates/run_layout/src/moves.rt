@@ -7,7 +7,7 @@ use file_records::record::transition_at;
 use machine_pws::{Operation, Step, Transition};
 
 // A step with its transition; a transition that does not exist is in no local state.
-#[derive(Drop)]
+#[derive(Clone, Copy)]
 pub enum Move {
     Absent,
     Take(Transition),

@@ -20,7 +20,7 @@ use run_step::rows::rows_after;
 use run_step::storing::store;
 
 // The small part of a configuration, with the pointer and LastWrite numbers of each process, and where the next step stands.
-#[derive(Drop)]
+#[derive(Clone, Copy)]
 pub struct Replay {
     pub run: Run,
     pub first: [u16; 5],
@@ -30,7 +30,7 @@ pub struct Replay {
     pub place: usize,
 }
 
-#[derive(Drop)]
+#[derive(Clone, Copy)]
 pub struct Stepped {
     pub answer: Answer,
     pub replay: Replay,

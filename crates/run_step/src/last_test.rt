@@ -8,7 +8,7 @@ use run_causes::Cause;
 
 // The verdict of a run: reachable with the number of steps and the lowest target met; the number of the step that is refused, and why; or
 // the number of steps, after which no target is met.
-#[derive(Drop)]
+#[derive(Clone, Copy)]
 pub enum RunAnswer {
     Reachable { steps: usize, target: usize },
     Stopped { step: usize, cause: Cause },

@@ -1,6 +1,8 @@
 // A step of a run of the PWS machine (document 01, "The machine"): may it be taken, and if not why; what it gives of pointers and
 // LastWrite numbers; what it writes into the lent bytes. And the last test of a run.
 
+#![tactic(auto)]
+
 pub mod answering;
 pub mod last_test;
 pub mod rows;

@@ -13,7 +13,7 @@ use run_causes::{Cause, cause_number};
 use run_step::last_test::RunAnswer;
 
 // The number and the values of each are given by `verdict_in`.
-#[derive(Drop)]
+#[derive(Clone, Copy)]
 pub enum Answer {
     Safe { entries: usize },
     Reachable { steps: usize, target: usize },
@@ -30,7 +30,7 @@ pub enum Answer {
 // of 11, by the kind of its record: 20 and the transition, 21 with process and variable, 22 and the process; all three are 0 elsewhere. The record is
 // the one that is handed back: its file (0 the program or combined file, 1 the evidence file), its place there and its length.
 #[repr(C)]
-#[derive(Drop)]
+#[derive(Clone, Copy)]
 pub struct Verdict {
     pub kind: u64,
     pub first: u64,
@@ -108,7 +108,7 @@ fn verdict_of(answer: Answer) -> Verdict
 }
 
 // What an answer says of the reading: the part, number and place of its refusal; number 0 if it was not refused there.
-#[derive(Drop)]
+#[derive(Clone, Copy)]
 pub(crate) struct Found {
     pub part: Part,
     pub number: u8,
