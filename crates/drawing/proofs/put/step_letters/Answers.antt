@@ -1,0 +1,19 @@
+use Rattle.drawing.proofs.ShownLaws.{is_in_range, says_letters, says_short, says_none}
+use native.Mathlib.Omega.{arith}
+use mathlib.Core.Path.{sym, ◌∙◌}
+use Rattle.drawing.proofs.put.step_letters.Goals as goal
+
+pub letters_length-requires : goal.letters_length-requires
+letters_length-requires c = is_in_range c.args.step (sym c.in_range.ensures ∙ c.if-in_range.true)
+
+pub put_letters-requires : goal.put_letters-requires
+put_letters-requires c = (is_in_range c.args.step (sym c.in_range.ensures ∙ c.if-in_range.true), omega (arith, c.letters_length.ensures, c.if-letters_length-out.true))
+
+pub returns-then-letters_length-out : goal.returns-then-letters_length-out
+returns-then-letters_length-out c = says_letters c.args.out.now c.args.step (sym c.in_range.ensures ∙ c.if-in_range.true) c.put_letters.ensures
+
+pub returns-else-letters_length-out : goal.returns-else-letters_length-out
+returns-else-letters_length-out c = says_short c.args.out.now c.args.step (sym c.in_range.ensures ∙ c.if-in_range.true) (omega (arith, c.letters_length.ensures, c.if-letters_length-out.false))
+
+pub returns-else-in_range : goal.returns-else-in_range
+returns-else-in_range c = says_none c.args.out.now c.args.step (sym c.in_range.ensures ∙ c.if-in_range.false)

@@ -1,0 +1,83 @@
+use Prim.Native.Nat.{ℕ, ◌-◌}
+use mathlib.Core.Path.{◌≡◌, sym, ap, ◌∙◌}
+use mathlib.Core.Bool.{Bool, true, false}
+use mathlib.Core.List.{List}
+use native.Mathlib.Omega.{arith}
+use borrow.Author.Rules.{rules}
+use borrow.Author.Tests.{leb-false, not-true, not-false}
+use Rattle.file_records.specs.declared.program.Format.{Format}
+use Rattle.file_records.specs.declared.program.Shape.{Shape}
+use Rattle.file_records.specs.declared.program.Checked.{Checked}
+use Rattle.file_records.specs.declared.program.Checked.TheVariants.{Fine, Refused}
+use Rattle.file_records.specs.declared.program.Counted.TheVariants.{Stopped}
+use Rattle.file_records.specs.Format.{most_targets}
+use Rattle.file_records.specs.Records.{checked, target_number}
+use Rattle.file_records.specs.ProgramPart.{refusal_of, unless_end, at_end, targets_from}
+use Rattle.base.proofs.ByteLaws.{cut_fits}
+use Rattle.file_records.proofs.ProgramLaws.{few_targets}
+use Rattle.file_records.proofs.RecordLaws.{unless_fine, target-fine, row_ends, row_stops, row_step}
+use Rattle.file_program.proofs.program.targets_from.Goals as goal
+
+abbrev ends : Bool → List ℕ → ℕ → ℕ → Bool
+ends alone f = at_end alone f
+
+abbrev check : Format → Shape → List ℕ → List ℕ → ℕ → ℕ → Checked
+check format s states f k n = unless_end f k (checked (target_number format s states f k n) k)
+
+pub loop-format-init : goal.loop-format-init
+unfolding targets_from
+loop-format-init c = let z : most_targets c.args.format - 0 ≡ most_targets c.args.format = omega arith in (search rules, rw z)
+
+pub returns-in_default : goal.returns-in_default
+unfolding targets_from
+returns-in_default c = let a = c.args in
+    let f = a.file.now in
+    let k = c.loop-format.k in
+    let n = c.loop-format.n in
+    let r = c.in_default.field-0 in
+    let d' : at_end a.alone f k n ≡ false = sym c.at_end.ensures ∙ not-true _ c.loop-format-test.true-raw in
+    let e : check a.format a.shape a.states f k n ≡ Refused r = sym (c.unless_end-answer.ensures ∙ ap (unless_end f k) c.check_target.ensures) ∙ c.in_default.is in
+    ap Stopped (c.refusal_of.ensures ∙ ap refusal_of c.in_default.is)
+    ∙ sym (row_stops (ends a.alone f) (check a.format a.shape a.states f) (λ k. 5) (most_targets a.format - n) k n r d' e) ∙ c.loop-format.invariant.1
+
+pub overflow_add-k : goal.overflow_add-k
+unfolding targets_from
+overflow_add-k c = let a = c.args in
+    let f = a.file.now in
+    let k = c.loop-format.k in
+    let n = c.loop-format.n in
+    let e : check a.format a.shape a.states f k n ≡ Fine = sym (c.unless_end-answer.ensures ∙ ap (unless_end f k) c.check_target.ensures) ∙ c.in-Fine.is in
+    omega (arith, cut_fits f k 4 (target-fine f k a.format a.shape a.states n (unless_fine f k _ e).1).whole)
+
+pub overflow_add-n : goal.overflow_add-n
+unfolding targets_from
+overflow_add-n c = omega (arith, few_targets c.args.format)
+
+pub loop-format-smaller : goal.loop-format-smaller
+unfolding targets_from
+loop-format-smaller c = let a = c.args in
+    let f = a.file.now in
+    let k = c.loop-format.k in
+    let n = c.loop-format.n in
+    let e : check a.format a.shape a.states f k n ≡ Fine = sym (c.unless_end-answer.ensures ∙ ap (unless_end f k) c.check_target.ensures) ∙ c.in-Fine.is in
+    omega (arith, leb-false (most_targets a.format) n (target-fine f k a.format a.shape a.states n (unless_fine f k _ e).1).room)
+
+pub loop-format-preserved : goal.loop-format-preserved
+unfolding targets_from
+loop-format-preserved c = let a = c.args in
+    let f = a.file.now in
+    let k = c.loop-format.k in
+    let n = c.loop-format.n in
+    let d' : at_end a.alone f k n ≡ false = sym c.at_end.ensures ∙ not-true _ c.loop-format-test.true-raw in
+    let e : check a.format a.shape a.states f k n ≡ Fine = sym (c.unless_end-answer.ensures ∙ ap (unless_end f k) c.check_target.ensures) ∙ c.in-Fine.is in
+    let l = leb-false (most_targets a.format) n (target-fine f k a.format a.shape a.states n (unless_fine f k _ e).1).room in
+    (omega arith, sym (row_step (ends a.alone f) (check a.format a.shape a.states f) (λ k. 5) (most_targets a.format) k n l d' e) ∙ c.loop-format.invariant.1)
+
+pub returns : goal.returns
+unfolding targets_from
+returns c = let a = c.args in
+    let f = a.file.now in
+    let k = c.loop-format.k in
+    let n = c.loop-format.n in
+    let d' : at_end a.alone f k n ≡ true = sym c.at_end.ensures ∙ not-false _ c.loop-format-test.false-raw in
+    sym (row_ends (ends a.alone f) (check a.format a.shape a.states f) (λ k. 5) (most_targets a.format - n) k n d') ∙ c.loop-format.invariant.1

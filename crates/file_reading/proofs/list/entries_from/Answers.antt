@@ -1,0 +1,77 @@
+use Prim.Native.Nat.{ℕ, ◌-◌}
+use mathlib.Core.Path.{◌≡◌, sym, ap, ◌∙◌}
+use mathlib.Core.List.{List, []}
+use native.Mathlib.Omega.{arith}
+use lib.ListN.{length}
+use lib.Dec.{leb}
+use Rattle.machine_pws.specs.Machine.{Configuration}
+use Rattle.file_records.specs.declared.program.Checked.TheVariants.{Fine, Refused}
+use Rattle.file_records.specs.declared.program.Counted.TheVariants.{Records, Stopped}
+use Rattle.file_records.specs.Records.{checked, entry_number}
+use Rattle.file_records.specs.ProgramPart.{refusal_of}
+use Rattle.file_contents.specs.EvidencePart.{whole, entry_read, EntriesRead, stop_at, entries_from, wrote_from}
+use Rattle.file_contents.specs.Tally.{count_of}
+use Rattle.file_reading.specs.Tally.{end_refusal}
+use Rattle.base.proofs.ByteLaws.{cut_fits}
+use Rattle.file_records.proofs.RecordLaws.{entry_fine}
+use Rattle.file_reading.proofs.ListLaws.{entry_past, end_whole, end_bad, list_ends, head-stops, entry_refused, wrote_length, listed_begin, listed_next}
+use Rattle.file_reading.proofs.list.entries_from.Goals as goal
+
+head : (c : tie.After-enum-told invariant_loop decreases_loop) → checked (entry_number c.before.before.before.before.before.before.before.args.shape c.before.before.before.before.before.before.before.args.states c.before.before.before.before.before.before.before.args.file.now c.before.before.before.before.loop.k (leb c.before.before.before.before.before.before.before.args.allowed c.before.before.before.before.loop.n)) c.before.before.before.before.loop.k ≡ Fine
+head c = sym c.before.before.check-entry.ensures ∙ c.enum_told.given.1
+
+body : (c : tie.After-end invariant_loop decreases_loop) → (e : Configuration) × (entry_read c.before.before.before.before.before.before.before.before.before.before.args.shape c.before.before.before.before.before.before.before.before.before.before.args.file.now c.before.before.before.before.before.before.before.loop.k ≡ whole e c.end.given.0.0)
+body c = end_whole (entry_read c.before.before.before.before.before.before.before.before.before.before.args.shape c.before.before.before.before.before.before.before.before.before.before.args.file.now c.before.before.before.before.before.before.before.loop.k) c.end.given.0.0 (sym c.before.before.entry-from.ensures ∙ c.end.given.1)
+
+same : (list₀ : List ℕ) {list : List ℕ} (os : List ℕ) → list ≡ wrote_from 0 os list₀ → length list ≡ length list₀
+same list₀ os e = ap length e ∙ wrote_length 0 os list₀
+
+pub loop-k-init : goal.loop-k-init
+loop-k-init c = listed_begin c.args.shape c.args.states c.args.file.now c.args.at c.args.allowed c.args.list.now
+
+pub shape_of-list-in_default : goal.shape_of-list-in_default
+shape_of-list-in_default c = same c.args.list.now c.loop-k.invariant.offsets c.loop-k.invariant.wrote
+
+pub returns-in_default : goal.returns-in_default
+returns-in_default c = let a = c.args in
+    let L = c.loop-k.invariant in
+    let r = c.in_default.field-0 in
+    let q : checked (entry_number a.shape a.states a.file.now c.loop-k.k (leb a.allowed c.loop-k.n)) c.loop-k.k ≡ Refused r = sym c.check_entry-head.ensures ∙ c.in_default.is in
+    let e : entries_from a.allowed a.shape a.states a.file.now a.at [] [] ≡ stop_at L.offsets L.entries r =
+    sym L.reads ∙ head-stops a.shape a.states a.file.now c.loop-k.k L.offsets L.entries a.allowed c.loop-k.n c.loop-k-test.true r q in
+record { value = ap Stopped (c.refusal_of.ensures ∙ ap refusal_of c.in_default.is) ∙ sym (ap count_of e); list_after = L.wrote ∙ sym (ap (λ (x : EntriesRead). wrote_from 0 x.offsets a.list.now) e) }
+
+pub entry_from-end-requires : goal.entry_from-end-requires
+entry_from-end-requires c = let g = cut_fits c.args.file.now c.loop-k.k 8 (entry_fine c.args.file.now c.loop-k.k c.args.shape c.args.states (leb c.args.allowed c.loop-k.n) (head c)).whole in
+    (omega (arith, g), c.requires.0, c.requires.1)
+
+pub shape_of-list-in_default-end : goal.shape_of-list-in_default-end
+shape_of-list-in_default-end c = same c.args.list.now c.loop-k.invariant.offsets c.loop-k.invariant.wrote
+
+pub returns-in_default-end : goal.returns-in_default-end
+returns-in_default-end c = let a = c.args in
+    let L = c.loop-k.invariant in
+    let r = c.in_default-end.field-0 in
+    let d = end_bad (entry_read a.shape a.file.now c.loop-k.k) r (sym c.entry_from-end.ensures ∙ c.in_default-end.is) in
+    let e : entries_from a.allowed a.shape a.states a.file.now a.at [] [] ≡ stop_at L.offsets L.entries r =
+    sym L.reads ∙ entry_refused a.shape a.states a.file.now c.loop-k.k L.offsets L.entries a.allowed c.loop-k.n c.loop-k-test.true (head c.before.before.before.before) r d in
+record { value = ap Stopped (c.end_refusal.ensures ∙ ap end_refusal c.in_default-end.is) ∙ sym (ap count_of e); list_after = L.wrote ∙ sym (ap (λ (x : EntriesRead). wrote_from 0 x.offsets a.list.now) e) }
+
+pub overflow_add-n : goal.overflow_add-n
+overflow_add-n c = omega (arith, c.loop-k.invariant.most, c.requires.2)
+
+pub loop-k-smaller : goal.loop-k-smaller
+loop-k-smaller c = omega (arith, c.loop-k-test.true, entry_past c.args.shape c.args.file.now c.loop-k.k (body c.before.before.before.before.before.before).0 c.in-Next.next (body c.before.before.before.before.before.before).1)
+
+pub loop-k-preserved : goal.loop-k-preserved
+loop-k-preserved c = listed_next c.loop-k.invariant (body c.before.before.before.before.before.before).0 c.loop-k-test.true (head c.before.before.before.before.before.before.before.before.before) (body c.before.before.before.before.before.before).1 (omega (arith, c.word_place.ensures, c.loop-k.invariant.most, c.requires.2)) c.store_number.ensures
+
+pub shape_of-list : goal.shape_of-list
+shape_of-list c = same c.args.list.now c.loop-k.invariant.offsets c.loop-k.invariant.wrote
+
+pub returns : goal.returns
+returns c = let a = c.args in
+    let L = c.loop-k.invariant in
+    let e : entries_from a.allowed a.shape a.states a.file.now a.at [] [] ≡ record { offsets = L.offsets; entries = L.entries; answer = Fine } =
+    sym L.reads ∙ list_ends a.shape a.states a.file.now c.loop-k.k L.offsets L.entries (a.allowed - c.loop-k.n) c.loop-k-test.false in
+record { value = ap Records L.count ∙ sym (ap count_of e); list_after = L.wrote ∙ sym (ap (λ (x : EntriesRead). wrote_from 0 x.offsets a.list.now) e) }

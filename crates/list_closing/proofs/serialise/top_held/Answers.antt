@@ -1,0 +1,6 @@
+use Rattle.list_theory.specs.Predecessors.{on_top}
+use Rattle.list_closing.proofs.SerialiseLaws.{serialise-searched, top-there}
+use Rattle.list_closing.proofs.serialise.top_held.Goals as goal
+
+pub returns : goal.returns
+returns c = λ g Z d. serialise-searched g c.args.file.now c.args.list.now c.args.sum.now c.args.n c.args.program c.args.cube c.args.p c.args.v Z (on_top c.args.v) (top-there g c.args.file.now c.args.list.now c.args.sum.now c.args.n c.args.program c.args.cube c.args.p c.args.v Z) d c.search.ensures.value

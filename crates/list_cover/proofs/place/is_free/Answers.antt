@@ -1,0 +1,10 @@
+use Rattle.list_cover.proofs.place.is_free.Goals as goal
+
+pub returns-in-Whole : goal.returns-in-Whole
+returns-in-Whole c = rw c.in-Whole.is
+
+pub returns-in-Waiting : goal.returns-in-Waiting
+returns-in-Waiting c = rw c.in-Waiting.is c.waits_free.ensures
+
+pub returns-in-Sent : goal.returns-in-Sent
+returns-in-Sent c = rw c.in-Sent.is c.sent_free.ensures

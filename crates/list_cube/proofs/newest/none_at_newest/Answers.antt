@@ -1,0 +1,23 @@
+use Rattle.list_key.proofs.Below.{all_false, each_begin, each_next, each_all}
+use Rattle.file_contents.specs.Cube.{configuration_of}
+use Rattle.machine_pws.specs.Machine.{at_newest}
+use native.Mathlib.Omega.{arith}
+use mathlib.Core.Bool.{true, not}
+use mathlib.Core.Path.{sym, ap, ◌∙◌}
+use Prim.Native.Nat.{◌-◌}
+use Rattle.list_cube.proofs.newest.none_at_newest.Goals as goal
+
+pub loop-q-init : goal.loop-q-init
+loop-q-init c = each_begin (λ k. not (at_newest (configuration_of c.args.cube).memory k)) true c.args.shape.processes
+
+pub returns-then-at_newest : goal.returns-then-at_newest
+returns-then-at_newest c = sym (all_false c.args.shape.processes (λ k. not (at_newest (configuration_of c.args.cube).memory k)) c.loop-q.q c.loop-q-test.true (ap not (sym c.at_newest.ensures ∙ c.if-at_newest.true)))
+
+pub loop-q-smaller : goal.loop-q-smaller
+loop-q-smaller c = omega (arith, c.loop-q-test.true)
+
+pub loop-q-preserved : goal.loop-q-preserved
+loop-q-preserved c = each_next c.loop-q.invariant c.loop-q-test.true (ap not (sym c.at_newest.ensures ∙ c.if-at_newest.false))
+
+pub returns : goal.returns
+returns c = sym (each_all c.loop-q.invariant (omega (arith, c.loop-q-test.false)))

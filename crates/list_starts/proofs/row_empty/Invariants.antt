@@ -1,0 +1,12 @@
+use mathlib.Core.Bool.{true}
+use Prim.Native.Nat.{◌-◌}
+use Rattle.machine_pws.specs.Machine.{is_empty}
+use Rattle.file_contents.specs.Cube.{queue_of}
+use Rattle.list_key.proofs.Below.{Each}
+use Rattle.list_starts.proofs.row_empty.Given as goal
+
+abbrev pub invariant-loop-v : goal.invariant-loop-v
+invariant-loop-v l = Each (λ k. is_empty (queue_of l.queues l.p k)) true l.n l.v
+
+abbrev pub decreases-loop-v : goal.decreases-loop-v
+decreases-loop-v l = l.n - l.v

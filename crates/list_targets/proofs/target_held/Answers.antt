@@ -1,0 +1,5 @@
+use Rattle.list_targets.proofs.TargetLaws.{target_is}
+use Rattle.list_targets.proofs.target_held.Goals as goal
+
+pub returns : goal.returns
+returns c = target_is c.args.shape c.args.states c.args.file.now c.args.list.now c.args.sum.now c.args.n c.shapes_held.result c.shapes_held.ensures

@@ -1,0 +1,10 @@
+use Prim.Native.Nat.{◌-◌}
+use lib.ListN.{length}
+use Rattle.pattern_pass.proofs.ListedLaws.{Listed}
+use Rattle.pattern_pass.proofs.pass.patterns_from.Given as goal
+
+abbrev pub invariant-loop-k : goal.invariant-loop-k
+invariant-loop-k l = Listed l.shape l.states l.file l.at l.allowed l.initial.list l.list l.k l.n
+
+abbrev pub decreases-loop-k : goal.decreases-loop-k
+decreases-loop-k l = length l.file - l.k

@@ -1,0 +1,6 @@
+use Rattle.pattern_reading.specs.Records.{claim_number}
+use Rattle.pattern_pass.proofs.record.check_claim.Goals as goal
+
+pub returns : goal.returns
+unfolding claim_number
+returns c = rw (c.answer.ensures, c.first_number.ensures, c.field.ensures, c.cut.ensures, c.is_kind.ensures)

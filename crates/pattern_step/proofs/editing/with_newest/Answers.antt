@@ -1,0 +1,5 @@
+use Rattle.pattern_step.proofs.EditLaws.{newest_stands}
+use Rattle.pattern_step.proofs.editing.with_newest.Goals as goal
+
+pub returns : goal.returns
+returns c = newest_stands w c.args.newest

@@ -1,0 +1,11 @@
+use Rattle.pattern_step.proofs.ClueLaws.{length_mapped}
+use Rattle.pattern_step.proofs.EditLaws.{none-stands}
+use native.Mathlib.Omega.{arith}
+use borrow.Author.Rules.{rules}
+use Rattle.pattern_step.proofs.editing.with_none_waiting.Goals as goal
+
+pub returns-then-p-ge4 : goal.returns-then-p-ge4
+returns-then-p-ge4 c = absurd (omega (arith, c.if-p-ge4.true, w.processes))
+
+pub returns : goal.returns
+returns c = none-stands w c.args.p c.empty_clue-none.result (search (rules, length_mapped)) b c.empty_clue-none.ensures.0 c.empty_clue-none.ensures.1

@@ -1,0 +1,10 @@
+use Rattle.pattern_step.proofs.EditLaws.{state_stands}
+use native.Mathlib.Omega.{arith}
+use borrow.Author.Rules.{rules}
+use Rattle.pattern_step.proofs.editing.with_state.Goals as goal
+
+pub returns-then-p-ge4 : goal.returns-then-p-ge4
+returns-then-p-ge4 c = absurd (omega (arith, c.if-p-ge4.true, w.processes))
+
+pub returns : goal.returns
+returns c = state_stands w c.args.p c.args.x (search rules) b

@@ -1,0 +1,15 @@
+use Prim.Native.Nat.{◌+◌, ◌-◌, ◌*◌, ◌≤◌}
+use mathlib.Core.Path.{◌≡◌}
+use Rattle.file_records.specs.ProgramPart.{table_from}
+use Rattle.register_machine.specs.Written.{joined}
+use Rattle.register_program.proofs.Joined.{Going}
+use Rattle.register_program.proofs.HasLaws.{transitions_at}
+use Rattle.register_program.proofs.LoopLaws.{transition_rows}
+use Rattle.register_program.proofs.put.put_transitions.Given as goal
+
+abbrev pub invariant-loop-i : goal.invariant-loop-i
+invariant-loop-i l = (l.k ≡ l.initial.k + 8 * l.i) × (l.i ≤ l.n)
+    × Going l.initial.out l.out l.start l.at (joined (transition_rows l.has) (table_from (transitions_at l.file l.initial.k) 0 l.n)) (joined (transition_rows l.has) (table_from (transitions_at l.file l.initial.k) l.i (l.n - l.i)))
+
+abbrev pub decreases-loop-i : goal.decreases-loop-i
+decreases-loop-i l = l.n - l.i
