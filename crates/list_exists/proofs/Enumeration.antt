@@ -63,7 +63,7 @@ Function n Q d f = ((i : ℕ) → i < n → Q i (f i)) × ((i : ℕ) → n ≤ i
 
 pub functions : {A : Type 0} (n : ℕ) (Q : ℕ → A → Type 0) (d : A) → ((i : ℕ) → Listed (Q i)) → Listed (Function n Q d)
 functions zero Q d L = one (Function zero Q d) (λ i. d) (λ i l. absurd (omega arith), λ i l. refl) (λ f o. fun_ext (λ i. o.1 i (omega arith)))
-functions {A} (suc n) Q d L = made (Function (suc n) Q d) (λ f a. put f n a)
+functions {A} (suc n) Q d L = made {Q = Function n Q d} {R = λ f. Q n} (Function (suc n) Q d) (λ f a. put f n a)
     (λ f a o q. (
       λ i l. elim (ℕ_discrete i n) [
         | yes e ↦ rw e (subst (Q n) (sym (put_same f n a)) q)

@@ -33,8 +33,8 @@ module _ {A : Type 0} (R : A → A → Type 0) where
         (next xs)
     search {F} (later h) xs i = ⊎_elim
         (λ d. (xs, d))
-        (λ r. search {F = λ y z. F y z ⊎ F r.0 y} (h r.0) (r.0 ∷ xs) (λ y z.
-        ⊎_elim (λ f n. i y z f (above_rest n)) (λ f n. absurd (above_first n (i r.0 y f r.1)))))
+        (λ (r : (a : A) × AboveNone R xs a). search {F = λ y z. F y z ⊎ F r.0 y} (h r.0) (r.0 ∷ xs) (λ y z.
+        ⊎_elim {A = F y z} {B = F r.0 y} (λ f n. i y z f (above_rest n)) (λ f n. absurd (above_first n (i r.0 y f r.1)))))
         (next xs)
 
 pub search_ends : SearchEnds

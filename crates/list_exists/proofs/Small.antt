@@ -163,7 +163,7 @@ module _ (P : Program) (R : WellFormed P) (e : Configuration) (oe : Configuratio
     seek : (n : ℕ) → ((k : ℕ) × (1 ≤ k) × (k ≤ n) × Left k) ⊎ ((k : ℕ) → 1 ≤ k → k ≤ n → Kept k)
     seek zero = inr (λ k a l. absurd (omega arith))
     seek (suc n) = ⊎_elim
-        (λ t. ⊎_elim (λ r. inl (r.0, r.1, omega (arith, r.2), r.3))
+        (λ t. ⊎_elim {A = (k : ℕ) × (1 ≤ k) × (k ≤ n) × Left k} {B = (k : ℕ) → 1 ≤ k → k ≤ n → Kept k} (λ r. inl (r.0, r.1, omega (arith, r.2), r.3))
         (λ f. inr (λ k a l. elim (ℕ_discrete k (suc n)) [ yes q ↦ rw q t | no q ↦ f k a (omega arith) ])) (seek n))
         (λ t. inl (suc n, omega arith, omega arith, t))
         (kept_or_left (suc n))

@@ -254,7 +254,7 @@ module _ (S : Shape) (R : WellFormedShape S) (es : List Configuration) (oes : (k
       go : Found d.memory → AboveList S es d
       go s =
           let c = with_memory e s.memory in
-          let o = seen_fits S R p v x ve xe e oe c s.in-cubes in
-          let H = decided_yes (held_decided S R es oes c o) (every_yes (held S es) (seen_cubes S p v x e) (subst T (sym y) tt) c s.in-cubes) in
+          let o = seen_fits S R p v x ve xe e oe c s.in_cubes in
+          let H = decided_yes (held_decided S R es oes c o) (every_yes (held S es) (seen_cubes S p v x e) (subst T (sym y) tt) c s.in_cubes) in
           let A = above-memory S R e d od states queues s.memory o s.filled in
           list_up (H A.queues A.channel A.filling) A.below

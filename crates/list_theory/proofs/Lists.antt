@@ -27,7 +27,7 @@ in_below {a = a} (suc n) f i l r = elim (ℕ_discrete i n) [
 
 pub below_in {ℓ} : {A : Type ℓ} {a : A} (n : ℕ) (f : ℕ → List A) → Memᴰ a (for_below n f) → (i : ℕ) × (i < n) × Memᴰ a (f i)
 below_in zero f m = absurd (Memᴰ.not-nil m)
-below_in (suc n) f m = ⊎_elim (λ j. let r = below_in n f j in (r.0, omega (arith, r.1), r.2)) (λ j. (n, omega arith, j)) (Memᴰ.append_cases (for_below n f) m)
+below_in {A = A} {a = a} (suc n) f m = ⊎_elim (λ j. let r : (i : ℕ) × (i < n) × Memᴰ a (f i) = below_in {A = A} {a = a} n f j in (r.0, omega (arith, r.1), r.2)) (λ j. (n, omega arith, j)) (Memᴰ.append_cases (for_below n f) m)
 
 pub in_each {ℓ κ} : {A : Type ℓ} {B : Type κ} {a : A} {b : B} (bs : List B) (f : B → List A) → Memᴰ b bs → Memᴰ a (f b) → Memᴰ a (for_each bs f)
 in_each [] f i r = absurd (Memᴰ.not-nil i)

@@ -87,6 +87,7 @@ snoc_some (y ∷ ys) w = tt
 
 unwritten_one : {xs : List ℕ} (w : ℕ) → Queued xs (w ∷ []) → Unwritten xs []
 unwritten_one w (keep {xs = []} d nothing) = inl nothing
+unwritten_one w (keep {xs = _ ∷ _} d r) = absurd (no_nil r)
 unwritten_one w (skip r) = absurd (no_nil r)
 
 unwritten_cons : (y : ℕ) (ys : List ℕ) (w : ℕ) {xs zs : List ℕ} → ((us : List ℕ) → Queued us (ys ++ (w ∷ [])) → Unwritten us ys) → zs ≡ ys ++ (w ∷ []) → Queued xs (y ∷ zs)

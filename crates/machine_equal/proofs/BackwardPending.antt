@@ -98,7 +98,7 @@ pending_other P m ms p n q w z (o ∷ os) s r = (
     high = omega (arith, r.0.high);
     permitted = permitted_other m ms p w o.place n r.0.high (operation_of P o) r.0.permitted;
   },
-  pending_other P m ms p n _ _ o.place os s r.1,
+  pending_other P m ms p n (transition P o.number).to _ o.place os s r.1,
 )
 
 -- ---- a message with the oldest value that p has waiting for v
@@ -168,7 +168,7 @@ module _ (m : Message) (ms : List Message) (p v x : ℕ) (C : Carries m p v x) w
       high = omega (arith, r.0.high);
       permitted = permitted_own b o.place r.0.high (operation_of P o) r.0.permitted;
     },
-    pending_own P _ _ _ (before_after b (operation_of P o)) o.place os s r.1,
+    pending_own P (transition P o.number).to _ _ (before_after b (operation_of P o)) o.place os s r.1,
   )
 
 -- ---- one more operation put off, at the newest message
@@ -180,7 +180,7 @@ module _ (P : Program) (ms : List Message) (p : ℕ) where
       → Pending P ms p q w z (os ++ (record { number = n; place = length ms } ∷ [])) (transition P n).to
   pending_snoc q w z [] s n r l ne pe fe y =
       (record { exists = ne; process = pe; from = fe ∙ sym r; low = l; high = omega arith; permitted = y }, refl)
-  pending_snoc q w z (o ∷ os) s n r l ne pe fe y = (r.0, pending_snoc _ _ o.place os s n r.1 r.0.high ne pe fe y)
+  pending_snoc q w z (o ∷ os) s n r l ne pe fe y = (r.0, pending_snoc (transition P o.number).to _ o.place os s n r.1 r.0.high ne pe fe y)
 
 -- ---- the pointer up to the first of them
 

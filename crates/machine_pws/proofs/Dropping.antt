@@ -136,7 +136,7 @@ record Reduced (Val : ℕ → ℕ → Type 0) (S : Shape) (m : Memory) : Type 0 
 seek : (S : Shape) (m : Memory) (n : ℕ) → ((k : ℕ) × (1 ≤ k) × (k ≤ n) × T (not (has_role S m k))) ⊎ ((i : ℕ) → 1 ≤ i → i ≤ n → T (has_role S m i))
 seek S m zero = inr (λ i a b. absurd (omega arith))
 seek S m (suc n) = ⊎_elim
-    (λ t. ⊎_elim (λ r. inl (r.0, r.1, omega (arith, r.2), r.3))
+    (λ t. ⊎_elim {A = (k : ℕ) × (1 ≤ k) × (k ≤ n) × T (not (has_role S m k))} {B = (i : ℕ) → 1 ≤ i → i ≤ n → T (has_role S m i)} (λ r. inl (r.0, r.1, omega (arith, r.2), r.3))
     (λ f. inr (λ i a b. elim (ℕ_discrete i (suc n)) [ yes e ↦ rw e t | no e ↦ f i a (omega arith) ])) (seek S m n))
     (λ t. inl (suc n, omega arith, omega arith, t))
     (T_or_not (has_role S m (suc n)))

@@ -35,6 +35,7 @@ pub fn cause_number(cause: Cause) -> u8
 }
 
 // The first cause that applies: each argument says that one of them does not.
+#[tactic(auto, unfolding(crate::specs::Causes::first_cause))]
 pub fn first_cause(state: bool, queue: bool, pointer: bool, value: bool, some: bool) -> Answer
     ensures { result ≡ first_cause state queue pointer value some }
 {
