@@ -19,7 +19,7 @@ returns-in_default c = let A = c.args in
     let r : c.refusal_of-refusal.result ≡ r₀ = c.refusal_of-refusal.ensures ∙ ap refusal_of c.in_default.is in
     let q = says_refused 29 A.out.now (registers_of f) c.refusal_of-refusal.result.number c.refusal_of-refusal.result.place
     (registers_refused f r₀ d ∙ ap (λ (x : Refusal). refused x.number x.place) (sym r)) in
-record { value = c.answer.ensures ∙ q.0; out_after = q.1 }
+    record { value = c.answer.ensures ∙ q.0; out_after = q.1 }
 
 pub write-requires : goal.write-requires
 write-requires c = let A = c.args in
@@ -35,4 +35,4 @@ returns c = let A = c.args in
     let F : Found f c.read_with-read.result.program = record { fine = sym (ap (λ (r : ProgramRead). r.answer) e) ∙ c.in-Fine.is; same = ap (λ (r : ProgramRead). r.program) e } in
     let m = registers_made F in
     let w = c.write.ensures in
-record { value = w.0 ∙ sym (ap (answered_or 29 (length A.out.now)) m); out_after = w.1 ∙ sym (ap (left_in A.out.now) m) }
+    record { value = w.0 ∙ sym (ap (answered_or 29 (length A.out.now)) m); out_after = w.1 ∙ sym (ap (left_in A.out.now) m) }

@@ -26,7 +26,7 @@ returns-then-over-processes c = let A = c.args in
     let o = c.lowest_over-over.ensures in
     let M = made_of (register_program_of f p) (targets_of f p) in
     let q = says_refused 29 A.out.now M 19 c.lowest_over-over.result (made_over F h (omega (arith, o, c.if-over-processes.true)) ∙ ap (refused 19) (sym o)) in
-record { value = c.answer.ensures ∙ q.0; out_after = q.1 }
+    record { value = c.answer.ensures ∙ q.0; out_after = q.1 }
 
 pub transitions_of-counted-requires : goal.transitions_of-counted-requires
 transitions_of-counted-requires c = (c.requires, c.numbers_of-numbers.ensures)
@@ -44,7 +44,7 @@ returns-in_default c = let A = c.args in
     let r : c.stop_of-refusal.result ≡ r₀ = c.stop_of-refusal.ensures ∙ ap stop_of c.in_default.is in
     let q = says_refused 29 A.out.now M c.stop_of-refusal.result.number c.stop_of-refusal.result.place
     (made_many F h (omega (arith, o, c.if-over-processes.false)) r₀ e ∙ ap (λ (x : Refusal). refused x.number x.place) (sym r)) in
-record { value = c.answer-in_default.ensures ∙ q.0; out_after = q.1 }
+    record { value = c.answer-in_default.ensures ∙ q.0; out_after = q.1 }
 
 pub overflow_mul-targets : goal.overflow_mul-targets
 overflow_mul-targets c = let A = c.args in
@@ -181,7 +181,7 @@ returns-then-out-needed c = let A = c.args in
     let N = needed_bytes F h t (p.targets.count * k) W.1 (ap (λ (x : ℕ). p.targets.count * x) c.choices_of.ensures) in
     let bytes = program_bytes (written (register_program_of f p)) (written_targets (register_program_of f p) (targets_of f p)) in
     let q = says_short 29 A.out.now M bytes (7 + 3 * p.shape.processes + 8 * t + 5 * (p.targets.count * k)) W.0 N c.if-out-needed.true in
-record { value = c.answer-then-out-needed.ensures ∙ q.0; out_after = q.1 }
+    record { value = c.answer-then-out-needed.ensures ∙ q.0; out_after = q.1 }
 
 pub put_program-requires : goal.put_program-requires
 put_program-requires c = let A = c.args in
@@ -216,4 +216,4 @@ returns c = let A = c.args in
     let N = needed_bytes F h t (p.targets.count * k) W.1 (ap (λ (x : ℕ). p.targets.count * x) c.choices_of.ensures) in
     let bytes = program_bytes (written (register_program_of f p)) (written_targets (register_program_of f p) (targets_of f p)) in
     let q = says_written 29 A.out.now M bytes _ (7 + 3 * p.shape.processes + 8 * t + 5 * (p.targets.count * k)) W.0 N c.if-out-needed.false (put_first c.put_program.ensures) in
-record { value = c.answer-2.ensures ∙ q.0; out_after = q.1 }
+    record { value = c.answer-2.ensures ∙ q.0; out_after = q.1 }

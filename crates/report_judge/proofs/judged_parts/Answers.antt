@@ -12,7 +12,7 @@ slice_bounds-wrong_mark-end c = sym (length-take-le c.args.end c.args.file.now c
 pub returns-then-wrong-n : goal.returns-then-wrong-n
 returns-then-wrong-n c = let a = c.args in
     let R = c.requires in
-record { value = said-wrong a.file.now a.program a.end a.n (length a.work.now) R.place _ c.mark_bytes-marks.ensures _ c.wrong_mark-wrong.ensures _ c.if-wrong-n.true c.ended.ensures; work_unchanged = refl }
+    record { value = said-wrong a.file.now a.program a.end a.n (length a.work.now) R.place _ c.mark_bytes-marks.ensures _ c.wrong_mark-wrong.ensures _ c.if-wrong-n.true c.ended.ensures; work_unchanged = refl }
 
 pub list_verdict-list-requires : goal.list_verdict-list-requires
 list_verdict-list-requires c = let a = c.args in
@@ -31,11 +31,17 @@ failing_run-failing-requires c = let a = c.args in
 pub returns-then-failing-n : goal.returns-then-failing-n
 returns-then-failing-n c = let a = c.args in
     let R = c.requires in
-    let K = kept_next (kept_begin a.work.now) c.list_verdict-list.ensures.work_after in record { value = said-failing a.file.now a.program a.end a.n (length a.work.now) R.place _ c.mark_bytes-marks.ensures _ c.wrong_mark-wrong.ensures _ c.if-wrong-n.false _ (list_part_lem a.file.now a.end a.n a.program.transitions.at R (a.end + 2 * a.n) _ refl c.evidence_end-next.ensures (length a.work.now) _ c.list_verdict-list.ensures.value) c.if-list-gt0.false _
-          (c.failing_run-failing.ensures.value ∙ ap (failing_part a.file.now a.program.transitions.at _ a.n) K.size) c.if-failing-n.true c.ended-then-failing-n.ensures; work_unchanged = c.failing_run-failing.ensures.work_unchanged ∙ K.after }
+    let K = kept_next (kept_begin a.work.now) c.list_verdict-list.ensures.work_after in record {
+      value = said-failing a.file.now a.program a.end a.n (length a.work.now) R.place _ c.mark_bytes-marks.ensures _ c.wrong_mark-wrong.ensures _ c.if-wrong-n.false _ (list_part_lem a.file.now a.end a.n a.program.transitions.at R (a.end + 2 * a.n) _ refl c.evidence_end-next.ensures (length a.work.now) _ c.list_verdict-list.ensures.value) c.if-list-gt0.false _
+          (c.failing_run-failing.ensures.value ∙ ap (failing_part a.file.now a.program.transitions.at _ a.n) K.size) c.if-failing-n.true c.ended-then-failing-n.ensures;
+      work_unchanged = c.failing_run-failing.ensures.work_unchanged ∙ K.after;
+    }
 
 pub returns : goal.returns
 returns c = let a = c.args in
     let R = c.requires in
-    let K = kept_next (kept_begin a.work.now) c.list_verdict-list.ensures.work_after in record { value = said-needed a.file.now a.program a.end a.n (length a.work.now) R.place _ c.mark_bytes-marks.ensures _ c.wrong_mark-wrong.ensures _ c.if-wrong-n.false _ (list_part_lem a.file.now a.end a.n a.program.transitions.at R (a.end + 2 * a.n) _ refl c.evidence_end-next.ensures (length a.work.now) _ c.list_verdict-list.ensures.value) c.if-list-gt0.false _
-          (c.failing_run-failing.ensures.value ∙ ap (failing_part a.file.now a.program.transitions.at _ a.n) K.size) c.if-failing-n.false c.ended-2.ensures; work_unchanged = c.failing_run-failing.ensures.work_unchanged ∙ K.after }
+    let K = kept_next (kept_begin a.work.now) c.list_verdict-list.ensures.work_after in record {
+      value = said-needed a.file.now a.program a.end a.n (length a.work.now) R.place _ c.mark_bytes-marks.ensures _ c.wrong_mark-wrong.ensures _ c.if-wrong-n.false _ (list_part_lem a.file.now a.end a.n a.program.transitions.at R (a.end + 2 * a.n) _ refl c.evidence_end-next.ensures (length a.work.now) _ c.list_verdict-list.ensures.value) c.if-list-gt0.false _
+          (c.failing_run-failing.ensures.value ∙ ap (failing_part a.file.now a.program.transitions.at _ a.n) K.size) c.if-failing-n.false c.ended-2.ensures;
+      work_unchanged = c.failing_run-failing.ensures.work_unchanged ∙ K.after;
+    }

@@ -7,4 +7,4 @@ use Rattle.exports.proofs.reports.hrafnolt_report.Goals as goal
 pub returns : goal.returns
 returns c = let e = c.report.ensures.computed in
     let a = subst (ReportAnswered _ _) (sym e) (one_report_answer _ _).0 in
-record { judged = a; needed = λ k. needed_for_c _ _ _ a k; computed = search rules; area = search rules }
+    record { judged = a; needed = λ k. needed_for_c _ _ _ a k; computed = search rules; area = search rules }

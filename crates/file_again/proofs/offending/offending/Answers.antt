@@ -15,7 +15,7 @@ returns-then-in_program c = let a = c.args in
     let e =
     c.record_at.ensures ∙ ap (record_at a.code.now) c.offending_place-at.ensures
     ∙ sym (ap (λ (h : List ℕ). record_at h o.at) (program_bytes a.code.now a.file.now o.part p)) in
-record { stands = e; bytes = e ∙ stands a.code.now a.file.now a.part a.number a.place }
+    record { stands = e; bytes = e ∙ stands a.code.now a.file.now a.part a.number a.place }
 
 pub returns : goal.returns
 returns c = let a = c.args in
@@ -26,4 +26,4 @@ returns c = let a = c.args in
     let e =
     c.record_at-2.ensures ∙ ap (record_at a.file.now) c.offending_place-at.ensures
     ∙ sym (ap (λ (h : List ℕ). record_at h o.at) (evidence_bytes a.code.now a.file.now o.part p)) in
-record { stands = e; bytes = e ∙ stands a.code.now a.file.now a.part a.number a.place }
+    record { stands = e; bytes = e ∙ stands a.code.now a.file.now a.part a.number a.place }

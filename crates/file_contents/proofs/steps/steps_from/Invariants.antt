@@ -18,7 +18,7 @@ abbrev check : Shape → ℕ → List ℕ → ℕ → ℕ → Checked
 check s transitions f k n = checked (step_number s transitions f k n) k
 
 abbrev pub invariant-loop-k : goal.invariant-loop-k
-invariant-loop-k l = (l.n ≤ 1024) × (row_from (ends l.file) (check l.shape l.transitions l.file) (λ l.k. 1 + step_body l.file l.k) (1024 - l.n) l.k l.n ≡ steps_from l.shape l.transitions l.file l.at)
+invariant-loop-k l = (l.n ≤ 1024) × (row_from (ends l.file) (check l.shape l.transitions l.file) (λ k. 1 + step_body l.file k) (1024 - l.n) l.k l.n ≡ steps_from l.shape l.transitions l.file l.at)
 
 abbrev pub decreases-loop-k : goal.decreases-loop-k
 decreases-loop-k l = 1024 - l.n

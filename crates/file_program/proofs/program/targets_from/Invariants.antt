@@ -17,7 +17,7 @@ abbrev check : Format → Shape → List ℕ → List ℕ → ℕ → ℕ → Ch
 check format s states f k n = unless_end f k (checked (target_number format s states f k n) k)
 
 abbrev pub invariant-loop-format : goal.invariant-loop-format
-invariant-loop-format l = (l.n ≤ most_targets l.format) × (row_from (ends l.alone l.file) (check l.format l.shape l.states l.file) (λ l.k. 5) (most_targets l.format - l.n) l.k l.n ≡ targets_from l.format l.alone l.shape l.states l.file l.at)
+invariant-loop-format l = (l.n ≤ most_targets l.format) × (row_from (ends l.alone l.file) (check l.format l.shape l.states l.file) (λ k. 5) (most_targets l.format - l.n) l.k l.n ≡ targets_from l.format l.alone l.shape l.states l.file l.at)
 
 abbrev pub decreases-loop-format : goal.decreases-loop-format
 decreases-loop-format l = most_targets l.format - l.n

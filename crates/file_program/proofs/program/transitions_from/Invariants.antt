@@ -17,7 +17,7 @@ abbrev check : Format → Shape → List ℕ → List ℕ → ℕ → ℕ → Ch
 check format s states f k n = checked (transition_number format s states f k n) k
 
 abbrev pub invariant-loop-format : goal.invariant-loop-format
-invariant-loop-format l = (l.n ≤ 256) × (row_from (ends l.format l.file) (check l.format l.shape l.states l.file) (λ l.k. 8) (256 - l.n) l.k l.n ≡ transitions_from l.format l.shape l.states l.file l.at)
+invariant-loop-format l = (l.n ≤ 256) × (row_from (ends l.format l.file) (check l.format l.shape l.states l.file) (λ k. 8) (256 - l.n) l.k l.n ≡ transitions_from l.format l.shape l.states l.file l.at)
 
 abbrev pub decreases-loop-format : goal.decreases-loop-format
 decreases-loop-format l = 256 - l.n

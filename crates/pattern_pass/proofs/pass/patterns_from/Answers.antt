@@ -39,7 +39,7 @@ returns-in_default c = let a = c.args in
     let q : checked (pattern_number a.shape a.states a.file.now c.loop-k.k (leb a.allowed c.loop-k.n)) c.loop-k.k ≡ Refused r = sym c.check_pattern-head.ensures ∙ c.in_default.is in
     let e : listed_from a.allowed a.shape a.states a.file.now a.at [] [] ≡ stopped_at L.offsets L.patterns r =
     sym L.reads ∙ head-stops a.shape a.states a.file.now c.loop-k.k L.offsets L.patterns a.allowed c.loop-k.n c.loop-k-test.true r q in
-record { value = ap Stopped (c.refusal_of.ensures ∙ ap refusal_of c.in_default.is) ∙ sym (ap count_listed e); list_after = L.wrote ∙ sym (ap (λ (x : PatternsListed). wrote_from 0 x.offsets a.list.now) e) }
+    record { value = ap Stopped (c.refusal_of.ensures ∙ ap refusal_of c.in_default.is) ∙ sym (ap count_listed e); list_after = L.wrote ∙ sym (ap (λ (x : PatternsListed). wrote_from 0 x.offsets a.list.now) e) }
 
 pub pattern_from-end-requires : goal.pattern_from-end-requires
 pattern_from-end-requires c = let g = head_fine c.args.file.now c.loop-k.k c.args.shape c.args.states (leb c.args.allowed c.loop-k.n) (head c) in
@@ -55,7 +55,7 @@ returns-in_default-end c = let a = c.args in
     let d = end_bad (read_pattern a.shape a.file.now c.loop-k.k) r (sym c.pattern_from-end.ensures ∙ c.in_default-end.is) in
     let e : listed_from a.allowed a.shape a.states a.file.now a.at [] [] ≡ stopped_at L.offsets L.patterns r =
     sym L.reads ∙ pattern-refused a.shape a.states a.file.now c.loop-k.k L.offsets L.patterns a.allowed c.loop-k.n c.loop-k-test.true (head c.before.before.before.before) r d in
-record { value = ap Stopped (c.end_refusal.ensures ∙ ap end_refused c.in_default-end.is) ∙ sym (ap count_listed e); list_after = L.wrote ∙ sym (ap (λ (x : PatternsListed). wrote_from 0 x.offsets a.list.now) e) }
+    record { value = ap Stopped (c.end_refusal.ensures ∙ ap end_refused c.in_default-end.is) ∙ sym (ap count_listed e); list_after = L.wrote ∙ sym (ap (λ (x : PatternsListed). wrote_from 0 x.offsets a.list.now) e) }
 
 pub overflow_add-n : goal.overflow_add-n
 overflow_add-n c = omega (arith, c.loop-k.invariant.most, c.requires.2)
@@ -74,4 +74,4 @@ returns c = let a = c.args in
     let L = c.loop-k.invariant in
     let e : listed_from a.allowed a.shape a.states a.file.now a.at [] [] ≡ record { offsets = L.offsets; patterns = L.patterns; answer = Fine } =
     sym L.reads ∙ list_ends a.shape a.states a.file.now c.loop-k.k L.offsets L.patterns (a.allowed - c.loop-k.n) c.loop-k-test.false in
-record { value = ap Records L.count ∙ sym (ap count_listed e); list_after = L.wrote ∙ sym (ap (λ (x : PatternsListed). wrote_from 0 x.offsets a.list.now) e) }
+    record { value = ap Records L.count ∙ sym (ap count_listed e); list_after = L.wrote ∙ sym (ap (λ (x : PatternsListed). wrote_from 0 x.offsets a.list.now) e) }

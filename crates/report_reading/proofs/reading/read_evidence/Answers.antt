@@ -24,4 +24,4 @@ runs_from-requires c = let l : length c.read_part-list.new.1.1.1.0 ≡ length c.
 pub returns : goal.returns
 returns c = let a = c.args in
     let l : length c.read_part-list.new.1.1.1.0 ≡ length a.work.now = search rules in
-record { value = runs_returned a.file.now _ _ _ c.requires _ c.read_part-list.ensures.value c.in-Fine.is _ c.evidence_end.ensures _ l _ c.runs_from.ensures.value; work_after = c.runs_from.ensures.work_unchanged ∙ c.read_part-list.ensures.work_after }
+    record { value = runs_returned a.file.now _ _ _ c.requires _ c.read_part-list.ensures.value c.in-Fine.is _ c.evidence_end.ensures _ l _ c.runs_from.ensures.value; work_after = c.runs_from.ensures.work_unchanged ∙ c.read_part-list.ensures.work_after }

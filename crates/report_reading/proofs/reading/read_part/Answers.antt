@@ -29,8 +29,8 @@ in_report-requires c = let a = c.args in
 
 pub returns-in_default : goal.returns-in_default
 returns-in_default c = let a = c.args in
-record { value = refused_returned a.file.now _ _ _ c.requires _ c.evidence_end-next.ensures _ c.read-reading.ensures.value c.in_default.field-0 c.in_default.is _ _ c.refusal_of.ensures c.in_report.ensures; work_after = area_returned a.file.now _ _ _ c.requires _ c.evidence_end-next.ensures a.work.now _ c.read-reading.ensures.work_after }
+    record { value = refused_returned a.file.now _ _ _ c.requires _ c.evidence_end-next.ensures _ c.read-reading.ensures.value c.in_default.field-0 c.in_default.is _ _ c.refusal_of.ensures c.in_report.ensures; work_after = area_returned a.file.now _ _ _ c.requires _ c.evidence_end-next.ensures a.work.now _ c.read-reading.ensures.work_after }
 
 pub returns : goal.returns
 returns c = let a = c.args in
-record { value = fine-returned a.file.now _ _ _ c.requires _ c.evidence_end-next.ensures _ c.read-reading.ensures.value c.in-Fine.is; work_after = area_returned a.file.now _ _ _ c.requires _ c.evidence_end-next.ensures a.work.now _ c.read-reading.ensures.work_after }
+    record { value = fine-returned a.file.now _ _ _ c.requires _ c.evidence_end-next.ensures _ c.read-reading.ensures.value c.in-Fine.is; work_after = area_returned a.file.now _ _ _ c.requires _ c.evidence_end-next.ensures a.work.now _ c.read-reading.ensures.work_after }

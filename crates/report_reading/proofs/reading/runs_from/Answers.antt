@@ -34,7 +34,7 @@ returns-in_default-answer c = let a = c.args in
     let k = c.loop-i.k in
     let r = c.in_default-answer.field-0 in
     let e = sym c.due_claim-due.ensures ∙ c.in-Fine.is in
-record { value = c.in_default-answer.is ∙ known-refused K c.loop-i-test.true e r (said a.file.now k K.same c.read_part-answer.ensures.value c.in_default-answer.is); work_unchanged = known_kept K c.loop-i-test.true e c.requires c.read_part-answer.ensures.work_after }
+    record { value = c.in_default-answer.is ∙ known-refused K c.loop-i-test.true e r (said a.file.now k K.same c.read_part-answer.ensures.value c.in_default-answer.is); work_unchanged = known_kept K c.loop-i-test.true e c.requires c.read_part-answer.ensures.work_after }
 
 pub loop-i-preserved : goal.loop-i-preserved
 loop-i-preserved c = let a = c.args in

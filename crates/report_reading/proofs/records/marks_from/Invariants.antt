@@ -15,7 +15,7 @@ abbrev check : ℕ → List ℕ → ℕ → ℕ → Checked
 check transitions f k n = checked (mark_number transitions f k n) k
 
 abbrev pub invariant-loop-answer : goal.invariant-loop-answer
-invariant-loop-answer l = (l.n ≤ 8) × (row_from (ends l.file) (check l.transitions l.file) (λ l.k. 2) (8 - l.n) l.k l.n ≡ marks_from l.transitions l.file l.at)
+invariant-loop-answer l = (l.n ≤ 8) × (row_from (ends l.file) (check l.transitions l.file) (λ k. 2) (8 - l.n) l.k l.n ≡ marks_from l.transitions l.file l.at)
 
 abbrev pub decreases-loop-answer : goal.decreases-loop-answer
 decreases-loop-answer l = 8 - l.n
