@@ -15,4 +15,4 @@ pub returns-in-4 : goal.returns-in-4
 returns-in-4 c = λ x y z t w v l. free_four x y z t w v (omega (arith, l, c.in-4.is))
 
 pub returns-in_default : goal.returns-in_default
-returns-in_default c = λ x y z t w v l. absurd (omega (arith, l, c.requires, c.in_default-own.rest.1, c.in_default-own.rest.0.1, c.in_default-own.rest.0.0.1, c.in_default-own.rest.0.0.0))
+returns-in_default c = λ x y z t w v l. absurd (omega (arith, l, c.requires, c.in_default.in_default-own.rest.1, c.in_default.in_default-own.rest.0.1, c.in_default.in_default-own.rest.0.0.1, c.in_default.in_default-own.rest.0.0.0))

@@ -8,10 +8,10 @@ use mathlib.Core.Path.{refl, sym, ap, ◌∙◌}
 use Rattle.pso_replay.proofs.units.step_unit.Goals as goal
 
 pub enum_told-1 : goal.enum_told-1
-enum_told-1 c = c.in-Permitted-own.keys1
+enum_told-1 c = c.in-Permitted.in-Permitted-own.keys1
 
 pub enum_told-in_default : goal.enum_told-in_default
-enum_told-in_default c = c.in_default-own.keys2
+enum_told-in_default c = c.in_default.in_default-own.keys2
 
 pub returns-in_default : goal.returns-in_default
 returns-in_default c = record { lower_len_unchanged = refl; by_index = λ steps k said R l. (λ e. absurd (permitted_refused c.step_answer-answer.result e c.in_default.is), λ cause e. replayed_stopped R c.step_answer-answer.result cause l (c.step_answer-answer.ensures ∙ ap (answer_in c.args.replay.run c.args.lower.now c.args.program.shape) (c.pso_move-step.ensures ∙ ap (pso_move_of c.args.code.now c.args.program.transitions) c.step_at.ensures)) e) }

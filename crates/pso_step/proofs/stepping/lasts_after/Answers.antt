@@ -1,16 +1,16 @@
 use Rattle.pso_step.proofs.stepping.lasts_after.Goals as goal
 
 pub enum_told-1 : goal.enum_told-1
-enum_told-1 c = c.in-Absent-own.keys1
+enum_told-1 c = c.in-Absent.in-Absent-own.keys1
 
 pub enum_known-step : goal.enum_known-step
-enum_known-step c = c.in-Operate-own.keys2
+enum_known-step c = c.in-Operate.in-Operate-own.keys2
 
 pub enum_known-step-in-UpdateVariable-1 : goal.enum_known-step-in-UpdateVariable-1
-enum_known-step-in-UpdateVariable-1 c = c.in-UpdateVariable-own.keys3
+enum_known-step-in-UpdateVariable-1 c = c.in-UpdateVariable.in-UpdateVariable-own.keys3
 
 pub enum_known-step-in-RemoveMark-1 : goal.enum_known-step-in-RemoveMark-1
-enum_known-step-in-RemoveMark-1 c = c.in-RemoveMark-own.keys4
+enum_known-step-in-RemoveMark-1 c = c.in-RemoveMark.in-RemoveMark-own.keys4
 
 pub returns-in-Absent : goal.returns-in-Absent
 returns-in-Absent c = rw c.in-Absent.is

@@ -41,4 +41,4 @@ pub returns-in_default : goal.returns-in_default
 returns-in_default c = let A = c.args in
     let f = A.file.now in
     let k = A.k in
-    put_as c.put-in_default.ensures (rw (c.pair-in_default.ensures, c.field-in_default-2.ensures, c.field-in_default.ensures, c.field-state.ensures, c.field-variable.ensures, c.field-operation.ensures, c.pair-from.ensures, c.field.ensures, c.field-process.ensures) (sym (one_plain f k A.has c.requires.0 A.r A.x (λ d. c.in_default-own.rest.0.0.1 (c.field-operation.ensures ∙ d)) (λ d. c.in_default-own.rest.0.1 (c.field-operation.ensures ∙ d)) (λ d. c.in_default-own.rest.1 (c.field-operation.ensures ∙ d)))))
+    put_as c.put-in_default.ensures (rw (c.pair-in_default.ensures, c.field-in_default-2.ensures, c.field-in_default.ensures, c.field-state.ensures, c.field-variable.ensures, c.field-operation.ensures, c.pair-from.ensures, c.field.ensures, c.field-process.ensures) (sym (one_plain f k A.has c.requires.0 A.r A.x (λ d. c.in_default.in_default-own.rest.0.0.1 (c.field-operation.ensures ∙ d)) (λ d. c.in_default.in_default-own.rest.0.1 (c.field-operation.ensures ∙ d)) (λ d. c.in_default.in_default-own.rest.1 (c.field-operation.ensures ∙ d)))))

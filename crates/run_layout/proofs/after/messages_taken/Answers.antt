@@ -1,22 +1,22 @@
 use Rattle.run_layout.proofs.after.messages_taken.Goals as goal
 
 pub enum_told-1 : goal.enum_told-1
-enum_told-1 c = c.in-Nop-own.keys1
+enum_told-1 c = c.in-Nop.in-Nop-own.keys1
 
 pub enum_known-operation : goal.enum_known-operation
-enum_known-operation c = c.in-Read-own.keys2
+enum_known-operation c = c.in-Read.in-Read-own.keys2
 
 pub enum_known-operation-in-Write-1 : goal.enum_known-operation-in-Write-1
-enum_known-operation-in-Write-1 c = c.in-Write-own.keys3
+enum_known-operation-in-Write-1 c = c.in-Write.in-Write-own.keys3
 
 pub enum_told-in-Mfence : goal.enum_told-in-Mfence
-enum_told-in-Mfence c = c.in-Mfence-own.keys4
+enum_told-in-Mfence c = c.in-Mfence.in-Mfence-own.keys4
 
 pub enum_told-in-Sfence : goal.enum_told-in-Sfence
-enum_told-in-Sfence c = c.in-Sfence-own.keys5
+enum_told-in-Sfence c = c.in-Sfence.in-Sfence-own.keys5
 
 pub enum_known-operation-in-Arw-1 : goal.enum_known-operation-in-Arw-1
-enum_known-operation-in-Arw-1 c = c.in-Arw-own.keys6
+enum_known-operation-in-Arw-1 c = c.in-Arw.in-Arw-own.keys6
 
 pub returns-in-Nop : goal.returns-in-Nop
 returns-in-Nop c = rw c.in-Nop.is

@@ -2,16 +2,16 @@ use borrow.Author.Tests.{le-leb, lt-leb}
 use Rattle.run_layout.proofs.moves.move_of.Goals as goal
 
 pub enum_known-step : goal.enum_known-step
-enum_known-step c = c.in-Take-own.keys1
+enum_known-step c = c.in-Take.in-Take-own.keys1
 
 pub returns-then-transitions-transition : goal.returns-then-transitions-transition
 returns-then-transitions-transition c = rw (c.in-Take.is, le-leb _ _ c.if-transitions-transition.true)
 
 pub enum_known-step-in-Serialise-1 : goal.enum_known-step-in-Serialise-1
-enum_known-step-in-Serialise-1 c = c.in-Serialise-own.keys2
+enum_known-step-in-Serialise-1 c = c.in-Serialise.in-Serialise-own.keys2
 
 pub enum_known-step-in-Update-1 : goal.enum_known-step-in-Update-1
-enum_known-step-in-Update-1 c = c.in-Update-own.keys3
+enum_known-step-in-Update-1 c = c.in-Update.in-Update-own.keys3
 
 pub returns-else-transitions-transition : goal.returns-else-transitions-transition
 returns-else-transitions-transition c = rw (c.in-Take.is, lt-leb _ _ c.if-transitions-transition.false, c.transition_in.ensures)

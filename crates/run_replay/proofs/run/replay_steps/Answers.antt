@@ -37,10 +37,10 @@ pub loop-i-init : goal.loop-i-init
 loop-i-init c = (λ said R. R, refl)
 
 pub enum_told-1 : goal.enum_told-1
-enum_told-1 c = c.in-Permitted-own.keys1
+enum_told-1 c = c.in-Permitted.in-Permitted-own.keys1
 
 pub enum_told-in_default : goal.enum_told-in_default
-enum_told-in_default c = c.in_default-own.keys2
+enum_told-in_default c = c.in_default.in_default-own.keys2
 
 pub overflow_add-i : goal.overflow_add-i
 overflow_add-i c = omega (arith, c.if-count-i.false, c.ranges.count)

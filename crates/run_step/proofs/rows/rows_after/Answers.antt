@@ -1,16 +1,16 @@
 use Rattle.run_step.proofs.rows.rows_after.Goals as goal
 
 pub enum_told-1 : goal.enum_told-1
-enum_told-1 c = c.in-Absent-own.keys1
+enum_told-1 c = c.in-Absent.in-Absent-own.keys1
 
 pub enum_known-step : goal.enum_known-step
-enum_known-step c = c.in-Take-own.keys2
+enum_known-step c = c.in-Take.in-Take-own.keys2
 
 pub enum_known-step-in-Serialise-1 : goal.enum_known-step-in-Serialise-1
-enum_known-step-in-Serialise-1 c = c.in-Serialise-own.keys3
+enum_known-step-in-Serialise-1 c = c.in-Serialise.in-Serialise-own.keys3
 
 pub enum_known-step-in-Update-1 : goal.enum_known-step-in-Update-1
-enum_known-step-in-Update-1 c = c.in-Update-own.keys4
+enum_known-step-in-Update-1 c = c.in-Update.in-Update-own.keys4
 
 pub returns-in-Absent : goal.returns-in-Absent
 returns-in-Absent c = rw c.in-Absent.is

@@ -1,13 +1,13 @@
 use Rattle.run_step.proofs.storing.store_taken.Goals as goal
 
 pub enum_known-operation : goal.enum_known-operation
-enum_known-operation c = c.in-Read-own.keys2
+enum_known-operation c = c.in-Read.in-Read-own.keys2
 
 pub enum_known-operation-in-Write-1 : goal.enum_known-operation-in-Write-1
-enum_known-operation-in-Write-1 c = c.in-Write-own.keys3
+enum_known-operation-in-Write-1 c = c.in-Write.in-Write-own.keys3
 
 pub enum_known-operation-in-Arw-1 : goal.enum_known-operation-in-Arw-1
-enum_known-operation-in-Arw-1 c = c.in-Arw-own.keys6
+enum_known-operation-in-Arw-1 c = c.in-Arw.in-Arw-own.keys6
 
 pub returns-in-Nop : goal.returns-in-Nop
 returns-in-Nop c = rw c.in-Nop.is
