@@ -16,7 +16,7 @@ pub returns-in-Take : goal.returns-in-Take
 returns-in-Take c = rw c.in-Take.is c.store_taken.ensures
 
 pub returns-in-Serialise : goal.returns-in-Serialise
-returns-in-Serialise c = rw (c.step-in-Serialise-1.given.1, c.append.ensures, c.waiting_at-oldest.ensures, c.of_queues.ensures, c.queue_number-q.ensures)
+returns-in-Serialise c = rw (c.in-Serialise.is, c.append.ensures, c.waiting_at-oldest.ensures, c.of_queues.ensures, c.queue_number-q.ensures)
 
 pub returns-in-Update : goal.returns-in-Update
 returns-in-Update c = rw c.in-Update.is
