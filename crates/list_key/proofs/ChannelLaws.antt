@@ -16,7 +16,7 @@ use Rattle.file_contents.specs.declared.entry.Cube.{Cube}
 use Rattle.file_records.specs.ProgramPart.{shape_of}
 use Rattle.file_contents.specs.Cube.{channel_of, configuration_of}
 use Rattle.file_contents.proofs.CubeParts.{channel_length}
-use Rattle.list_theory.specs.Matching.{same, subsequence, message_matches, tag_matches}
+use Rattle.list_theory.specs.Matching.{subsequence, message_matches, tag_matches}
 use Rattle.list_key.specs.Relation.{relation}
 use Rattle.list_key.specs.Tags.{mask, label_number, tag_of, tags_of, lowest_below, lowest_pointer}
 use Rattle.list_key.specs.Match.{Suits, channel_matches}

@@ -11,7 +11,7 @@ use lib.Dec.{T, leb}
 use borrow.Author.Tests.{le-leb, lt-leb}
 use Rattle.machine_pws.specs.declared.Message.{Message}
 use Rattle.machine_pws.specs.Program.{ShapeInRange}
-use Rattle.machine_pws.specs.Machine.{Memory, no_message, message, is_empty}
+use Rattle.machine_pws.specs.Machine.{Memory, no_message, is_empty}
 use Rattle.machine_pws.specs.Configurations.{Fits}
 use Rattle.machine_pws.specs.Entries.{ValueOrFF}
 use Rattle.machine_pws.specs.Tagged.{Tagged, table, roles, has_role, is_live_at, tagged_from, tagged}

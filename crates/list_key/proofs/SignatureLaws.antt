@@ -10,7 +10,7 @@ use native.Mathlib.Decide.{dec_le}
 use native.Mathlib.Numerals.{unary_clauses}
 use native.Mathlib.Nat.{one-mul, mod-eq_of_lt}
 use lib.Arith.{bin_ind}
-use lib.Bits.{bit_or, bit_and, or_step, or_self, or_comm, or_lt, or_add_and, and_mask}
+use lib.Bits.{bit_or, or_step, or_self, or_comm, or_lt, or_add_and, and_mask}
 use lib.Pow.{pow-lt, shl_exact}
 use lib.ListN.{length, get_or}
 use lib.Dec.{T, eqb, ltb, leb, eqb→eq}
@@ -335,6 +335,8 @@ value_contained base a b t = fill_contained (λ y. bit_at (base + y)) a b t
 
 related_at : (xs ys : List ℕ) → Pointwise (Related fills) xs ys → (v : ℕ) → T (fills (get_or xs v 0) (get_or ys v 0))
 related_at [] [] none_left v = tt
+related_at [] (b ∷ ys) w v = elim w [ ]
+related_at (a ∷ xs) [] w v = elim w [ ]
 related_at (a ∷ xs) (b ∷ ys) (one_more t w) zero = t
 related_at (a ∷ xs) (b ∷ ys) (one_more t w) (suc v) = related_at xs ys w v
 

@@ -10,14 +10,13 @@ use native.Mathlib.Numerals.{unary_clauses}
 use lib.ListN.{length, get_or, take, drop, length-take, length-map, drop_of_length-le}
 use lib.Seq.{drop-cons, get_or-take}
 use lib.Dec.{eqb, ltb}
-use borrow.Author.Tests.{ltb-true, ltb-false, eqb-true, eq-eqb, ne_eqb}
+use borrow.Author.Tests.{ltb-true, ltb-false, eq-eqb, ne_eqb}
 use Rattle.machine_pws.specs.Machine.{newest_waiting}
 use Rattle.machine_pws.specs.Entries.{FF}
 use Rattle.file_contents.specs.declared.entry.Queue.{Queue}
 use Rattle.file_contents.specs.Cube.{waiting_of}
 use Rattle.list_theory.specs.Values.{pairwise}
 use Rattle.list_theory.specs.Matching.{subsequence, queue_matches}
-use Rattle.file_records.proofs.ProgramLaws.{and_true}
 use Rattle.list_key.specs.Relation.{relation}
 use Rattle.list_key.specs.Word.{Word}
 

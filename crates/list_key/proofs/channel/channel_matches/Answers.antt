@@ -4,7 +4,7 @@ use Rattle.list_key.proofs.ChannelLaws.{newest_begin, Reads, reads_all, reads_no
 use Rattle.list_key.proofs.channel.channel_matches.Goals as goal
 
 pub loop-i-init : goal.loop-i-init
-loop-i-init c = newest_begin c.args.exact s a c.args.left.now b c.args.right.now c.least-i.result c.least-j.result h.count h.counted
+loop-i-init c s a b h = newest_begin c.args.exact s a c.args.left.now b c.args.right.now c.least-i.result c.least-j.result h.count h.counted
 
 pub returns-then-i-first : goal.returns-then-i-first
 returns-then-i-first c = (let h : Reads c.args.shape c.args.a c.args.b c.args.a.messages c.args.b.messages c.wide-first.result c.wide-last.result c.least-i.result c.least-j.result = (record { messages = refl; others = refl; first = c.wide-first.ensures ∙ c.lowest.ensures; last = c.wide-last.ensures ∙ c.lowest-2.ensures; count = c.least-i.ensures; counted = c.least-j.ensures }) in reads_all c.args.exact c.args.shape c.args.a c.args.left.now c.args.b c.args.right.now h (c.loop-i.invariant c.args.shape c.args.a c.args.b h) c.if-i-first.true)
@@ -58,7 +58,7 @@ pub loop-i-smaller-then-message_matches : goal.loop-i-smaller-then-message_match
 loop-i-smaller-then-message_matches c = let r = (let h : Reads c.args.shape c.args.a c.args.b c.args.a.messages c.args.b.messages c.wide-first.result c.wide-last.result c.least-i.result c.least-j.result = (record { messages = refl; others = refl; first = c.wide-first.ensures ∙ c.lowest.ensures; last = c.wide-last.ensures ∙ c.lowest-2.ensures; count = c.least-i.ensures; counted = c.least-j.ensures }) in last-room c.args.exact c.args.shape c.args.a c.args.left.now c.args.b c.args.right.now h (c.loop-i.invariant c.args.shape c.args.a c.args.b h) (omega (arith, c.if-j-last.false))) in omega (arith, r.0)
 
 pub loop-i-preserved-then-message_matches : goal.loop-i-preserved-then-message_matches
-loop-i-preserved-then-message_matches c = reads-match c.args.exact s a c.args.left.now b c.args.right.now h (c.loop-i.invariant s a b h) (omega (arith, c.if-i-first.false)) (omega (arith, c.if-j-last.false)) c.message_matches.ensures c.if-message_matches.true
+loop-i-preserved-then-message_matches c s a b h = reads-match c.args.exact s a c.args.left.now b c.args.right.now h (c.loop-i.invariant s a b h) (omega (arith, c.if-i-first.false)) (omega (arith, c.if-j-last.false)) c.message_matches.ensures c.if-message_matches.true
 
 pub overflow_sub-j-else-message_matches : goal.overflow_sub-j-else-message_matches
 overflow_sub-j-else-message_matches c = (let h : Reads c.args.shape c.args.a c.args.b c.args.a.messages c.args.b.messages c.wide-first.result c.wide-last.result c.least-i.result c.least-j.result = (record { messages = refl; others = refl; first = c.wide-first.ensures ∙ c.lowest.ensures; last = c.wide-last.ensures ∙ c.lowest-2.ensures; count = c.least-i.ensures; counted = c.least-j.ensures }) in last-room c.args.exact c.args.shape c.args.a c.args.left.now c.args.b c.args.right.now h (c.loop-i.invariant c.args.shape c.args.a c.args.b h) (omega (arith, c.if-j-last.false))).0
@@ -67,4 +67,4 @@ pub loop-i-smaller : goal.loop-i-smaller
 loop-i-smaller c = let r = (let h : Reads c.args.shape c.args.a c.args.b c.args.a.messages c.args.b.messages c.wide-first.result c.wide-last.result c.least-i.result c.least-j.result = (record { messages = refl; others = refl; first = c.wide-first.ensures ∙ c.lowest.ensures; last = c.wide-last.ensures ∙ c.lowest-2.ensures; count = c.least-i.ensures; counted = c.least-j.ensures }) in last-room c.args.exact c.args.shape c.args.a c.args.left.now c.args.b c.args.right.now h (c.loop-i.invariant c.args.shape c.args.a c.args.b h) (omega (arith, c.if-j-last.false))) in omega (arith, r.0)
 
 pub loop-i-preserved : goal.loop-i-preserved
-loop-i-preserved c = reads-skip c.args.exact s a c.args.left.now b c.args.right.now h (c.loop-i.invariant s a b h) (omega (arith, c.if-i-first.false)) (omega (arith, c.if-j-last.false)) c.message_matches.ensures c.if-message_matches.false
+loop-i-preserved c s a b h = reads-skip c.args.exact s a c.args.left.now b c.args.right.now h (c.loop-i.invariant s a b h) (omega (arith, c.if-i-first.false)) (omega (arith, c.if-j-last.false)) c.message_matches.ensures c.if-message_matches.false

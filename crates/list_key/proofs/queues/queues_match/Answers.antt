@@ -1,4 +1,4 @@
-use Prim.Native.Nat.{ℕ, ◌-◌}
+use Prim.Native.Nat.{ℕ}
 use mathlib.Core.Path.{sym, ap, ◌∙◌}
 use mathlib.Core.Bool.{true}
 use native.Mathlib.Omega.{arith}
@@ -10,7 +10,7 @@ use Rattle.list_key.proofs.MatchLaws.{queue_test, row_true, row_false}
 use Rattle.list_key.proofs.queues.queues_match.Goals as goal
 
 pub loop-p-init : goal.loop-p-init
-loop-p-init c = each_begin (queue_row x c.args.exact c.args.a c.args.b) true c.least-n.result
+loop-p-init c x e = each_begin (queue_row x c.args.exact c.args.a c.args.b) true c.least-n.result
 
 pub loop-v-init : goal.loop-v-init
 loop-v-init c = each_begin (queue_test c.args.exact c.args.a c.args.b c.loop-p.p) true c.least-m.result
@@ -52,7 +52,7 @@ pub loop-p-smaller : goal.loop-p-smaller
 loop-p-smaller c = omega (arith, c.loop-p-test.true)
 
 pub loop-p-preserved : goal.loop-p-preserved
-loop-p-preserved c = each_next (c.loop-p.invariant x e) c.loop-p-test.true (row_true c.args.exact c.args.a c.args.b c.loop-p.p x e c.loop-v.invariant (omega (arith, c.loop-v-test.false)))
+loop-p-preserved c x e = each_next (c.loop-p.invariant x e) c.loop-p-test.true (row_true c.args.exact c.args.a c.args.b c.loop-p.p x e c.loop-v.invariant (omega (arith, c.loop-v-test.false)))
 
 pub returns : goal.returns
 returns c = sym (ap (λ (n : ℕ). all_below n (queue_row c.args.shape.variables c.args.exact c.args.a c.args.b)) (sym c.least-n.ensures) ∙ each_all (c.loop-p.invariant c.args.shape.variables c.least-m.ensures) (omega (arith, c.loop-p-test.false)))

@@ -1,6 +1,6 @@
 use Prim.Native.Nat.{min}
 use mathlib.Core.Path.{ap, ◌∙◌}
-use Rattle.list_key.specs.Signature.{bit_at, value_bits}
+use Rattle.list_key.specs.Signature.{bit_at}
 use Rattle.list_key.proofs.SignatureLaws.{message_role, message_none}
 use native.Mathlib.Omega.{arith}
 use Rattle.list_key.proofs.signature.message_bits.Goals as goal

@@ -1,6 +1,5 @@
 use Prim.Native.Nat.{◌-◌}
 use mathlib.Core.Path.{◌≡◌, refl, subst}
-use mathlib.Core.Logic.{⊎_elim}
 use lib.ListN.{get_or}
 use Rattle.list_key.specs.Tags.{cube_memory}
 use Rattle.list_key.proofs.RoleLaws.{roles_begin, place_kept, place_moved, roles_end}
@@ -9,6 +8,7 @@ use Rattle.list_key.proofs.PackLaws.{zeros_at}
 use native.Mathlib.Omega.{arith}
 use borrow.Author.Rules.{rules}
 use Rattle.list_key.proofs.tags.tags_of.Goals as goal
+use Rattle.list_key.proofs.tags.tags_of.Goals.{then-roles-q, else-roles-q, then-both, else-both}
 
 pub overflow_mul-end : goal.overflow_mul-end
 overflow_mul-end c = omega (arith, c.least-end.ensures)
@@ -47,7 +47,7 @@ pub loop-i-smaller : goal.loop-i-smaller
 loop-i-smaller c = omega (arith, c.loop-i-test.true)
 
 pub loop-i-preserved : goal.loop-i-preserved
-loop-i-preserved c = (omega (arith, c.loop-i-test.true), ⊎_elim (λ w. place_moved c.loop-i.invariant.1 c.label_place-q.ensures.0 w.0.taken w.1) (λ w. place_kept c.loop-i.invariant.1 c.label_place-q.ensures.0 (omega (arith, w.0.left)) w.1) c.if-roles-q.branch, labels_next c.loop-i.invariant.2 (omega (arith, c.loop-i-test.true, c.least-n.ensures)) c.label_number.ensures.0 c.label_number.ensures.1)
+loop-i-preserved c = (omega (arith, c.loop-i-test.true), elim c.if-roles-q.branch [ then-roles-q w ↦ place_moved c.loop-i.invariant.1 c.label_place-q.ensures.0 w.if-roles-q.true w.roles-is | else-roles-q w ↦ place_kept c.loop-i.invariant.1 c.label_place-q.ensures.0 (omega (arith, w.if-roles-q.false)) w.roles-is ], labels_next c.loop-i.invariant.2 (omega (arith, c.loop-i-test.true, c.least-n.ensures)) c.label_number.ensures.0 c.label_number.ensures.1)
 
 pub loop-q-init : goal.loop-q-init
 loop-q-init c = (omega arith, refl, omega arith, λ m ms R L. marked_begin c.least-variables.result c.least-n.result m ms L)
@@ -83,7 +83,7 @@ pub loop-q-smaller-then-k-variables : goal.loop-q-smaller-then-k-variables
 loop-q-smaller-then-k-variables c = omega (arith, c.loop-q-test.true)
 
 pub loop-q-preserved-then-k-variables : goal.loop-q-preserved-then-k-variables
-loop-q-preserved-then-k-variables c = (omega (arith, c.loop-q-test.true), omega (arith, c.loop-q.invariant.1, c.if-k-variables.true, c.least-variables.ensures), omega (arith, c.if-k-variables.true), λ m ms R L. go_on c.least-variables.result c.least-n.result m ms R (omega (arith, c.least-variables.ensures)) (omega (arith, c.least-n.ensures)) c.loop-q.invariant.1 (omega (arith, c.loop-q-test.true, c.least-end.ensures)) (⊎_elim (λ w. hit_here c.least-variables.result c.least-n.result m ms (c.loop-q.invariant.3 m ms R L) R (omega (arith, c.least-variables.ensures)) (omega (arith, c.least-n.ensures)) (omega (arith, c.loop-q-test.true, c.least-end.ensures)) c.wide-i.ensures c.both.ensures c.loop-q.invariant.2 w.0.taken w.1.ensures w.2) (λ w. miss_here c.least-variables.result c.least-n.result m ms (c.loop-q.invariant.3 m ms R L) R (omega (arith, c.least-variables.ensures)) (omega (arith, c.least-n.ensures)) (omega (arith, c.loop-q-test.true, c.least-end.ensures)) c.wide-i.ensures c.both.ensures w.0.left w.1) c.if-both.branch) c.if-k-variables.true)
+loop-q-preserved-then-k-variables c = (omega (arith, c.loop-q-test.true), omega (arith, c.loop-q.invariant.1, c.if-k-variables.true, c.least-variables.ensures), omega (arith, c.if-k-variables.true), λ m ms R L. go_on c.least-variables.result c.least-n.result m ms R (omega (arith, c.least-variables.ensures)) (omega (arith, c.least-n.ensures)) c.loop-q.invariant.1 (omega (arith, c.loop-q-test.true, c.least-end.ensures)) (elim c.if-both.branch [ then-both w ↦ hit_here c.least-variables.result c.least-n.result m ms (c.loop-q.invariant.3 m ms R L) R (omega (arith, c.least-variables.ensures)) (omega (arith, c.least-n.ensures)) (omega (arith, c.loop-q-test.true, c.least-end.ensures)) c.wide-i.ensures c.both.ensures c.loop-q.invariant.2 w.if-both.true w.role_bit.ensures w.tags-is | else-both w ↦ miss_here c.least-variables.result c.least-n.result m ms (c.loop-q.invariant.3 m ms R L) R (omega (arith, c.least-variables.ensures)) (omega (arith, c.least-n.ensures)) (omega (arith, c.loop-q-test.true, c.least-end.ensures)) c.wide-i.ensures c.both.ensures w.if-both.false w.tags-is ]) c.if-k-variables.true)
 
 pub overflow_sub-q : goal.overflow_sub-q
 overflow_sub-q c = omega (arith, c.loop-q.invariant.2, c.least-variables.ensures)
@@ -95,7 +95,7 @@ pub loop-q-smaller : goal.loop-q-smaller
 loop-q-smaller c = omega (arith, c.loop-q-test.true, c.loop-q.invariant.2, c.least-variables.ensures)
 
 pub loop-q-preserved : goal.loop-q-preserved
-loop-q-preserved c = (omega (arith, c.loop-q-test.true, c.loop-q.invariant.1, c.loop-q.invariant.2, c.least-variables.ensures), omega (arith, c.loop-q.invariant.1, c.loop-q.invariant.2, c.least-variables.ensures), omega arith, λ m ms R L. go_past c.least-variables.result c.least-n.result m ms R (omega (arith, c.least-variables.ensures)) (omega (arith, c.least-n.ensures)) c.loop-q.invariant.1 (omega (arith, c.loop-q-test.true, c.least-end.ensures)) (⊎_elim (λ w. hit_here c.least-variables.result c.least-n.result m ms (c.loop-q.invariant.3 m ms R L) R (omega (arith, c.least-variables.ensures)) (omega (arith, c.least-n.ensures)) (omega (arith, c.loop-q-test.true, c.least-end.ensures)) c.wide-i.ensures c.both.ensures c.loop-q.invariant.2 w.0.taken w.1.ensures w.2) (λ w. miss_here c.least-variables.result c.least-n.result m ms (c.loop-q.invariant.3 m ms R L) R (omega (arith, c.least-variables.ensures)) (omega (arith, c.least-n.ensures)) (omega (arith, c.loop-q-test.true, c.least-end.ensures)) c.wide-i.ensures c.both.ensures w.0.left w.1) c.if-both.branch) (omega (arith, c.if-k-variables.false, c.loop-q.invariant.2)))
+loop-q-preserved c = (omega (arith, c.loop-q-test.true, c.loop-q.invariant.1, c.loop-q.invariant.2, c.least-variables.ensures), omega (arith, c.loop-q.invariant.1, c.loop-q.invariant.2, c.least-variables.ensures), omega arith, λ m ms R L. go_past c.least-variables.result c.least-n.result m ms R (omega (arith, c.least-variables.ensures)) (omega (arith, c.least-n.ensures)) c.loop-q.invariant.1 (omega (arith, c.loop-q-test.true, c.least-end.ensures)) (elim c.if-both.branch [ then-both w ↦ hit_here c.least-variables.result c.least-n.result m ms (c.loop-q.invariant.3 m ms R L) R (omega (arith, c.least-variables.ensures)) (omega (arith, c.least-n.ensures)) (omega (arith, c.loop-q-test.true, c.least-end.ensures)) c.wide-i.ensures c.both.ensures c.loop-q.invariant.2 w.if-both.true w.role_bit.ensures w.tags-is | else-both w ↦ miss_here c.least-variables.result c.least-n.result m ms (c.loop-q.invariant.3 m ms R L) R (omega (arith, c.least-variables.ensures)) (omega (arith, c.least-n.ensures)) (omega (arith, c.loop-q-test.true, c.least-end.ensures)) c.wide-i.ensures c.both.ensures w.if-both.false w.tags-is ]) (omega (arith, c.if-k-variables.false, c.loop-q.invariant.2)))
 
 pub returns : goal.returns
 returns c = marked_end c.args.shape c.args.cube c.least-variables.ensures c.least-n.ensures (omega (arith, c.loop-q-test.false, c.loop-q.invariant.0, c.least-end.ensures)) (c.loop-q.invariant.3 (cube_memory c.args.cube) c.args.cube.messages (roles_end c.args.cube (search rules) (omega (arith, c.loop-i-test.false, c.loop-i.invariant.0, c.least-n.ensures)) c.loop-i.invariant.1) (let e : c.loop-i.i ≡ c.least-n.result = omega (arith, c.loop-i-test.false, c.loop-i.invariant.0) in subst (Labels c.loop-i.tags c.args.cube.messages) e c.loop-i.invariant.2))
