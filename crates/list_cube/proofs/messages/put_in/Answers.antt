@@ -1,14 +1,13 @@
 use Rattle.list_cube.proofs.MessageLaws.{shift_begin, shift_next, shift_end}
 use native.Mathlib.Omega.{arith}
-use Prim.Native.Nat.{◌-◌}
 use borrow.Author.Rules.{rules}
 use Rattle.list_cube.proofs.messages.put_in.Goals as goal
 
 pub returns-then-count-ge20 : goal.returns-then-count-ge20
-returns-then-count-ge20 c = absurd (omega (arith, c.if-count-ge20.true))
+returns-then-count-ge20 c l m = absurd (omega (arith, c.if-count-ge20.true))
 
 pub returns-then-count-at : goal.returns-then-count-at
-returns-then-count-at c = absurd (omega (arith, c.if-count-at.true))
+returns-then-count-at c l m = absurd (omega (arith, c.if-count-at.true))
 
 pub loop-i-init : goal.loop-i-init
 loop-i-init c = shift_begin c.args.messages c.args.at (search rules)
@@ -17,4 +16,4 @@ pub loop-i-preserved : goal.loop-i-preserved
 loop-i-preserved c = shift_next c.loop-i.invariant (omega (arith, c.loop-i-test.true, c.if-count-ge20.false))
 
 pub returns : goal.returns
-returns c = shift_end c.args.message c.args.count c.loop-i.invariant (omega (arith, c.loop-i-test.false)) m l
+returns c l m = shift_end c.args.message c.args.count c.loop-i.invariant (omega (arith, c.loop-i-test.false)) m l

@@ -4,7 +4,7 @@ use mathlib.Core.Path.{refl}
 use Rattle.list_cube.proofs.messages.raise.Goals as goal
 
 pub returns-then-i-k : goal.returns-then-i-k
-returns-then-i-k c = rw (lt-leb _ _ c.if-i-k.true) refl
+returns-then-i-k c l = rw (lt-leb _ _ c.if-i-k.true) refl
 
 pub returns : goal.returns
-returns c = rw (le-leb _ _ c.if-i-k.false) (omega arith)
+returns c l = rw (le-leb _ _ c.if-i-k.false) (omega arith)

@@ -6,7 +6,6 @@ use lib.Dec.{eqb}
 use native.Mathlib.Omega.{arith}
 use mathlib.Core.Bool.{Bool, true, ◌||◌, not}
 use mathlib.Core.Path.{sym, ap, ◌∙◌}
-use Prim.Native.Nat.{◌-◌}
 use Rattle.list_cube.proofs.newest.no_other.Goals as goal
 
 pub loop-q-init : goal.loop-q-init

@@ -4,7 +4,6 @@ use Rattle.machine_pws.specs.Machine.{at_newest}
 use native.Mathlib.Omega.{arith}
 use mathlib.Core.Bool.{true, not}
 use mathlib.Core.Path.{sym, ap, ◌∙◌}
-use Prim.Native.Nat.{◌-◌}
 use Rattle.list_cube.proofs.newest.none_at_newest.Goals as goal
 
 pub loop-q-init : goal.loop-q-init
