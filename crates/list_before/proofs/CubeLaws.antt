@@ -1,16 +1,15 @@
 -- A cube made of its parts, and what it stands for.
-use Prim.Native.Nat.{ℕ, zero, suc, ◌+◌, ◌*◌, ◌-◌, ◌<◌, ◌≤◌}
-use mathlib.Core.Path.{◌≡◌, refl, sym, ap, ap₂, subst, ◌∙◌}
+use Prim.Native.Nat.{ℕ, ◌+◌, ◌*◌, ◌-◌, ◌<◌, ◌≤◌}
+use mathlib.Core.Path.{◌≡◌, refl, sym, ap, subst, ◌∙◌}
 use mathlib.Core.Bool.{Bool, true, false, cond, ◌&&◌}
 use mathlib.Core.List.{List, [], ◌∷◌}
 use native.Mathlib.Omega.{arith}
-use lib.ListN.{length, get_or, set, get_or-eq_default}
+use lib.ListN.{length, get_or, set}
 use lib.Dec.{leb, ltb}
-use borrow.Author.Tests.{lt-leb, ltb-true, leb-true}
+use borrow.Author.Tests.{ltb-true, leb-true}
 use Rattle.machine_pws.specs.declared.Message.{Message}
 use Rattle.machine_pws.specs.declared.Operation.TheVariants.{Read}
 use Rattle.machine_pws.specs.Machine.{Configuration, put, put_queue, is_empty, last_write}
-use Rattle.machine_pws.specs.Insertion.{put_message, up}
 use Rattle.machine_pws.specs.Entries.{FF}
 use Rattle.machine_pws.proofs.Facts.{put_queue_each}
 use Rattle.list_theory.specs.Cubes.{value_put, with_last, older, alike_newest, meet_newest, topmost}
@@ -18,10 +17,10 @@ use Rattle.list_theory.specs.Predecessors.{before, without_newest, serialise_kin
 use Rattle.file_records.specs.declared.program.Shape.{Shape}
 use Rattle.file_contents.specs.declared.entry.Queue.{Queue}
 use Rattle.file_contents.specs.declared.entry.Cube.{Cube}
-use Rattle.file_contents.specs.Cube.{no_queue, waiting_of, channel_of, queue_of, configuration_of}
+use Rattle.file_contents.specs.Cube.{no_queue, channel_of, queue_of, configuration_of}
 use Rattle.file_records.proofs.ProgramLaws.{and_true}
 use Rattle.file_contents.proofs.CubeParts.{channel_length, four_put, queue_put}
-use Rattle.list_cube.specs.Editing.{Sound, CubeFor, Waits, by_number, Inserted}
+use Rattle.list_cube.specs.Editing.{Sound, CubeFor, Waits, by_number}
 use Rattle.list_before.specs.Before.{take_before, Requeued, Again}
 use Rattle.list_cube.proofs.QueueLaws.{no_both, put_sizes}
 use Rattle.list_cube.proofs.NewestLaws.{older_length}

@@ -1,16 +1,13 @@
 -- The predecessor cubes of an entry as the code makes them, and the entries that it makes them of.
-use Rattle.std.specs.Prelude.{ℕ, ◌+◌, ◌*◌, ◌<◌, ◌≤◌, ◌≡◌, false, ◌&&◌, List, ◌∷◌, get_or, set, ltb}
-use Rattle.machine_pws.specs.declared.Message.{Message}
+use Rattle.std.specs.Prelude.{ℕ, ◌+◌, ◌*◌, ◌<◌, ◌≤◌, ◌≡◌, List, ◌∷◌, get_or, set}
 use Rattle.machine_pws.specs.declared.Operation.{Operation}
 use Rattle.machine_pws.specs.Program as pws
 use Rattle.machine_pws.specs.Machine.{Configuration, put, put_queue}
 use Rattle.list_theory.specs.Cubes.{topmost}
 use Rattle.list_theory.specs.Predecessors as lists
-use Rattle.file_records.specs.declared.program.Shape.{Shape}
 use Rattle.file_contents.specs.declared.entry.Queue.{Queue}
 use Rattle.file_contents.specs.declared.entry.Cube.{Cube}
-use Rattle.machine_pws.specs.Insertion.{put_message}
-use Rattle.file_contents.specs.Cube.{no_queue, waiting_of, channel_of, queue_of, configuration_of}
+use Rattle.file_contents.specs.Cube.{no_queue, queue_of, configuration_of}
 
 -- ---- the cubes that `lists.cube` has for each step, of a transition by its parts and not by its number
 

@@ -1,4 +1,4 @@
-use Prim.Native.Nat.{◌-◌, ◌≤◌}
+use Prim.Native.Nat.{◌≤◌}
 use mathlib.Core.Path.{refl, ap, ◌∙◌}
 use Rattle.machine_pws.specs.Entries.{FF}
 use Rattle.list_theory.specs.Cubes.{older, meet_newest}
