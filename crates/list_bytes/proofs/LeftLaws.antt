@@ -2,7 +2,7 @@
 use Prim.Native.Nat.{ℕ, zero, suc, ◌+◌, ◌-◌, ◌<◌, ◌≤◌, min}
 use mathlib.Core.Path.{◌≡◌, refl, sym, ap, subst, subst₂, ◌∙◌}
 use mathlib.Core.Logic.{⊎_elim}
-use mathlib.Core.Bool.{Bool, true, false, ◌&&◌}
+use mathlib.Core.Bool.{Bool, true, false}
 use mathlib.Core.List.{List, [], ◌∷◌}
 use native.Mathlib.Omega.{arith}
 use native.Mathlib.Decide.{dec_le}
@@ -10,11 +10,10 @@ use lib.ListN.{get_or}
 use lib.Dec.{T, eqb}
 use borrow.Author.Tests.{eqb-true}
 use mir.Facts.{and_yes}
-use Rattle.machine_pws.specs.declared.Message.{Message}
 use Rattle.machine_pws.specs.Machine.{no_message}
 use Rattle.machine_pws.specs.Tagged.{Tagged}
 use Rattle.list_theory.specs.Values.{pairwise}
-use Rattle.list_theory.specs.Matching.{Subsequence, nothing, skip, keep, subsequence, same, message_matches, tag_matches}
+use Rattle.list_theory.specs.Matching.{Subsequence, nothing, skip, keep, same, message_matches, tag_matches}
 use Rattle.list_theory.proofs.Lists.{T_true}
 use Rattle.list_theory.proofs.Matching.{sub_cases, sub_empty, leftmost}
 use Rattle.file_records.specs.declared.program.Shape.{Shape}

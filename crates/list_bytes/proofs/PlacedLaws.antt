@@ -26,7 +26,7 @@ use Rattle.list_key.specs.Match.{channel_matches}
 use Rattle.list_key.proofs.Below.{and_false}
 use Rattle.list_key.proofs.TagLaws.{tag_is}
 use Rattle.list_key.proofs.MarkLaws.{tags_at}
-use Rattle.list_key.specs.Cue.{Cue, Cues}
+use Rattle.list_key.specs.Cue.{Cue}
 use Rattle.list_bytes.specs.Same.{Kinds, Stands, PointsWithin, one_of, pointed_by, Pointing}
 use Rattle.list_bytes.specs.Against.{Against}
 use Rattle.list_bytes.proofs.TracedLaws.{mask_in, Traced, traced-matches}

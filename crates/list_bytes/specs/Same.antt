@@ -1,6 +1,5 @@
 -- What is compared of an entry's bytes and a cube. No statement rests on these definitions.
 use Rattle.std.specs.Prelude.{ℕ, zero, suc, ◌+◌, ◌*◌, ◌-◌, ◌<◌, ◌≤◌, min, ◌≡◌, true, cond, List, [], ◌∷◌, length, get_or, set, replicate, eqb}
-use Rattle.machine_pws.specs.declared.Message.{Message}
 use Rattle.machine_pws.specs.Machine.{no_message, all_below}
 use Rattle.file_records.specs.declared.program.Shape.{Shape}
 use Rattle.base.specs.Bytes.{byte}

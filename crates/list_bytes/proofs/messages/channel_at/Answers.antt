@@ -20,7 +20,7 @@ pub loop-j-init : goal.loop-j-init
 loop-j-init c = λ u n o. (replicate 20 0, placed_begin _ _ _ _ _ _ _ _ _ n)
 
 pub returns-then-j-i : goal.returns-then-j-i
-returns-then-j-i c = λ t e k A. (λ x. absurd (false≢true (sym c.told.ensures ∙ x)), λ x. placed_over (c.loop-j.invariant c.args.cube c.least-j.ensures c.pointing-2.ensures).1 c.requires.m_bound c.if-j-i.true e k (ap (lowest_pointer c.args.shape) (k.pointers ∙ sym c.pointers_at-pointers.ensures) ∙ first_lowest c.args.shape c.pointers_at-pointers.result c.pointing.new.1.1.0 c.pointing.ensures c.if-theirs-eq0.false) A)
+returns-then-j-i c = λ t e k A. (λ x. absurd (false≢true (sym c.told.ensures ∙ x)), λ x. placed_over (c.loop-j.invariant c.args.cube c.least-j.ensures c.pointing-2.ensures).1 c.requires.m_bound c.if-j-i.true e k (ap (lowest_pointer c.args.shape) (k.pointers ∙ sym c.pointers_at-pointers.ensures) ∙ first_lowest c.args.shape c.pointers_at-pointers.result c.pointing.new.who c.pointing.ensures c.if-theirs-eq0.false) A)
 
 pub overflow_sub-cue : goal.overflow_sub-cue
 overflow_sub-cue c = omega (arith, c.if-j-eq0.false)
@@ -50,7 +50,7 @@ pub loop-j-smaller-then-stands_for : goal.loop-j-smaller-then-stands_for
 loop-j-smaller-then-stands_for c = omega (arith, c.if-j-eq0.false)
 
 pub loop-j-preserved-then-stands_for : goal.loop-j-preserved-then-stands_for
-loop-j-preserved-then-stands_for c = λ u n o. let w = c.loop-j.invariant u n o in (_, placed_keep w.1 c.requires.m_bound (c.stands_for.ensures.le_i c.if-stands_for.true) (omega (arith, c.if-j-eq0.false)) refl (λ v tag K. c.stands_for.ensures.by_index v tag K c.if-stands_for.true) (table_alike (min c.args.shape.processes 4) c.pointers_at-pointers.result u.pointers c.pointing.new.1.1.0 c.pointing-2.new.1.1.0 c.pointing.ensures o (omega (arith, c.requires.m_bound, w.1.few)) (omega (arith, w.1.low)) (c.stands_for.ensures.pointed_value c.if-stands_for.true)) refl refl)
+loop-j-preserved-then-stands_for c = λ u n o. let w = c.loop-j.invariant u n o in (_, placed_keep w.1 c.requires.m_bound (c.stands_for.ensures.le_i c.if-stands_for.true) (omega (arith, c.if-j-eq0.false)) refl (λ v tag K. c.stands_for.ensures.by_index v tag K c.if-stands_for.true) (table_alike (min c.args.shape.processes 4) c.pointers_at-pointers.result u.pointers c.pointing.new.who c.pointing-2.new.who c.pointing.ensures o (omega (arith, c.requires.m_bound, w.1.few)) (omega (arith, w.1.low)) (c.stands_for.ensures.pointed_value c.if-stands_for.true)) refl refl)
 
 pub overflow_sub-j-else-stands_for : goal.overflow_sub-j-else-stands_for
 overflow_sub-j-else-stands_for c = omega (arith, c.if-j-eq0.false)
@@ -59,7 +59,7 @@ pub loop-j-smaller : goal.loop-j-smaller
 loop-j-smaller c = omega (arith, c.if-j-eq0.false)
 
 pub loop-j-preserved : goal.loop-j-preserved
-loop-j-preserved c = λ u n o. let w = c.loop-j.invariant u n o in (w.0, placed_skip w.1 c.requires.m_bound (omega (arith, c.if-j-eq0.false)) refl refl (λ e k. k.pointers ∙ sym c.pointers_at-pointers.ensures) (λ v tag K l q. table_other (min c.args.shape.processes 4) c.pointers_at-pointers.result u.pointers c.pointing.new.1.1.0 c.pointing-2.new.1.1.0 c.pointing.ensures o (omega (arith, c.requires.m_bound, w.1.few)) (omega (arith, w.1.low)) (c.stands_for.ensures.by_index_2 v tag K c.if-stands_for.false l q)) c.both-all.ensures)
+loop-j-preserved c = λ u n o. let w = c.loop-j.invariant u n o in (w.0, placed_skip w.1 c.requires.m_bound (omega (arith, c.if-j-eq0.false)) refl refl (λ e k. k.pointers ∙ sym c.pointers_at-pointers.ensures) (λ v tag K l q. table_other (min c.args.shape.processes 4) c.pointers_at-pointers.result u.pointers c.pointing.new.who c.pointing-2.new.who c.pointing.ensures o (omega (arith, c.requires.m_bound, w.1.few)) (omega (arith, w.1.low)) (c.stands_for.ensures.by_index_2 v tag K c.if-stands_for.false l q)) c.both-all.ensures)
 
 pub returns-then-not-all : goal.returns-then-not-all
 returns-then-not-all c = λ t. absurd (never c.not_same-then-not-all.result.same c.not_same-then-not-all.ensures t)
@@ -68,4 +68,4 @@ pub returns-then-not-points_within : goal.returns-then-not-points_within
 returns-then-not-points_within c = λ t. absurd (never c.not_same-then-not-points_within.result.same c.not_same-then-not-points_within.ensures t)
 
 pub returns : goal.returns
-returns c = λ t e k A. (λ x n. let w = (c.loop-j.invariant c.args.cube c.least-j.ensures c.pointing-2.ensures) in placed-yes w.1 (omega (arith, c.if-j-i.false, c.if-j-eq0.true)) c.if-j-eq0.true (not-false c.loop-j.all c.if-not-all.false-raw) e k n (ap (lowest_pointer c.args.shape) (k.pointers ∙ sym c.pointers_at-pointers.ensures) ∙ first_lowest c.args.shape c.pointers_at-pointers.result c.pointing.new.1.1.0 c.pointing.ensures c.if-theirs-eq0.false) (subst (λ (zs : List ℕ). PointsSame c.args.shape.processes zs c.args.cube.pointers w.0 c.args.m) (sym (k.pointers ∙ sym c.pointers_at-pointers.ensures)) (placed_points w.1 c.requires.m_bound (omega (arith, c.if-j-i.false, c.if-j-eq0.true)) (c.points_within.ensures (not-false c.points_within.result c.if-not-points_within.false-raw)))) A, λ x. absurd (false≢true (sym x ∙ c.told-2.ensures)))
+returns c = λ t e k A. (λ x n. let w = (c.loop-j.invariant c.args.cube c.least-j.ensures c.pointing-2.ensures) in placed-yes w.1 (omega (arith, c.if-j-i.false, c.if-j-eq0.true)) c.if-j-eq0.true (not-false c.loop-j.all c.if-not-all.false-raw) e k n (ap (lowest_pointer c.args.shape) (k.pointers ∙ sym c.pointers_at-pointers.ensures) ∙ first_lowest c.args.shape c.pointers_at-pointers.result c.pointing.new.who c.pointing.ensures c.if-theirs-eq0.false) (subst (λ (zs : List ℕ). PointsSame c.args.shape.processes zs c.args.cube.pointers w.0 c.args.m) (sym (k.pointers ∙ sym c.pointers_at-pointers.ensures)) (placed_points w.1 c.requires.m_bound (omega (arith, c.if-j-i.false, c.if-j-eq0.true)) (c.points_within.ensures (not-false c.points_within.result c.if-not-points_within.false-raw)))) A, λ x. absurd (false≢true (sym x ∙ c.told-2.ensures)))
