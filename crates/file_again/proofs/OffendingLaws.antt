@@ -76,22 +76,6 @@ module _ (g f : List ℕ) (w : Part) (n k : ℕ) where
       go true = refl
       go false = refl
 
-  -- it is the record that stands at its place in its file: at the end there is none
-  pub stands : record_at (bytes_of g f (offending_by g f w n k).part) (offending_by g f w n k).at ≡ (offending_by g f w n k).bytes
-  unfolding offending_by
-  stands = go (is_of_record n) (eqb n 6)
-    where
-      ends : (v : Part) → record_at (bytes_of g f v) (length (bytes_of g f v)) ≡ []
-      ends v = sym (record_past (bytes_of g f v) (length (bytes_of g f v)) (omega arith))
-
-      chosen : Bool → Bool → Offending
-      chosen b d = cond b (record { part = w; at = k; bytes = record_at (bytes_of g f w) k }) (cond d (end_of_file g f w) (end_of_file g f InEvidence))
-
-      go : (b d : Bool) → record_at (bytes_of g f (chosen b d).part) (chosen b d).at ≡ (chosen b d).bytes
-      go true d = refl
-      go false true = ends w
-      go false false = ends InEvidence
-
   pub part_by : (offending_by g f w n k).part ≡ part_said_by w n
   unfolding offending_by part_said_by
   part_by = go (is_of_record n) (eqb n 6)

@@ -1,7 +1,7 @@
 // The record that a refusal is about, as a part of the file that it stands in (document 02, N6). `code` is the file that holds the program and
 // `file` the one that holds the evidence.
-ghost use Rattle.std.specs.Prelude.{◌≡◌};
-ghost use Rattle.file_again.specs.Offending.{body_of, record_at, is_of_record, is_in_program, bytes_of, offending_by, part_said_by};
+ghost use Rattle.std.specs.Prelude.{◌≡◌, []};
+ghost use Rattle.file_again.specs.Offending.{body_of, record_at, is_of_record, is_in_program, offending_by, part_said_by};
 
 use base::bytes::{both, byte_at, either};
 use file_contents::evidence::Part;
@@ -32,13 +32,20 @@ fn record_at(file: &[u8], at: usize) -> &[u8]
     ensures { result.now ≡ record_at file.now at }
 {
     if file.len() <= at {
-        return &file[file.len()..];
+        return &file[..0];
     }
     let size = 1 + body_of(byte_at(file, at));
     if file.len() - at <= size {
         return &file[at..];
     }
     &file[at..at + size]
+}
+
+// The empty end of a file.
+fn end_of(file: &[u8]) -> &[u8]
+    ensures { result.now ≡ [] }
+{
+    &file[file.len()..]
 }
 
 // 1, 2, 3, 4, 5 and 7 are about a record.
@@ -55,6 +62,25 @@ fn in_program(part: Part) -> bool
         Part::InProgram => true,
         Part::InEvidence => false,
     }
+}
+
+// The part of `code` or `file` that the refusal of this number and place, which stands in `part`, hands back.
+pub fn offending<'a>(
+    code: &'a [u8],
+    file: &'a [u8],
+    part: Part,
+    number: u8,
+    place: usize,
+) -> &'a [u8]
+    ensures { result.now ≡ (offending_by code.now file.now part number place).bytes }
+{
+    if !is_of_record(number) {
+        return end_of(file);
+    }
+    if in_program(part) {
+        return record_at(code, place);
+    }
+    record_at(file, place)
 }
 
 // The file that it is a part of.
@@ -80,23 +106,4 @@ pub fn offending_place(code: &[u8], file: &[u8], part: Part, number: u8, place: 
         }
     }
     file.len()
-}
-
-// The part of `code` or `file` that the refusal of this number and place, which stands in `part`, hands back: the record at `offending_place` of the file
-// that `offending_part` names, and so that file's empty end where there is none.
-pub fn offending<'a>(
-    code: &'a [u8],
-    file: &'a [u8],
-    part: Part,
-    number: u8,
-    place: usize,
-) -> &'a [u8]
-    ensures stands { result.now ≡ record_at (bytes_of code.now file.now (offending_by code.now file.now part number place).part) (offending_by code.now file.now part number place).at }
-    ensures bytes { result.now ≡ (offending_by code.now file.now part number place).bytes }
-{
-    let at = offending_place(code, file, part, number, place);
-    if in_program(offending_part(part, number)) {
-        return record_at(code, at);
-    }
-    record_at(file, at)
 }

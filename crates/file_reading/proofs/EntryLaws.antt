@@ -1,25 +1,24 @@
 -- Laws of the reading of an entry: its loop, and the counts that stand for it.
 use Prim.Native.Nat.{ℕ, zero, suc, ◌+◌, ◌*◌, ◌-◌, ◌<◌, ◌≤◌}
-use mathlib.Core.Path.{◌≡◌, refl, sym, ap, ap₂, subst, ◌∙◌}
-use mathlib.Core.Logic.{◌⊎◌, inl, inr, ⊎_elim, ◌≢◌}
+use mathlib.Core.Path.{◌≡◌, refl, sym, ap, ap₂, ◌∙◌}
+use mathlib.Core.Logic.{◌⊎◌, inl, inr}
 use mathlib.Core.Bool.{Bool, true, false, cond, ◌&&◌, ◌||◌, not}
 use mathlib.Core.List.{List, [], ◌∷◌, ◌++◌}
 use native.Mathlib.Omega.{arith}
-use native.Mathlib.Decide.{ℕ_discrete, dec_lt}
+use native.Mathlib.Decide.{ℕ_discrete}
 use lib.ListN.{length, get_or, set, replicate, length-append, length-set, length-replicate, get_or-replicate}
 use lib.Seq.{get_or-set_same, get_or-set_other}
-use lib.Dec.{eqb, leb, ltb}
-use borrow.Author.Tests.{lt-ltb, leb-true, leb-false, ltb-true, le-leb, not-false}
-use Rattle.machine_pws.specs.Machine.{Configuration, put_queue}
+use lib.Dec.{leb, ltb}
+use borrow.Author.Tests.{lt-ltb, leb-false, ltb-true, not-false}
+use Rattle.machine_pws.specs.Machine.{Configuration}
 use Rattle.machine_pws.proofs.Facts.{put_queue_same, put_queue_other}
 use Rattle.file_records.specs.declared.program.Shape.{Shape}
 use Rattle.file_records.specs.declared.program.Refusal.{Refusal}
-use Rattle.file_records.specs.declared.program.Checked.{Checked}
 use Rattle.file_records.specs.declared.program.Checked.TheVariants.{Fine, Refused}
 use Rattle.file_reading.specs.declared.list.Tally.{Tally}
-use Rattle.base.specs.Bytes.{choose, byte, cut}
-use Rattle.file_records.specs.Records.{first_number, checked, is_kind, exists, pointer_at, message_at, message_number, message_names, waiting_number, waiting_names}
-use Rattle.file_contents.specs.EvidencePart.{EntryRead, whole, bad, beginning, with_message, with_waiting, extended, body_size, body_number, complete, at_boundary, finished, entry_from, entry_read}
+use Rattle.base.specs.Bytes.{byte, cut}
+use Rattle.file_records.specs.Records.{checked, is_kind, exists, pointer_at, message_number, message_names, waiting_number, waiting_names}
+use Rattle.file_contents.specs.EvidencePart.{whole, bad, beginning, with_message, with_waiting, extended, body_size, body_number, complete, at_boundary, finished, entry_from, entry_read}
 use Rattle.file_contents.specs.Tally.{queue_at}
 use Rattle.file_reading.specs.Tally.{number_by, TallyRoom, tallied, Tallies}
 use Rattle.file_records.proofs.RecordLaws.{Good, good}

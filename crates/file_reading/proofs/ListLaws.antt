@@ -1,6 +1,6 @@
 -- Laws of the reading of entries and of the list of their offsets.
 use Prim.Native.Nat.{ℕ, zero, suc, ◌+◌, ◌*◌, ◌-◌, ◌<◌, ◌≤◌}
-use mathlib.Core.Path.{◌≡◌, refl, sym, ap, ap₂, subst, ◌∙◌}
+use mathlib.Core.Path.{◌≡◌, refl, sym, ap, ap₂, ◌∙◌}
 use mathlib.Core.Bool.{Bool, true, false, cond}
 use mathlib.Core.List.{List, [], ◌∷◌, ◌++◌}
 use native.Mathlib.Omega.{arith}
@@ -16,24 +16,7 @@ use Rattle.file_records.specs.declared.program.Checked.TheVariants.{Fine, Refuse
 use Rattle.file_reading.specs.declared.list.EntryEnd.TheVariants.{Next, Bad}
 use Rattle.base.specs.Bytes.{choose, put32}
 use Rattle.file_records.specs.Records.{checked, entry_number}
-use Rattle.file_contents.specs.EvidencePart.{
-  EntryRead,
-  whole,
-  bad,
-  complete,
-  at_boundary,
-  finished,
-  body_number,
-  body_size,
-  body_then,
-  extended,
-  entry_from,
-  entry_read,
-  EntriesRead,
-  stop_at,
-  entries_from,
-  wrote_from,
-}
+use Rattle.file_contents.specs.EvidencePart.{EntryRead, whole, bad, complete, at_boundary, finished, body_number, body_size, body_then, extended, entry_from, entry_read, stop_at, entries_from, wrote_from}
 use Rattle.file_reading.specs.Tally.{end_of}
 use Rattle.base.proofs.ByteLaws.{put32_length}
 use Rattle.file_records.proofs.RecordLaws.{entry_fine}

@@ -1,17 +1,16 @@
 -- From what the reading hands on to the verdict of the file.
-use Prim.Native.Nat.{ℕ, ◌+◌, ◌*◌, ◌-◌, ◌<◌, ◌≤◌}
-use mathlib.Core.Path.{◌≡◌, refl, sym, ap, ap₂, subst, ◌∙◌}
-use mathlib.Core.Bool.{Bool, true, false, cond, ◌&&◌, not, false≢true}
+use Prim.Native.Nat.{ℕ, ◌*◌, ◌-◌, ◌<◌, ◌≤◌}
+use mathlib.Core.Path.{◌≡◌, refl, sym, ap, ap₂, ◌∙◌}
+use mathlib.Core.Bool.{Bool, true, false, cond, ◌&&◌, not}
 use mathlib.Core.List.{List, [], ◌++◌, append-nil}
 use native.Mathlib.Omega.{arith}
 use lib.ListN.{length, take, drop, replicate, length-drop, drop_of_length-le}
-use lib.Seq.{length-take-le, drop-drop}
+use lib.Seq.{length-take-le}
 use lib.Dec.{eqb, leb}
 use borrow.Author.Tests.{eq-eqb, ne_eqb, lt-leb}
 use Rattle.machine_pws.specs.declared.Step.{Step}
 use Rattle.machine_pws.specs.Program as pws
 use Rattle.file_records.specs.declared.program.Refusal.{Refusal}
-use Rattle.file_records.specs.declared.program.Checked.{Checked}
 use Rattle.file_records.specs.declared.program.Checked.TheVariants.{Fine, Refused}
 use Rattle.file_records.specs.declared.program.Program.{Program}
 use Rattle.file_contents.specs.declared.evidence.Part.TheVariants.{InProgram, InEvidence}
@@ -38,12 +37,10 @@ use Rattle.verdict.specs.declared.answer.Answer.TheVariants.{Safe, Reachable, Ps
 use Rattle.verdict.specs.declared.answer.Verdict as declared
 use Rattle.verdict.specs.Judge.{Verdict, refused, of_run, of_pso_run, of_file, judged, used_of}
 use Rattle.verdict.specs.Answers.{verdict_in, offending_in, answer_in_c, said_in_c, Answered}
-use Rattle.list_known.specs.Tables.{Below}
-use Rattle.list_judge.specs.Ready.{Listed, ListReady, list_said}
-use Rattle.list_judge.specs.Units.{Judging}
-use Rattle.verdict.proofs.AreaLaws.{few, reading_kept, replay_kept}
-use Rattle.judge.specs.Begun.{ListMade, ListBegun, Begun}
-use Rattle.judge.proofs.SummaryLaws.{listed_taken, made, made_judging, made_entries, made_kept}
+use Rattle.list_judge.specs.Ready.{Listed, ListReady, slots_cleared, list_said}
+use Rattle.verdict.proofs.AreaLaws.{few, upper_part, reading_kept, replay_kept, list_kept}
+use Rattle.judge.proofs.SummaryLaws.{listed_taken, said_taken, done_kept}
+use Rattle.list_summary.specs.Groups.{summarised}
 use Rattle.verdict.proofs.Verdicts.{code, run_is, pso_is, run_high, list_code, short_file, judged_one}
 
 pub short_said : (x : Input) (area : ℕ) → area < 65536 → refused 8 0 ≡ judged x area
@@ -113,16 +110,6 @@ pub shown_said : (x : Input) (area : ℕ) (a : Answer) (r : declared.Verdict) �
 unfolding said_in_c
 shown_said x area a r e d o = e ∙ ap₂ (answer_in_c x) d o
 
-below_past : (k : ℕ) {old new : List ℕ} → Below old new → drop (16384 + k) new ≡ drop (16384 + k) old
-below_past k {old} {new} b = sym (drop-drop k 16384 new) ∙ ap (drop k) b.upper ∙ drop-drop k 16384 old
-
-pub fine_refused : (y : Checked) {z : Refusal} → y ≡ Fine → y ≡ Refused z → ⊥
-fine_refused y {z} a b = false≢true (ap refusedAt (sym b ∙ a))
-  where
-    refusedAt : Checked → Bool
-    refusedAt Fine = true
-    refusedAt (Refused z) = false
-
 -- ---- the machine of each claim
 
 module _ (claim : ℕ) (P : pws.Program) (ts : List (ℕ → ℕ)) (m : List ℕ) (ss : List Step) where
@@ -156,7 +143,7 @@ module _ (x : Input) (w : List ℕ) (R : Reading) (r : R ≡ reading.reading_of 
       (verdict_in a ≡ judged x (length w))
       × ((offending_in x a ≡ offending x (reading.read_file x (length w))) × (drop (used_of (length w)) last ≡ drop (used_of (length w)) w))
 
-  pub left : (work : List ℕ) → work ≡ reading.area_read (reading.parts_of x (length w)) w → 65536 ≤ length w → drop (used_of (length w)) work ≡ drop (used_of (length w)) w
+  left : (work : List ℕ) → work ≡ reading.area_read (reading.parts_of x (length w)) w → 65536 ≤ length w → drop (used_of (length w)) work ≡ drop (used_of (length w)) w
   left work e l = ap (drop (used_of (length w))) e ∙ reading_kept x w l
 
   judged_of : (y : reading.FileRead) → reading.read_file x (length w) ≡ y → of_file y ≡ judged x (length w)
@@ -176,8 +163,8 @@ module _ (x : Input) (w : List ℕ) (R : Reading) (r : R ≡ reading.reading_of 
         ap (λ (z : Refusal). offending_by x.code x.file R.part z.number z.place) same ∙ sym (ap (offending x) (reading-refused x w R r y q))
 
     -- what is returned then, and what the reading left in the area
-    pub unread-returned : (work : List ℕ) → drop (used_of (length w)) work ≡ drop (used_of (length w)) w → Said (Unread R.part z) work
-    unread-returned work k = (unread_said, (unread-offending, k))
+    pub unread-returned : (work : List ℕ) → work ≡ reading.area_read (reading.parts_of x (length w)) w → 65536 ≤ length w → Said (Unread R.part z) work
+    unread-returned work e l = (unread_said, (unread-offending, left work e l))
 
   module _ (q : R.answer ≡ Fine) where
     module _ (work : List ℕ) (e : work ≡ reading.area_read (reading.parts_of x (length w)) w) (c : R.contents.claim ≡ 0) where
@@ -211,31 +198,44 @@ module _ (x : Input) (w : List ℕ) (R : Reading) (r : R ≡ reading.reading_of 
               listed = listed_taken g f (drop 16384 work) at n p (omega (arith, many)) listed;
             })
 
-        -- and it can be judged
-        module _ (large' : 16384 ≤ length work) {last : List ℕ} (M : ListMade f p.shape at n work last) where
-          L : ListReady g f (drop 16384 work) at n p
-          L = subst (λ (l : List ℕ). ListReady g f l at n p) d ready
+        -- it was read as this list
+        abbrev es : List Configuration
+        es = entries_of f (drop 16384 work) n
 
-          pub list-begun : ListBegun x (length w) R last
-          list-begun =
-              record {
-                offsets = take at (made g f work last at n p large' L M);
-                summary = drop at (made g f work last at n p large' L M);
-                judging = subst (λ (i : ℕ). Judging g f (take at (made g f work last at n p large' L M)) (drop at (made g f work last at n p large' L M)) (16384 + i) n p last) a (made_judging g f work last at n p large' L M);
-                read = reading-list x w R r q work e c ∙ ap (reading.list (program_of g p) (targets_of g p)) (made_entries g f work last at n p large' L M);
-              }
+        pub list-handed : (a : Answer) → verdict_in a ≡ judged x (length w) → offending_in x a ≡ offending x (reading.read_file x (length w))
+        list-handed a h = list_offending x (length w) a (program_of g p) (targets_of g p) es (reading-list x w R r q work e c) h
 
-          pub list_left : drop (used_of (length w)) last ≡ drop (used_of (length w)) w
-          unfolding used_of
-          list_left = made_kept g f work last at n p large' L M (12 * entries_allowed (length w)) (omega (arith, many)) ∙ left work e large
+        pub list_said_lem : (v : Verdict) → v ≡ list_said g f (take at list) n p → v ≡ judged x (length w)
+        list_said_lem v h =
+            h ∙ ap (λ (l : List ℕ). list_said g f (take at l) n p) d ∙ said_taken g f (drop 16384 work) at n p (omega (arith, many)) ∙ judged_of _ (reading-list x w R r q work e c)
 
-    -- the list was judged
-    module _ {work : List ℕ} (B : ListBegun x (length w) R work) (large : 65536 ≤ length w) (k : drop (used_of (length w)) work ≡ drop (used_of (length w)) w) where
-      pub list_returned : (v : Answer) (last : List ℕ) → Below work last → verdict_in v ≡ list_said g f B.offsets n p → Said v last
-      unfolding used_of
-      list_returned v last y h =
-          let said : verdict_in v ≡ judged x (length w) = h ∙ judged_of _ B.read in
-          (said, (list_offending x (length w) v (program_of g p) (targets_of g p) _ B.read said, below_past (12 * entries_allowed (length w)) y ∙ k))
+        -- past the bytes that belong to the judgement all is as the reading left it
+        pub list-area : {last : List ℕ} → last ≡ summarised f p.shape at n (slots_cleared list at n) → drop (used_of (length w)) work ≡ drop (used_of (length w)) w
+            → drop (used_of (length w)) (take 16384 work ++ (last ++ drop (length work - 16384) (drop 16384 work))) ≡ drop (used_of (length w)) w
+        list-area {last} x y =
+            let none : drop (length work - 16384) (drop 16384 work) ≡ [] = drop_of_length-le (drop 16384 work) {i = length work - 16384} (omega (arith, length-drop 16384 work)) in
+            let k : drop (12 * entries_allowed (length w)) last ≡ drop (12 * entries_allowed (length w)) (drop 16384 work) =
+            ap (drop (12 * entries_allowed (length w))) x ∙ done_kept g f list at n p ready (12 * entries_allowed (length w)) (omega (arith, many)) ∙ ap (drop (12 * entries_allowed (length w))) d in
+            list_kept (length w) work w (last ++ drop (length work - 16384) (drop 16384 work)) y (omega arith)
+            (ap (λ (t : List ℕ). drop (12 * entries_allowed (length w)) (last ++ t)) none ∙ ap (drop (12 * entries_allowed (length w))) (append-nil last) ∙ k)
+
+      -- the upper part of the area is lent, and what is returned of it
+      module _ (at : ℕ) (a : at ≡ 4 * entries_allowed (length work)) (large : 65536 ≤ length w) (kept : length work ≡ length w) where
+        abbrev upper : List ℕ
+        upper = take (length work - 16384) (drop 16384 work)
+
+        placed : at ≡ 4 * entries_allowed (length w)
+        placed = a ∙ ap (λ (m : ℕ). 4 * entries_allowed m) kept
+
+        pub upper-ready : ListReady g f upper at n p
+        upper-ready = ready upper (upper_part 16384 work) at placed large kept
+
+        pub list_returned : (v : Answer) (last : List ℕ) → verdict_in v ≡ list_said g f (take at upper) n p → last ≡ summarised f p.shape at n (slots_cleared upper at n)
+            → Said v (take 16384 work ++ (last ++ drop (length work - 16384) (drop 16384 work)))
+        list_returned v last h y =
+            let d = upper_part 16384 work in
+            let said : verdict_in v ≡ judged x (length w) = list_said_lem upper d at placed large kept (verdict_in v) h in
+            (said, (list-handed upper d at placed large kept v said, list-area upper d at placed large kept y (left work e large)))
 
     pub run_said : (R.contents.claim ≡ 0 → ⊥) → (v : Verdict) (lower : ℕ) → lower ≡ 16384
         → (pws.ProgramInRange (program_of g p) → n ≤ 1024 → lower ≡ 16384
@@ -252,37 +252,11 @@ module _ (x : Input) (w : List ℕ) (R : Reading) (r : R ≡ reading.reading_of 
         run_offending x (length w) a R.contents.claim (program_of g p) (targets_of g p) R.contents.memory (steps_of f R.contents.evidence.at n)
         (reading-run x w R r q c) h
 
-    pub run-returned : (R.contents.claim ≡ 0 → ⊥) → (work : List ℕ) → drop (used_of (length w)) work ≡ drop (used_of (length w)) w → 65536 ≤ length w → length work ≡ length w
+    pub run-returned : (R.contents.claim ≡ 0 → ⊥) → (work : List ℕ) → work ≡ reading.area_read (reading.parts_of x (length w)) w → 65536 ≤ length w → length work ≡ length w
         → (v : Answer) (last : List ℕ) → last ≡ replicate (length (take 16384 work)) 0
         → (pws.ProgramInRange (program_of g p) → n ≤ 1024 → length (take 16384 work) ≡ 16384
         → verdict_in v ≡ of_file (reading.run_read R.contents.claim (program_of g p) (targets_of g p) R.contents.memory (steps_of f R.contents.evidence.at n)))
         → Said v (last ++ drop 16384 work)
     run-returned c work e large kept v last y h =
         let said : verdict_in v ≡ judged x (length w) = run_said c (verdict_in v) (length (take 16384 work)) (length-take-le 16384 work (omega arith)) h in
-        (said, (run-handed c v said, replay_kept (length w) work w last e (omega arith) y))
-
--- ---- what the reading leaves
-
-module _ (x : Input) (w : List ℕ) (R : Reading) (r : R ≡ reading.reading_of x (reading.parts_of x (length w)))
-    (work : List ℕ) (e : work ≡ reading.area_read (reading.parts_of x (length w)) w) (same : length work ≡ length w) where
-  pub begun-other : (65536 ≤ length w → R.answer ≡ Fine → R.contents.claim ≡ 0 → ⊥) → Begun x w R work
-  begun-other h = record { same = same; is = r; list = λ l q c. absurd (h l q c); kept = left x w R r work e }
-
-  module _ (large : 65536 ≤ length w) (q : R.answer ≡ Fine) (c : R.contents.claim ≡ 0) (at : ℕ) (a : at ≡ 4 * entries_allowed (length work)) where
-    placed : at ≡ 4 * entries_allowed (length w)
-    placed = a ∙ ap (λ (m : ℕ). 4 * entries_allowed m) same
-
-    pub begun-room : (16384 ≤ length work) × (at ≤ length work - 16384) × (R.contents.evidence.count ≤ 524288) × (8 * R.contents.evidence.count ≤ length work - 16384 - at)
-    begun-room =
-        let L = ready x w R r q work e c (drop 16384 work) refl at placed large same in
-        let d = length-drop 16384 work in
-        (omega arith, omega (arith, L.room, d), L.listed.count, omega (arith, L.slots, d))
-
-    pub begun-list : {last : List ℕ} → ListMade x.file R.contents.program.shape at R.contents.evidence.count work last → Begun x w R last
-    begun-list M =
-        record {
-          same = M.cleared.below.same ∙ M.same ∙ same;
-          is = r;
-          list = λ l q c. list-begun x w R r q work e c (drop 16384 work) refl at placed large same (omega arith) M;
-          kept = λ l. list_left x w R r q work e c (drop 16384 work) refl at placed large same (omega arith) M;
-        }
+        (said, (run-handed c v said, replay_kept (length w) work w last (left work e large) (omega arith) y))

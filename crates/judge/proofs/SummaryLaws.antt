@@ -2,9 +2,9 @@
 use Prim.Native.Nat.{ℕ, zero, suc, ◌+◌, ◌*◌, ◌-◌, ◌/◌, ◌%◌, ◌<◌, ◌≤◌}
 use mathlib.Core.Path.{◌≡◌, refl, sym, ap, ap₂, subst, ◌∙◌}
 use mathlib.Core.Bool.{Bool, true, false, ◌&&◌}
-use mathlib.Core.List.{List, [], ◌∷◌, ◌++◌, append_assoc, append-nil}
+use mathlib.Core.List.{List, [], ◌∷◌, ◌++◌, append_assoc}
 use native.Mathlib.Omega.{arith}
-use lib.ListN.{length, get_or, set, drop_of_length-le, take, drop, replicate, length-append, length-drop, length-replicate, get_or-replicate, get_or-append}
+use lib.ListN.{length, get_or, set, take, drop, replicate, length-append, length-drop, length-replicate, get_or-replicate, get_or-append}
 use lib.Seq.{length-take-le, take_at, drop_at, drop-drop, get_or-take, take_all}
 use lib.Dec.{eqb, leb, ltb}
 use borrow.Author.Tests.{le-leb, ltb-false, eqb-false}
@@ -14,7 +14,8 @@ use Rattle.file_records.specs.declared.program.Program.{Program}
 use Rattle.file_records.specs.declared.program.Shape.{Shape}
 use Rattle.file_contents.specs.declared.entry.Cube.{Cube}
 use Rattle.base.specs.Bytes.{choose, byte, le32, put32}
-use Rattle.file_records.specs.ProgramPart.{table_from, program_of}
+use Rattle.file_records.specs.ProgramPart.{table_from, program_of, targets_of}
+use Rattle.list_theory.specs.Decision.{verdict_of}
 use Rattle.file_contents.specs.Cube.{configuration_of, load_entry}
 use Rattle.file_again.specs.Again.{offset_at, cube_at, entries_of}
 use Rattle.file_again.specs.Contents.{EntryRange, CubeRange}
@@ -24,13 +25,8 @@ use Rattle.list_summary.specs.Groups.{states_at, same_states, leader_from, leade
 use Rattle.list_summary.specs.Summary.{Summed}
 use Rattle.list_summary.proofs.ChainLaws.{home_below}
 use Rattle.list_summary.proofs.AddedLaws.{all_added}
-use Rattle.file_again.proofs.Tables.{table_length}
-use Rattle.list_known.proofs.TableLaws.{tables_none}
-use Rattle.list_judge.specs.Ready.{Listed, ListReady, Ready, slots_cleared}
-use Rattle.list_known.specs.Tables.{Cleared}
-use Rattle.list_summary.proofs.WalkLaws.{rest_part}
-use Rattle.list_judge.specs.Units.{Judging}
-use Rattle.judge.specs.Begun.{ListMade}
+use Rattle.verdict.specs.Judge.{of_list}
+use Rattle.list_judge.specs.Ready.{Listed, ListReady, Ready, slots_cleared, list_said}
 
 -- ---- the offsets below `at` are those of the whole
 
@@ -60,6 +56,9 @@ listed_taken g f l at n p m L =
       entries = λ k d. subst (λ (es : List Configuration). EntryRange (program_of g p) (entry es k)) (sym (entries_taken f l at n m)) (L.entries k d);
       cubes = λ k d. subst CubeRange (sym (cube_taken f l at n m k d)) (L.cubes k d);
     }
+
+pub said_taken : (g f l : List ℕ) (at n : ℕ) (p : Program) → 4 * n ≤ at → list_said g f (take at l) n p ≡ list_said g f l n p
+said_taken g f l at n p m = ap (λ (es : List Configuration). of_list (verdict_of (program_of g p) (targets_of g p) es)) (entries_taken f l at n m)
 
 -- ---- what is written leaves the rest
 
@@ -166,7 +165,7 @@ module _ (g f u : List ℕ) (at n : ℕ) (p : Program) (L : ListReady g f u at n
   is =
       rw (cleared_length, le-leb at (length u) L.room, le-leb n ((length u - at) / 8) (let b = L.slots in omega arith), le-leb n 524288 L.listed.count, cleared_take, cleared_drop)
 
-  abbrev pub done : List ℕ
+  abbrev done : List ℕ
   done = summarised f s at n (slots_cleared u at n)
 
   done_is : done ≡ take at u ++ added_from f (take at u) s rest n n
@@ -194,6 +193,9 @@ module _ (g f u : List ℕ) (at n : ℕ) (p : Program) (L : ListReady g f u at n
   pub done_room : at ≤ length done
   done_room = omega (arith, ap length done_is, length-append (take at u) (added_from f (take at u) s rest n n), top)
 
+  pub done_said : list_said g f (take at done) n p ≡ list_said g f (take at u) n p
+  done_said = ap (λ (l : List ℕ). list_said g f l n p) done_take
+
   -- past the slots nothing moved
   pub done_kept : (k : ℕ) → at + 8 * n ≤ k → drop k done ≡ drop k u
   done_kept k l =
@@ -204,40 +206,15 @@ module _ (g f u : List ℕ) (at n : ℕ) (p : Program) (L : ListReady g f u at n
       ap (λ (i : ℕ). drop i done) j ∙ sym (drop-drop (k - (at + 8 * n)) (at + 8 * n) done) ∙ ap (drop (k - (at + 8 * n))) mid
       ∙ drop-drop (k - (at + 8 * n)) (at + 8 * n) u ∙ ap (λ (i : ℕ). drop i u) (sym j)
 
--- ---- the units can begin
+  module _ {first last : List ℕ} (a : first ≡ slots_cleared u at n) (b : last ≡ summarised f p.shape at n first) where
+    pub judged-is : last ≡ summarised f p.shape at n (slots_cleared u at n)
+    judged-is = b ∙ ap (summarised f p.shape at n) a
 
-module _ (g f old new : List ℕ) (at n : ℕ) (p : Program) (room : 16384 ≤ length old) (L : ListReady g f (drop 16384 old) at n p) (M : ListMade f p.shape at n old new) where
-  abbrev pub made : List ℕ
-  made = done g f (drop 16384 old) at n p L
+    pub judged-ready : (at ≤ length last) × Ready g f (take at last) (drop at last) n p
+    judged-ready = rw judged-is (done_room, done_ready)
 
-  made_is : drop 16384 new ≡ made
-  made_is = M.cleared.below.upper ∙ M.upper
-
-  made_long : length new ≡ length old
-  made_long = M.cleared.below.same ∙ M.same
-
-  pub made_judging : Judging g f (take at made) (drop at made) (16384 + at) n p new
-  made_judging =
-      let R = done_ready g f (drop 16384 old) at n p L in
-      let i : 16384 + at - 16384 ≡ at = omega arith in
-      record {
-        lent = record {
-          low = omega arith;
-          room = omega (arith, room, made_long, length-drop 16384 new, ap length made_is, done_room g f (drop 16384 old) at n p L);
-          offsets = ap (λ (k : ℕ). take k (drop 16384 new)) i ∙ ap (take at) made_is;
-          summary = sym (drop-drop at 16384 new) ∙ ap (drop at) made_is;
-        };
-        ready = R;
-        tables = tables_none (program_of g p) f (take at made) n R.sizes.processes.0 (R.part.states 0 R.sizes.processes.0)
-            (λ k l. (R.entries k (omega (arith, l, table_length (λ i. configuration_of (cube_at f (take at made) i)) 0 n))).of) M.cleared (omega (arith, room, M.same));
-      }
-
-  pub made_entries : entries_of f (drop 16384 old) n ≡ entries_of f (take at made) n
-  made_entries = sym (entries_taken f (drop 16384 old) at n L.offsets) ∙ ap (λ (l : List ℕ). entries_of f l n) (sym (done_take g f (drop 16384 old) at n p L))
-
-  -- past the slots nothing moved
-  pub made_kept : (k : ℕ) → at + 8 * n ≤ k → drop (16384 + k) new ≡ drop (16384 + k) old
-  made_kept k l = sym (drop-drop k 16384 new) ∙ ap (drop k) made_is ∙ done_kept g f (drop 16384 old) at n p L k l ∙ drop-drop k 16384 old
+    pub judged_said : list_said g f (take at last) n p ≡ list_said g f (take at u) n p
+    judged_said = ap (λ (l : List ℕ). list_said g f (take at l) n p) judged-is ∙ done_said
 
 -- the part that was lent came back cleared
 pub slots_cleared_lem : (u x : List ℕ) (at n k : ℕ) → k ≡ 8 * n → at + 8 * n ≤ length u → x ≡ replicate (length (take k (drop at u))) 0
@@ -246,29 +223,3 @@ unfolding slots_cleared
 slots_cleared_lem u x at n k e l q =
     let len : length (take k (drop at u)) ≡ 8 * n = length-take-le k (drop at u) (omega (arith, length-drop at u)) ∙ e in
     rw (q, len, e, drop-drop (8 * n) at u)
-
--- the part behind the tables was lent, and came back with the summary
-module _ (f : List ℕ) (s : Shape) (at n : ℕ) (old upper : List ℕ) (l : 16384 ≤ length old) (m : length upper ≡ length (take (length old - 16384) (drop 16384 old))) where
-  abbrev back : List ℕ
-  back = take 16384 old ++ (upper ++ drop (length old - 16384) (drop 16384 old))
-
-  head_long : length (take 16384 old) ≡ 16384
-  head_long = length-take-le 16384 old l
-
-  none_left : drop (length old - 16384) (drop 16384 old) ≡ []
-  none_left = drop_of_length-le (drop 16384 old) {i = length old - 16384} (omega (arith, length-drop 16384 old))
-
-  back_is : back ≡ take 16384 old ++ upper
-  back_is = ap (λ (x : List ℕ). take 16384 old ++ (upper ++ x)) none_left ∙ ap (λ (x : List ℕ). take 16384 old ++ x) (append-nil upper)
-
-  pub upper_long : length back ≡ length old
-  upper_long = ap length back_is ∙ length-append (take 16384 old) upper ∙ omega (arith, head_long, m, ap length (rest_part 16384 old), length-drop 16384 old, l)
-
-  pub upper_made : upper ≡ summarised f s at n (slots_cleared (take (length old - 16384) (drop 16384 old)) at n) → {new : List ℕ} → Cleared back new → ListMade f s at n old new
-  upper_made e C =
-      record {
-        between = back;
-        same = upper_long;
-        upper = ap (drop 16384) back_is ∙ drop_at (take 16384 old) upper 16384 head_long ∙ e ∙ ap (λ (u : List ℕ). summarised f s at n (slots_cleared u at n)) (rest_part 16384 old);
-        cleared = C;
-      }

@@ -1,7 +1,7 @@
 // The whole judgement (document 01). What it says stands in verdict/specs/Judge.antt; the demands, as theorems about it, in demands/specs/Demands.antt.
 #![tactic(auto)]
 
-ghost use Rattle.std.specs.Prelude.{◌≡◌, ◌++◌, ◌+◌, ◌*◌, ◌-◌, ◌≤◌, length, drop, replicate};
+ghost use Rattle.std.specs.Prelude.{◌≡◌, ◌++◌, ◌*◌, ◌-◌, ◌≤◌, length, take, drop, replicate};
 ghost use Rattle.file_contents.specs.EvidencePart.{entries_allowed};
 ghost use Rattle.list_summary.specs.Groups.{summarised};
 ghost use Rattle.machine_pws.specs.Program.{ProgramInRange};
@@ -11,15 +11,13 @@ ghost use Rattle.file_contents.specs.Reading.{input, combined, pair, run_read, r
 ghost use Rattle.file_again.specs.Offending.{offending};
 ghost use Rattle.verdict.specs.Judge.{of_run, of_pso_run, of_file, judged, used_of, area_after};
 ghost use Rattle.verdict.specs.Answers.{verdict_in, offending_in, said_in_c, Answered};
-ghost use Rattle.list_judge.specs.Ready.{slots_cleared};
-ghost use Rattle.judge.specs.Begun.{ListMade, Begun};
+ghost use Rattle.list_judge.specs.Ready.{Ready, ListReady, slots_cleared, list_said};
 
 use base::places::{slot_place, word_place};
-use file_contents::evidence::{Contents, Part, Reading, entries_allowed};
+use file_contents::evidence::{Contents, Part, entries_allowed};
 use file_reading::evidence::read;
-use file_records::program::{Checked, Program, Refusal, Shape, refusal_of};
+use file_records::program::{Checked, Program, Refusal, refusal_of};
 use list_judge::list_answer;
-use list_known::tables::clear_tables;
 use list_summary::summarise;
 use pso_replay::run::replay_steps;
 use run_layout::area::clear;
@@ -59,58 +57,38 @@ fn clear_slots(upper: &mut [u8], at: usize, n: usize)
     clear(&mut upper[at..end]);
 }
 
-// The summary of a list is made behind its offsets, which stand below `at`.
-fn put_summary(file: &[u8], upper: &mut [u8], at: usize, n: usize, shape: Shape)
-    requires { (at ≤ length upper.old) × (n ≤ 524288) × (8 * n ≤ length upper.old - at) }
-    ensures { upper.new ≡ summarised file.now shape at n (slots_cleared upper.old at n) }
+// The units over a list and its summary.
+fn summed_answer(
+    code: &[u8],
+    file: &[u8],
+    upper: &[u8],
+    at: usize,
+    n: usize,
+    program: Program,
+) -> Answer
+    requires { (at ≤ length upper.now) × Ready code.now file.now (take at upper.now) (drop at upper.now) n program }
+    ensures { verdict_in result ≡ list_said code.now file.now (take at upper.now) n program }
+{
+    list_answer(code, file, &upper[..at], &upper[at..], n, program)
+}
+
+// A list: its summary is made behind its offsets, which stand below `at`, and then it is judged.
+fn list_judged(
+    code: &[u8],
+    file: &[u8],
+    upper: &mut [u8],
+    at: usize,
+    n: usize,
+    program: Program,
+) -> Answer
+    requires { ListReady code.now file.now upper.old at n program }
+    ensures result_value { verdict_in result ≡ list_said code.now file.now (take at upper.old) n program }
+    ensures upper_after { upper.new ≡ summarised file.now program.shape at n (slots_cleared upper.old at n) }
 {
     clear_slots(upper, at, n);
+    let shape = program.shape;
     summarise(file, upper, at, n, shape);
-}
-
-// A list is ready to be judged: its summary is made, and nothing is known of it yet. `at` counts from the end of the tables on.
-fn begin_list(file: &[u8], work: &mut [u8], at: usize, n: usize, shape: Shape)
-    requires { (16384 ≤ length work.old) × (at ≤ length work.old - 16384) × (n ≤ 524288) × (8 * n ≤ length work.old - 16384 - at) }
-    ensures { ListMade file.now shape at n work.old work.new }
-{
-    put_summary(file, &mut work[16384..], at, n, shape);
-    clear_tables(work);
-}
-
-// The reading, which is the first unit of a judgement (request N9). A list is ready to be judged then.
-pub fn begin(alone: bool, code: &[u8], file: &[u8], work: &mut [u8]) -> Reading
-    ensures { Begun (input alone code.now file.now) work.old result work.new }
-{
-    let reading = read(alone, code, file, work);
-    let area = work.len();
-    if area < 65536 {
-        return reading;
-    }
-    let answer = reading.answer;
-    let Checked::Fine = answer else {
-        return reading;
-    };
-    let contents = reading.contents;
-    if contents.claim != 0 {
-        return reading;
-    }
-    let program = contents.program;
-    let entries = contents.evidence;
-    begin_list(
-        file,
-        work,
-        summary_place(area),
-        entries.count,
-        program.shape,
-    );
-    reading
-}
-
-// Where the summary of a list begins in the area.
-fn list_end(area: usize) -> usize
-    ensures { result ≡ 16384 + 4 * entries_allowed area }
-{
-    16384 + summary_place(area)
+    summed_answer(code, file, upper, at, n, program)
 }
 
 // A run's answer.
@@ -169,7 +147,7 @@ fn judge_file(alone: bool, code: &[u8], file: &[u8], work: &mut [u8]) -> Answer
     ensures result_value_2 { offending_in (input alone code.now file.now) result ≡ offending (input alone code.now file.now) (read_file (input alone code.now file.now) (length work.old)) }
     ensures work_unchanged { drop (used_of (length work.old)) work.new ≡ drop (used_of (length work.old)) work.old }
 {
-    let reading = begin(alone, code, file, work);
+    let reading = read(alone, code, file, work);
     let answer = reading.answer;
     let Checked::Fine = answer else {
         let part = reading.part;
@@ -182,21 +160,10 @@ fn judge_file(alone: bool, code: &[u8], file: &[u8], work: &mut [u8]) -> Answer
     if contents.claim == 0 {
         let program = contents.program;
         let entries = contents.evidence;
-        let at = list_end(work.len());
-        return list_answer(code, file, work, at, entries.count, program);
+        let at = summary_place(work.len());
+        return list_judged(code, file, &mut work[16384..], at, entries.count, program);
     }
     replay_answer(code, file, contents, &mut work[..16384])
-}
-
-// What each judgement leaves of a work area, with nothing judged: a report, which is judged in parts, ends with it (document 02, N10).
-pub fn clear_area(work: &mut [u8])
-    ensures { work.new ≡ area_after work.old }
-{
-    let size = work.len();
-    if size < 65536 {
-        return;
-    }
-    clear_used(work, used_of(size));
 }
 
 // The answer. Afterwards the first 16,384 bytes of the work area and twelve for each entry allowed are 0, and the rest is untouched; after 8 all

@@ -1,1 +1,2 @@
 pub mod CubeLaws
+pub mod UpdateLaws

@@ -2,8 +2,8 @@
 use Rattle.std.specs.Prelude.{ℕ, ◌+◌, ◌*◌, ◌<◌, ◌≤◌, ◌≡◌, List, ◌∷◌, get_or, set}
 use Rattle.machine_pws.specs.declared.Operation.{Operation}
 use Rattle.machine_pws.specs.Program as pws
-use Rattle.machine_pws.specs.Machine.{Configuration, put, put_queue}
-use Rattle.list_theory.specs.Cubes.{topmost}
+use Rattle.machine_pws.specs.Machine.{Memory, Configuration, message, last_write, put, put_queue}
+use Rattle.list_theory.specs.Cubes.{topmost, any_message}
 use Rattle.list_theory.specs.Predecessors as lists
 use Rattle.file_contents.specs.declared.entry.Queue.{Queue}
 use Rattle.file_contents.specs.declared.entry.Cube.{Cube}
@@ -24,6 +24,13 @@ serialise_before S e p v k =
 
 abbrev pub update_before : pws.Shape → Configuration → ℕ → lists.Kind → Configuration
 update_before S e p k = record { state = e.state; queue = e.queue; memory = lists.update_memory S e.memory p k }
+
+-- The message that p points at has this label and free values, no other process points at it, and the LastWrite of the label is past it: with one more
+-- such message before it, at which p points, nothing is said that the memory does not say.
+pub record Repeats (S : pws.Shape) (m : Memory) (p r u : ℕ) : Type 0 where
+  pub message : message m.channel (m.pointer p) ≡ any_message S r u
+  pub alone : (q : ℕ) → q < S.processes → (q ≡ p → ⊥) → m.pointer q ≡ m.pointer p → ⊥
+  pub past : m.pointer p < last_write m r u
 
 -- ---- parts of a cube
 

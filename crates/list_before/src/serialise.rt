@@ -1,6 +1,7 @@
 // The cubes before a serialise of p and v, the label of the newest message.
-ghost use Rattle.std.specs.Prelude.{◌≡◌, true, ◌&&◌, not, ◌<◌, length, ltb};
-ghost use Rattle.machine_pws.specs.Machine.{all_below, at_newest};
+ghost use Rattle.std.specs.Prelude.{◌≡◌, true, false, ◌&&◌, not, ◌≤◌, ◌<◌, length, get_or, ltb};
+ghost use Rattle.machine_pws.specs.Machine.{is_empty, all_below, at_newest};
+ghost use Rattle.list_theory.specs.Cubes.{any_message, topmost};
 ghost use Rattle.list_theory.specs.Predecessors.{serialise_kind, undone, inside, on_top};
 ghost use Rattle.file_records.specs.ProgramPart.{shape_of};
 ghost use Rattle.file_records.specs.declared.program.Shape.{Shape};
@@ -13,7 +14,7 @@ use file_contents::entry::{Cube, Queue};
 use file_records::program::{Shape, of_four};
 use list_cube::messages::{inserted, raised};
 use list_cube::newest::{met_older, newest, newest_with, none_at_newest, with_newest};
-use list_cube::queues::{put_queue, queue_at, with_first};
+use list_cube::queues::{put_queue, queue_at, queue_empty, with_first};
 use list_key::any_message;
 use machine_pws::Message;
 
@@ -84,4 +85,17 @@ pub fn before_serialise_on_top(cube: Cube, p: u8, v: u8) -> Cube
     next.queues = queues;
     next.messages = messages;
     next
+}
+
+// The newest message's value of v is free, and values of p and v wait: with it among them again as the oldest, and another newest message of the label, the cube is
+// above the entry itself.
+pub fn repeats_value(cube: Cube, p: u8, v: u8) -> bool
+    ensures { result ≡ true → (s : Shape) → Sound s cube → (get_or (topmost (configuration_of cube).memory.channel).snapshot v 0 ≡ 255) × (is_empty ((configuration_of cube).queue p v) ≡ false) }
+{
+    let message = newest(cube);
+    let snapshot = message.snapshot;
+    if of_four(snapshot, v as usize) != 255 {
+        return false;
+    }
+    !queue_empty(cube, p as usize, v as usize)
 }

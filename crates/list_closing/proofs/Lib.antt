@@ -5,3 +5,4 @@ pub mod SerialiseLaws
 pub mod UpdateLaws
 pub mod FullLaws
 pub mod FamilyLaws
+pub mod OwnLaws

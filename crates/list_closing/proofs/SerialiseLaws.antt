@@ -29,6 +29,7 @@ use Rattle.list_cube.proofs.NewestLaws.{older_length}
 use Rattle.list_cover.specs.Search.{Searchable}
 use Rattle.list_closing.specs.Walk.{step_held, LowestFailing, Walkable, Serialising}
 use Rattle.list_closing.proofs.WalkLaws.{lowest_at}
+use Rattle.list_closing.proofs.OwnLaws.{top_above, own_held}
 use Rattle.list_closing.proofs.StepLaws.{truth, is_yes, not_both, decided, cond_same, step_true, step_false, searched}
 
 module _ (g f list sum : List ℕ) (n : ℕ) (s : Program) (c : Cube) where
@@ -150,6 +151,13 @@ module _ (g f list sum : List ℕ) (n : ℕ) (s : Program) (c : Cube) where
 
     pub top-there : serialise_kind (configuration_of c).memory p v (on_top v) ≡ true
     top-there = eq-eqb v v refl
+
+    -- the entry itself is below
+    pub own-top : get_or (topmost (configuration_of c).memory.channel).snapshot v 0 ≡ FF → is_empty ((configuration_of c).queue p v) ≡ false → true ≡ heldSerialise (on_top v)
+    own-top free waits =
+        let W = Z.walkable in
+        sym (own_held g f list sum n s c W (Serialise p v) (on_top v) (serialise-has (on_top v) top-there)
+        (top_above (shape_of s.shape) W.stepping.program.shape (configuration_of c) W.own.fits p v Z.process Z.variable (is_yes (serialised_parts p v Z.made).0) free waits))
 
     serialise-true : ((k : lists.Kind) → serialise_kind (configuration_of c).memory p v k ≡ true → heldSerialise k ≡ true) → step_of p v ≡ true
     serialise-true d = step_true (program_of g s) (entries_of f list n) (configuration_of c) (Serialise p v) (λ k h. d k (has_parts p v k h).2)

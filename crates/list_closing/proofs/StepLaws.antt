@@ -153,10 +153,10 @@ module _ (g f list sum : List ℕ) (n : ℕ) (p : Program) (c : Cube) (W : Walka
 
 -- ---- an entry of a file that was read can be walked
 
-pub walkable : (g f list sum : List ℕ) (n : ℕ) (p : Program) (c : Cube) → n ≤ 524288 → p.transitions.count ≤ 256 → pws.ProgramInRange (program_of g p)
+pub walkable : (g f list sum : List ℕ) (n : ℕ) (p : Program) (c : Cube) (k : ℕ) → k < n → cube_at f list k ≡ c → n ≤ 524288 → p.transitions.count ≤ 256 → pws.ProgramInRange (program_of g p)
     → ((k : ℕ) → k < n → Fits (ValueOrFF (shape_of p.shape)) (shape_of p.shape) (configuration_of (cube_at f list k)))
     → EntryOf (program_of g p) (configuration_of c) → CubeRange c → Summed f list sum n p.shape → Walkable g f list sum n p c
-walkable g f list sum n p c l m R o e d z =
+walkable g f list sum n p c k b i l m R o e d z =
     record {
       count = l;
       transitions = m;
@@ -178,6 +178,9 @@ walkable g f list sum n p c l m R o e d z =
                 };
           };
       own = e;
+      number = k;
+      listed = b;
+      is = i;
       entries = o;
       summed = z;
     }

@@ -19,10 +19,11 @@ use Rattle.file_contents.specs.Cube.{configuration_of}
 use Rattle.file_again.specs.Again.{entries_of}
 use Rattle.file_records.proofs.ProgramLaws.{and_true}
 use Rattle.list_cube.specs.Editing.{CubeFor, LastWrites}
-use Rattle.list_before.specs.Before.{update_before}
+use Rattle.list_before.specs.Before.{Repeats, update_before}
 use Rattle.list_cover.specs.Search.{Searchable}
 use Rattle.list_closing.specs.Walk.{step_held, Walkable}
 use Rattle.list_closing.proofs.StepLaws.{not_both, step_true, step_false, searched}
+use Rattle.list_closing.proofs.OwnLaws.{repeated_above, own_held}
 
 -- that process p does not exist
 pub update_absent : (g f list : List ℕ) (n : ℕ) (s : Program) (c : Cube) (p : ℕ) → s.shape.processes ≤ p
@@ -96,6 +97,13 @@ module _ (g f list sum : List ℕ) (n : ℕ) (s : Program) (c : Cube) (W : Walka
 
   pub pointed_there : (i : ℕ) → kind_of (pointed (i / 4) (i % 4)) ≡ true → {h : Bool} → h ≡ held_update (pointed (i / 4) (i % 4)) → pointed_held i ≡ h
   pointed_there i e d = ap (λ (t : Bool). cond t (held_update (pointed (i / 4) (i % 4))) true) e ∙ sym d
+
+  -- the entry itself is below
+  pub own_pointed : (i : ℕ) → kind_of (pointed (i / 4) (i % 4)) ≡ true → Repeats (shape_of s.shape) (configuration_of c).memory p (i / 4) (i % 4) → pointed_held i ≡ true
+  own_pointed i e A =
+      let w = pointed_parts (i / 4) (i % 4) e in
+      pointed_there i e (sym (own_held g f list sum n s c W (Update p) (pointed (i / 4) (i % 4)) (update_has (pointed (i / 4) (i % 4)) e)
+      (repeated_above (shape_of s.shape) W.stepping.program.shape (configuration_of c) W.own.fits p (i / 4) (i % 4) exists w.0 w.1 A)))
 
   pub pointed_fails : (i : ℕ) → pointed_held i ≡ false → false ≡ step_held (program_of g s) (entries_of f list n) (configuration_of c) (Update p)
   pointed_fails i z = at (kind_of (pointed (i / 4) (i % 4))) refl z

@@ -57,13 +57,16 @@ pub record Stepping (g : List ℕ) (p : Program) (c : Cube) : Type 0 where
   pub program : pws.ProgramInRange (program_of g p)
   pub sound : Sound p.shape c
 
--- And the entries with it. It is the condition of this crate's contracts, beside `Full` of a table of full local states and `Families` of one of full families where such are lent; on
+-- And the entries with it, of which it is one. It is the condition of this crate's contracts, beside `Full` of a table of full local states and `Families` of one of full families where such are lent; on
 -- other bytes its functions end, and nothing is said of what they give.
 pub record Walkable (g f list sum : List ℕ) (n : ℕ) (p : Program) (c : Cube) : Type 0 where
   pub count : n ≤ 524288
   pub transitions : p.transitions.count ≤ 256
   pub stepping : Stepping g p c
   pub own : EntryOf (program_of g p) (configuration_of c)
+  pub number : ℕ
+  pub listed : number < n
+  pub is : cube_at f list number ≡ c
   pub entries : (k : ℕ) → k < n → Fits (ValueOrFF (shape_of p.shape)) (shape_of p.shape) (configuration_of (cube_at f list k))
   pub summed : Summed f list sum n p.shape
 

@@ -20,6 +20,7 @@ use file_contents::steps::pair_exists;
 use file_records::program::Program;
 use list_before::serialise::{
     before_serialise, before_serialise_inside, before_serialise_on_top, may_serialise,
+    repeats_value,
 };
 use list_cover::search::search;
 use list_cube::messages::older_write;
@@ -96,6 +97,10 @@ fn top_held(
 ) -> bool
     ensures { (g : List ℕ) → Serialising g file.now list.now sum.now n program cube p v → CubeFor top (serialise_before (shape_of program.shape) (configuration_of cube) p v (on_top v)) → result ≡ held (shape_of program.shape) (entries_of file.now list.now n) (serialise_before (shape_of program.shape) (configuration_of cube) p v (on_top v)) }
 {
+    // then the entry itself is below
+    if repeats_value(cube, p, v) {
+        return true;
+    }
     search(file, list, sum, n, program.shape, top)
 }
 

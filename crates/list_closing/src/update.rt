@@ -13,7 +13,7 @@ ghost use Rattle.list_closing.specs.Walk.{step_held, Walkable};
 use base::bytes::both;
 use file_contents::entry::Cube;
 use file_records::program::{Program, Shape, of_four};
-use list_before::update::{before_update, before_update_pointed};
+use list_before::update::{before_update, before_update_pointed, repeated_label};
 use list_cover::search::search;
 
 // With nothing beside: if there is such a cube, it is held.
@@ -95,8 +95,13 @@ pub(crate) fn updated_held(
     let shape = program.shape;
     let pointers = cube.pointers;
     let pointer = of_four(pointers, p);
+    let own = repeated_label(shape, cube, writes, p);
     for i in 0..16 {
         if !may_point(shape, writes, pointer, i) {
+            continue;
+        }
+        // with one message more of the label that p's pointer repeats, the entry itself is below
+        if i == own {
             continue;
         }
         if !pointed_held(file, list, sum, n, program, cube, p, i) {

@@ -17,7 +17,7 @@ use machine_pws::Message;
 // ---- LastWrite
 
 // Where the LastWrite of a message's label stands, and 16 if there is no such label.
-pub(crate) fn write_place(message: Message) -> usize
+pub fn write_place(message: Message) -> usize
     ensures { WritePlace message result }
 {
     let p = wide(message.process);

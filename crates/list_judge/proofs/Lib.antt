@@ -1,3 +1,4 @@
 pub mod LowestLaws
 pub mod ListLaws
-pub mod UnitLaws
+pub mod ShutLaws
+pub mod FullLaws

@@ -96,12 +96,12 @@ module _ (g f list sum : List ℕ) (n : ℕ) (p : Program) where
       → not r ≡ start_test g f list n p k
   start_by R k l r h = ap not (h (small R) ∙ ap (looks_started P) (sym (entry_is k l)))
 
-  pub opening_by : Ready g f list sum n p → (k : ℕ) → k < n → (r : Opening)
+  opening_by : Ready g f list sum n p → (k : ℕ) → k < n → (r : Opening)
       → (Walkable g f list sum n p (cube_at f list k) → r ≡ opening_of P es (configuration_of (cube_at f list k)))
       → opening_of P es (entry es k) ≡ r
   opening_by R k l r h =
       ap (opening_of P es) (entry_is k l)
-      ∙ sym (h (walkable g f list sum n p (cube_at f list k) R.count R.sizes.transitions R.part.program (searches R).entries
+      ∙ sym (h (walkable g f list sum n p (cube_at f list k) k l refl R.count R.sizes.transitions R.part.program (searches R).entries
       (subst (EntryOf P) (entry_is k l) (R.entries k l).of) (R.cubes k l) R.summed))
 
   -- ---- the verdict
@@ -130,10 +130,18 @@ module _ (g f list sum : List ℕ) (n : ℕ) (p : Program) where
 
   -- ---- the entries in turn
 
+  -- entry k is closed
+  pub closed_here : Ready g f list sum n p → (k : ℕ) → k < n → (r : Opening)
+      → (Walkable g f list sum n p (cube_at f list k) → r ≡ opening_of P es (configuration_of (cube_at f list k)))
+      → r ≡ Shut → closed_test g f list n p k ≡ true
+  closed_here R k l r h e = opening_shut P es (entry es k) (opening_by R k l r h ∙ e)
+
   -- it is the first that is not, and s is its lowest step
-  pub entered_here : (k : ℕ) → k < n → (s : Step) → opening_of P es (entry es k) ≡ Through s → SoFar (closed_test g f list n p) n k → entered k s ≡ entered_said g f list n p
-  entered_here k l s e w =
-      let o = opening_through P es (entry es k) s e in
+  pub entered_here : Ready g f list sum n p → (k : ℕ) → k < n → (r : Opening)
+      → (Walkable g f list sum n p (cube_at f list k) → r ≡ opening_of P es (configuration_of (cube_at f list k)))
+      → (s : Step) → r ≡ Through s → SoFar (closed_test g f list n p) n k → entered k s ≡ entered_said g f list n p
+  entered_here R k l r h s e w =
+      let o = opening_through P es (entry es k) s (opening_by R k l r h ∙ e) in
       sym (ap (λ (z : Option ℕ). elim z [ some k ↦ entered k (way k) | none ↦ safe n ])
       (lowest_some (closed P es) no_entry es n k entries_length (so_far_fails w l o.0) l) ∙ ap (entered k) o.1)
 

@@ -1,5 +1,5 @@
 -- What the code knows of what was read: the program from the bytes g, the entries from the bytes f. No statement rests on these definitions.
-use Rattle.std.specs.Prelude.{ℕ, ◌+◌, ◌*◌, ◌-◌, ◌<◌, ◌≤◌, Bool, not, List, ◌++◌, length, take, drop, replicate}
+use Rattle.std.specs.Prelude.{ℕ, zero, suc, ◌+◌, ◌*◌, ◌-◌, ◌<◌, ◌≤◌, ◌≡◌, Bool, true, not, List, ◌++◌, length, take, drop, replicate}
 use Rattle.std.proofs.Math.Option.{none, some}
 use Rattle.machine_pws.specs.Entries.{entry}
 use Rattle.list_theory.specs.Lists.{lowest}
@@ -7,7 +7,8 @@ use Rattle.list_theory.specs.Verdict.{target}
 use Rattle.list_theory.specs.Decision.{target_held, looks_started, closed, open_step, verdict_of}
 use Rattle.file_records.specs.declared.program.Program.{Program}
 use Rattle.file_records.specs.ProgramPart.{program_of, targets_of}
-use Rattle.file_again.specs.Again.{cube_at, entries_of}
+use Rattle.file_again.specs.Again.{cube_at, entries_of, target_of}
+use Rattle.list_known.specs.FullStates.{four_at, with_states}
 use Rattle.file_again.specs.Contents.{ProgramPartRead, EntryRange, ProgramSizes, CubeRange}
 use Rattle.list_summary.specs.Summary.{Summed}
 use Rattle.verdict.specs.Judge.{Verdict, safe, entered, of_list}
@@ -45,11 +46,32 @@ pub record Ready (g f list sum : List ℕ) (n : ℕ) (p : Program) : Type 0 wher
 abbrev pub held_test : List ℕ → List ℕ → List ℕ → ℕ → Program → ℕ → Bool
 held_test g f list n p k = target_held (program_of g p) (entries_of f list n) (target (targets_of g p) k)
 
+-- number 9 is not said
+abbrev pub TargetsHeld : List ℕ → List ℕ → List ℕ → ℕ → Program → Type 0
+TargetsHeld g f list n p = (k : ℕ) → k < p.targets.count → held_test g f list n p k ≡ true
+
+-- a table of full local states with those of the first m targets
+unfoldable pub with_targets : List ℕ → Program → List ℕ → ℕ → List ℕ
+with_targets g p table zero = table
+with_targets g p table (suc m) = with_states (with_targets g p table m) (target_of g p m)
+
 abbrev pub start_test : List ℕ → List ℕ → List ℕ → ℕ → Program → ℕ → Bool
 start_test g f list n p k = not (looks_started (program_of g p) (entry (entries_of f list n) k))
 
 abbrev pub closed_test : List ℕ → List ℕ → List ℕ → ℕ → Program → ℕ → Bool
 closed_test g f list n p k = closed (program_of g p) (entries_of f list n) (entry (entries_of f list n) k)
+
+-- of every number with local states of the table the test holds
+pub record Known (states : ℕ → List ℕ) (test : ℕ → Bool) (n : ℕ) (table : List ℕ) : Type 0 where
+  pub groups : (i : ℕ) → 4 * i + 4 ≤ length table → (k : ℕ) → k < n → states k ≡ four_at table (4 * i) → test k ≡ true
+
+-- a target with local states of the table is held
+abbrev pub Holds : List ℕ → List ℕ → List ℕ → ℕ → Program → List ℕ → Type 0
+Holds g f list n p table = Known (target_of g p) (held_test g f list n p) p.targets.count table
+
+-- nothing leads in to an entry with local states of the table
+abbrev pub Shuts : List ℕ → List ℕ → List ℕ → ℕ → Program → List ℕ → Type 0
+Shuts g f list n p table = Known (λ k. (cube_at f list k).states) (closed_test g f list n p) n table
 
 -- the verdict of a list all of whose targets are held, and none of whose entries a start is above
 abbrev pub entered_said : List ℕ → List ℕ → List ℕ → ℕ → Program → Verdict

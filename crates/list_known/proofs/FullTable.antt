@@ -2,11 +2,11 @@
 use Prim.Native.Nat.{ℕ, zero, suc, ◌+◌, ◌*◌, ◌%◌, ◌<◌, ◌≤◌, min}
 use mathlib.Core.Path.{◌≡◌, refl, sym, ap, ap₂, subst, ◌∙◌}
 use mathlib.Core.Bool.{Bool, true, false, cond, false≢true}
-use mathlib.Core.Logic.{◌⊎◌, inl, inr, ⊎_elim}
+use mathlib.Core.Logic.{◌⊎◌, inl, inr}
 use mathlib.Core.List.{List, [], ◌∷◌}
 use native.Mathlib.Omega.{arith}
 use native.Mathlib.Decide.{ℕ_discrete, dec_lt}
-use lib.ListN.{length, get_or, set, replicate, length-set, length-replicate, get_or-replicate}
+use lib.ListN.{length, get_or, set, length-set}
 use lib.Seq.{get_or-set_same, get_or-set_other}
 use lib.Dec.{T, eqb, leb}
 use borrow.Author.Tests.{eqb-true, leb-true, leb-false, le-leb, lt-leb}
@@ -25,32 +25,18 @@ use Rattle.list_theory.specs.Decision.{held}
 use Rattle.list_theory.proofs.Lists.{T_true}
 use Rattle.file_records.specs.declared.program.Shape.{Shape}
 use Rattle.base.specs.Bytes.{choose}
-use Rattle.list_known.specs.FullStates.{bare, four_at, Full, Marked, place_of, is_full, AmongMarked, put_four, with_four, with_states, mark_of, with_mark, states_from}
+use Rattle.list_known.specs.FullStates.{four_at, Full, place_of, is_full, Among, put_four, with_states, states_from}
 use Rattle.list_theory.proofs.FullSteps.{states_before, full_step}
 
 -- ---- four bytes
 
-pub four_is : (table : List ℕ) (at q : ℕ) → q < 4 → get_or (four_at table at) q 0 ≡ bare q (get_or table (at + q) 0)
-unfolding four_at bare
-four_is table at zero l = ap (λ (i : ℕ). get_or table i 0 % 128) (omega arith)
+pub four_is : (table : List ℕ) (at q : ℕ) → q < 4 → get_or (four_at table at) q 0 ≡ get_or table (at + q) 0
+unfolding four_at
+four_is table at zero l = ap (λ (i : ℕ). get_or table i 0) (omega arith)
 four_is table at (suc zero) l = refl
 four_is table at (suc (suc zero)) l = refl
 four_is table at (suc (suc (suc zero))) l = refl
 four_is table at (suc (suc (suc (suc q)))) l = absurd (omega arith)
-
--- the states themselves have no mark, and with it they are the same
-bare_same : (states : List ℕ) → get_or states 0 0 < 128 → (q : ℕ) → q < 4 → bare q (get_or states q 0) ≡ get_or states q 0
-unfolding bare
-bare_same states l zero m = omega (arith, l)
-bare_same states l (suc q) m = refl
-
-bare_mark : (states : List ℕ) → get_or states 0 0 < 128 → (q : ℕ) → q < 4 → bare q (get_or (mark_of states) q 0) ≡ get_or states q 0
-unfolding bare
-bare_mark states l zero m = omega (arith, l)
-bare_mark states l (suc zero) m = refl
-bare_mark states l (suc (suc zero)) m = refl
-bare_mark states l (suc (suc (suc zero))) m = refl
-bare_mark states l (suc (suc (suc (suc q)))) m = absurd (omega arith)
 
 pub from_is : (states : List ℕ) (p x q : ℕ) → q < 4 → get_or (states_from states p x) q 0 ≡ put (λ q. get_or states q 0) p x q
 unfolding states_from
@@ -76,16 +62,16 @@ full_read table states s at e l =
     ∙ sym (ap (λ (b : Bool). cond b (all_below (min s.processes 4) (λ q. eqb (get_or (four_at table (place_of states)) q 0) (get_or states q 0))) false)
     (le-leb (place_of states + 4) (length table) (omega arith)))
 
-pub put_short : (table states bytes : List ℕ) (at : ℕ) → at ≡ place_of states → length table < at + 4 → table ≡ with_four table states bytes
-unfolding with_four
-put_short table states bytes at e l =
-    sym (ap (λ (b : Bool). choose b (λ _. put_four table (place_of states) bytes) (λ _. table)) (lt-leb (place_of states + 4) (length table) (omega arith)))
+pub put_short : (table states : List ℕ) (at : ℕ) → at ≡ place_of states → length table < at + 4 → table ≡ with_states table states
+unfolding with_states
+put_short table states at e l =
+    sym (ap (λ (b : Bool). choose b (λ _. put_four table (place_of states) states) (λ _. table)) (lt-leb (place_of states + 4) (length table) (omega arith)))
 
-pub put_there : (table states bytes : List ℕ) (at : ℕ) → at ≡ place_of states → at + 4 ≤ length table → put_four table at bytes ≡ with_four table states bytes
-unfolding with_four
-put_there table states bytes at e l =
-    ap (λ (i : ℕ). put_four table i bytes) e
-    ∙ sym (ap (λ (b : Bool). choose b (λ _. put_four table (place_of states) bytes) (λ _. table)) (le-leb (place_of states + 4) (length table) (omega arith)))
+pub put_there : (table states : List ℕ) (at : ℕ) → at ≡ place_of states → at + 4 ≤ length table → put_four table at states ≡ with_states table states
+unfolding with_states
+put_there table states at e l =
+    ap (λ (i : ℕ). put_four table i states) e
+    ∙ sym (ap (λ (b : Bool). choose b (λ _. put_four table (place_of states) states) (λ _. table)) (le-leb (place_of states + 4) (length table) (omega arith)))
 
 -- ---- bytes after four were put
 
@@ -133,42 +119,6 @@ module _ (table : List ℕ) (at : ℕ) (states : List ℕ) where
       away q (inl a) l e = omega arith
       away q (inr a) l e = omega arith
 
-pub four_length : (table states bytes : List ℕ) → length (with_four table states bytes) ≡ length table
-unfolding with_four
-four_length table states bytes = go (leb (place_of states + 4) (length table))
-  where
-    go : (b : Bool) → length (choose b (λ _. put_four table (place_of states) bytes) (λ _. table)) ≡ length table
-    go true = put_length table (place_of states) bytes
-    go false = refl
-
--- number i of the table is the place that was written to, or has what it had
-module _ (table bytes : List ℕ) (place : ℕ) (l : 4 * place + 4 ≤ length table) where
-  abbrev written : List ℕ
-  written = put_four table (4 * place) bytes
-
-  apart : (i : ℕ) → (i ≡ place → ⊥) → (q : ℕ) → q < 4 → (4 * i + q < 4 * place) ⊎ (4 * place + 4 ≤ 4 * i + q)
-  apart i k q l = elim (dec_lt i place) [ yes a ↦ inl (omega arith) | no a ↦ elim (dec_lt place i) [ yes b ↦ inr (omega arith) | no b ↦ absurd (k (omega arith)) ] ]
-
-  there_is : (i : ℕ) → i ≡ place → (q : ℕ) → q < 4 → get_or (four_at written (4 * i)) q 0 ≡ bare q (get_or bytes q 0)
-  there_is i k q m =
-      four_is written (4 * i) q m
-      ∙ ap (λ (j : ℕ). bare q (get_or written (4 * j + q) 0)) k
-      ∙ ap (bare q) (put_same table (4 * place) bytes l q m)
-
-  else_is : (i : ℕ) → (i ≡ place → ⊥) → (q : ℕ) → q < 4 → get_or (four_at written (4 * i)) q 0 ≡ get_or (four_at table (4 * i)) q 0
-  else_is i k q m =
-      four_is written (4 * i) q m
-      ∙ ap (bare q) (put_other table (4 * place) bytes (4 * i + q) (apart i k q m))
-      ∙ sym (four_is table (4 * i) q m)
-
-  first_there : (i : ℕ) → i ≡ place → get_or written (4 * i) 0 ≡ get_or bytes 0 0
-  first_there i k =
-      let e : 4 * i ≡ 4 * place + 0 = omega arith in
-      ap (λ (j : ℕ). get_or written j 0) e ∙ put_same table (4 * place) bytes l 0 (omega arith)
-
-  first_else : (i : ℕ) → (i ≡ place → ⊥) → get_or written (4 * i) 0 ≡ get_or table (4 * i) 0
-  first_else i k = put_other table (4 * place) bytes (4 * i) (⊎_elim (λ a. inl (omega arith)) (λ a. inr (omega arith)) (apart i k 0 (omega arith)))
-
 -- ---- what is full
 
 module _ (P : Program) (R : ProgramInRange P) (es : List Configuration) where
@@ -177,31 +127,32 @@ module _ (P : Program) (R : ProgramInRange P) (es : List Configuration) where
   held_as a b e H c o i = H c o (λ p l. i p l ∙ e p l)
 
   module _ (table states : List ℕ) (s : Shape) (e : P.shape.processes ≡ s.processes) (F : Full P es table) where
-    full-four : (bytes : List ℕ) → ((q : ℕ) → q < 4 → bare q (get_or bytes q 0) ≡ get_or states q 0) → TargetHeld P es (λ q. get_or states q 0) → Full P es (with_four table states bytes)
-    unfolding with_four place_of
-    full-four bytes same H = go (leb (place_of states + 4) (length table)) refl
+    pub full_put : TargetHeld P es (λ q. get_or states q 0) → Full P es (with_states table states)
+    unfolding with_states place_of
+    full_put H = go (leb (place_of states + 4) (length table)) refl
       where
         place : ℕ
         place = (get_or states 0 0 + 32 * get_or states 1 0 + 328 * get_or states 2 0 + 577 * get_or states 3 0) % 1024
 
-        there : 4 * place + 4 ≤ length table → (i : ℕ) → 4 * i + 4 ≤ length (put_four table (4 * place) bytes) → TargetHeld P es (λ q. get_or (four_at (put_four table (4 * place) bytes) (4 * i)) q 0)
+        -- the place of number i has what was put there, or what it had
+        there : 4 * place + 4 ≤ length table → (i : ℕ) → 4 * i + 4 ≤ length (put_four table (4 * place) states) → TargetHeld P es (λ q. get_or (four_at (put_four table (4 * place) states) (4 * i)) q 0)
         there l i r = elim (ℕ_discrete i place) [
-          | yes k ↦ held_as (λ q. get_or (four_at (put_four table (4 * place) bytes) (4 * i)) q 0) (λ q. get_or states q 0) (λ q m.
-              there_is table bytes place l i k q (omega (arith, R.shape.processes)) ∙ same q (omega (arith, R.shape.processes))) H
-          | no k ↦ held_as (λ q. get_or (four_at (put_four table (4 * place) bytes) (4 * i)) q 0) (λ q. get_or (four_at table (4 * i)) q 0) (λ q m.
-              else_is table bytes place l i k q (omega (arith, R.shape.processes))) (F.groups i (omega (arith, put_length table (4 * place) bytes)))
+          | yes k ↦ held_as (λ q. get_or (four_at (put_four table (4 * place) states) (4 * i)) q 0) (λ q. get_or states q 0) (λ q m.
+              four_is (put_four table (4 * place) states) (4 * i) q (omega (arith, R.shape.processes))
+              ∙ ap (λ (j : ℕ). get_or (put_four table (4 * place) states) (4 * j + q) 0) k
+              ∙ put_same table (4 * place) states l q (omega (arith, R.shape.processes))) H
+          | no k ↦ held_as (λ q. get_or (four_at (put_four table (4 * place) states) (4 * i)) q 0) (λ q. get_or (four_at table (4 * i)) q 0) (λ q m.
+              four_is (put_four table (4 * place) states) (4 * i) q (omega (arith, R.shape.processes))
+              ∙ put_other table (4 * place) states (4 * i + q) (apart i k q (omega (arith, R.shape.processes)))
+              ∙ sym (four_is table (4 * i) q (omega (arith, R.shape.processes)))) (F.groups i (omega (arith, put_length table (4 * place) states)))
         ]
+          where
+            apart : (i : ℕ) → (i ≡ place → ⊥) → (q : ℕ) → q < 4 → (4 * i + q < 4 * place) ⊎ (4 * place + 4 ≤ 4 * i + q)
+            apart i k q l = elim (dec_lt i place) [ yes a ↦ inl (omega arith) | no a ↦ elim (dec_lt place i) [ yes b ↦ inr (omega arith) | no b ↦ absurd (k (omega arith)) ] ]
 
-        go : (b : Bool) → leb (place_of states + 4) (length table) ≡ b → Full P es (choose b (λ _. put_four table (place_of states) bytes) (λ _. table))
+        go : (b : Bool) → leb (place_of states + 4) (length table) ≡ b → Full P es (choose b (λ _. put_four table (place_of states) states) (λ _. table))
         go true l = record { entries = F.entries; groups = there (leb-true (place_of states + 4) (length table) l) }
         go false l = F
-
-    module _ (l : get_or states 0 0 < 128) (H : TargetHeld P es (λ q. get_or states q 0)) where
-      pub full_put : Full P es (with_states table states)
-      full_put = full-four states (bare_same states l) H
-
-      pub full-mark : Full P es (with_mark table states)
-      full-mark = full-four (mark_of states) (bare_mark states l) H
 
     -- local states that stand in the table are full
     pub full-held : is_full table s states ≡ true → TargetHeld P es (λ q. get_or states q 0)
@@ -259,51 +210,42 @@ four_long : (table : List ℕ) (at : ℕ) → length (four_at table at) ≡ 4
 unfolding four_at
 four_long table at = refl
 
-pub among_there : (table states : List ℕ) (at : ℕ) → at ≡ place_of states → at + 4 ≤ length table → 128 ≤ get_or table at 0 → length states ≡ 4
-    → {r : Bool} → r ≡ all_below (min 4 4) (λ q. eqb (get_or (four_at table at) q 0) (get_or states q 0)) → r ≡ true → AmongMarked table states
+pub among_there : (table states : List ℕ) (at : ℕ) → at ≡ place_of states → at + 4 ≤ length table → length states ≡ 4
+    → {r : Bool} → r ≡ all_below (min 4 4) (λ q. eqb (get_or (four_at table at) q 0) (get_or states q 0)) → r ≡ true → Among table states
 unfolding place_of
-among_there table states at e l x n d t = (
+among_there table states at e l n d t = (
   (get_or states 0 0 + 32 * get_or states 1 0 + 328 * get_or states 2 0 + 577 * get_or states 3 0) % 1024,
   omega (arith, e),
-  subst (λ (i : ℕ). 128 ≤ get_or table i 0) e x,
   ap (four_at table) (sym e) ∙ same_four (four_at table at) states (four_long table at) n (λ q m. eqb-true (get_or (four_at table at) q 0) (get_or states q 0)
       (T_true _ (all_yes 4 (λ q. eqb (get_or (four_at table at) q 0) (get_or states q 0)) (subst T (sym (sym d ∙ t)) tt) q m))),
 )
 
--- ---- marks
+-- after states were put, what stands anywhere is those, or stood there before
+pub among_put : (table states : List ℕ) (i : ℕ) → length states ≡ 4 → 4 * i + 4 ≤ length (with_states table states)
+    → (four_at (with_states table states) (4 * i) ≡ states) ⊎ ((4 * i + 4 ≤ length table) × (four_at (with_states table states) (4 * i) ≡ four_at table (4 * i)))
+unfolding with_states place_of
+among_put table states i n l = go (leb (place_of states + 4) (length table)) refl l
+  where
+    place : ℕ
+    place = (get_or states 0 0 + 32 * get_or states 1 0 + 328 * get_or states 2 0 + 577 * get_or states 3 0) % 1024
 
-module _ {states : ℕ → List ℕ} {test : ℕ → Bool} {n : ℕ} {table : List ℕ} (K : Marked states test n table) where
-  pub marked_has : {xs : List ℕ} → AmongMarked table xs → (k : ℕ) → k < n → xs ≡ states k → test k ≡ true
-  marked_has a k l e = K.groups a.0 a.1 a.2 k l (sym e ∙ sym a.3)
+    apart : (i ≡ place → ⊥) → (q : ℕ) → q < 4 → (4 * i + q < 4 * place) ⊎ (4 * place + 4 ≤ 4 * i + q)
+    apart k q l = elim (dec_lt i place) [ yes a ↦ inl (omega arith) | no a ↦ elim (dec_lt place i) [ yes b ↦ inr (omega arith) | no b ↦ absurd (k (omega arith)) ] ]
 
-  marked_four : (xs bytes : List ℕ)
-      → ((four : List ℕ) → 128 ≤ get_or bytes 0 0 → ((q : ℕ) → q < 4 → get_or four q 0 ≡ bare q (get_or bytes q 0)) → length four ≡ 4 → (k : ℕ) → k < n → states k ≡ four → test k ≡ true)
-      → Marked states test n (with_four table xs bytes)
-  unfolding with_four place_of
-  marked_four xs bytes h = go (leb (place_of xs + 4) (length table)) refl
-    where
-      place : ℕ
-      place = (get_or xs 0 0 + 32 * get_or xs 1 0 + 328 * get_or xs 2 0 + 577 * get_or xs 3 0) % 1024
-
-      go : (b : Bool) → leb (place_of xs + 4) (length table) ≡ b → Marked states test n (choose b (λ _. put_four table (place_of xs) bytes) (λ _. table))
-      go false e = K
-      go true e =
-          let l = leb-true (place_of xs + 4) (length table) e in
-          record {
-            groups = λ i r x k b d. elim (ℕ_discrete i place) [
-              | yes w ↦ h (four_at (put_four table (4 * place) bytes) (4 * i)) (subst (λ (y : ℕ). 128 ≤ y) (first_there table bytes place l i w) x) (there_is table bytes place l i w) (four_long (put_four table (4 * place) bytes) (4 * i)) k b d
-              | no w ↦ K.groups i (omega (arith, put_length table (4 * place) bytes)) (subst (λ (y : ℕ). 128 ≤ y) (first_else table bytes place l i w) x) k b
-                  (d ∙ same_four (four_at (put_four table (4 * place) bytes) (4 * i)) (four_at table (4 * i)) (four_long (put_four table (4 * place) bytes) (4 * i)) (four_long table (4 * i)) (else_is table bytes place l i w))
-            ];
-          }
-
-  pub marked_put : (xs : List ℕ) → get_or xs 0 0 < 128 → Marked states test n (with_states table xs)
-  marked_put xs l = marked_four xs xs (λ four x e m k b d. absurd (omega (arith, x, l)))
-
-  pub marked_mark : (xs : List ℕ) → length xs ≡ 4 → get_or xs 0 0 < 128 → ((k : ℕ) → k < n → states k ≡ xs → test k ≡ true) → Marked states test n (with_mark table xs)
-  marked_mark xs m l h = marked_four xs (mark_of xs) (λ four x e y k b d. h k b (d ∙ same_four four xs y m (λ q z. e q z ∙ bare_mark xs l q z)))
-
--- 127 is no local state, and has no mark
-pub marked_none : (states : ℕ → List ℕ) (test : ℕ → Bool) (n m : ℕ) → Marked states test n (replicate m 127)
-marked_none states test n m =
-    record { groups = λ i l x. absurd (omega (arith, x, get_or-replicate {A = ℕ} m (4 * i) 127 0 (omega (arith, l, length-replicate {A = ℕ} m 127)))) }
+    go : (b : Bool) → leb (place_of states + 4) (length table) ≡ b → 4 * i + 4 ≤ length (choose b (λ _. put_four table (place_of states) states) (λ _. table))
+        → (four_at (choose b (λ _. put_four table (place_of states) states) (λ _. table)) (4 * i) ≡ states)
+        ⊎ ((4 * i + 4 ≤ length table) × (four_at (choose b (λ _. put_four table (place_of states) states) (λ _. table)) (4 * i) ≡ four_at table (4 * i)))
+    go false e m = inr (m, refl)
+    go true e m = elim (ℕ_discrete i place) [
+      | yes k ↦ inl (same_four (four_at (put_four table (4 * place) states) (4 * i)) states (four_long (put_four table (4 * place) states) (4 * i)) n (λ q r.
+          four_is (put_four table (4 * place) states) (4 * i) q r
+          ∙ ap (λ (j : ℕ). get_or (put_four table (4 * place) states) (4 * j + q) 0) k
+          ∙ put_same table (4 * place) states (leb-true (place_of states + 4) (length table) e) q r))
+      | no k ↦ inr (
+        omega (arith, put_length table (4 * place) states, m),
+        same_four (four_at (put_four table (4 * place) states) (4 * i)) (four_at table (4 * i)) (four_long (put_four table (4 * place) states) (4 * i)) (four_long table (4 * i)) (λ q r.
+            four_is (put_four table (4 * place) states) (4 * i) q r
+            ∙ put_other table (4 * place) states (4 * i + q) (apart k q r)
+            ∙ sym (four_is table (4 * i) q r)),
+      )
+    ]

@@ -1,6 +1,5 @@
 pub mod FullTable
 pub mod FamilyTable
 pub mod ClueLaws
-pub mod AreaLaws
-pub mod TableLaws
+pub mod GroupLaws
 pub mod MemberLaws

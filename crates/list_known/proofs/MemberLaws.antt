@@ -23,6 +23,15 @@ use Rattle.list_theory.proofs.FamilyFull.{family-full}
 use Rattle.list_theory.proofs.FamilySeen.{seen_fits, seen-full}
 use Rattle.list_targets.proofs.TargetLaws.{listed}
 use Rattle.list_targets.specs.Walk.{Searches}
+use Rattle.list_known.specs.Members.{Kept}
+
+-- ---- the table
+
+pub kept_same : {f list sum : List ℕ} {n : ℕ} {s : Shape} {k : ℕ} (t : List ℕ) → Kept f list sum n s k t t
+kept_same t = record { room = refl; full = λ l h F. F }
+
+pub kept_more : {f list sum : List ℕ} {n : ℕ} {s : Shape} {k : ℕ} {a b c : List ℕ} → Kept f list sum n s k a b → Kept f list sum n s k b c → Kept f list sum n s k a c
+kept_more x y = record { room = y.room ∙ x.room; full = λ l h F. y.full l h (x.full l h F) }
 
 -- ---- what is full
 

@@ -1,3 +1,4 @@
 pub mod FullStates
 pub mod FamilyTable
-pub mod Tables
+pub mod Groups
+pub mod Members

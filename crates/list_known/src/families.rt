@@ -131,7 +131,7 @@ fn clue_met(shape: Shape, cube: Cube, clue: usize) -> bool
 }
 
 // ---- the table: words 0 to 1,023 are entries of which a family is full, eight in a row for local states and empty queues that fall together;
-// words 1,024 to 2,046 count entries, and word 2,047 says which group is tested next; words 2,048 to 3,071 say which of their families are full. Where something stands changes only the speed. A word has its entry's number, counted from 1, in its lower 20 bits. In
+// words 1,024 to 2,047 count entries; words 2,048 to 3,071 say which of their families are full. Where something stands changes only the speed. A word has its entry's number, counted from 1, in its lower 20 bits. In
 // the upper 12 it has a digest of that entry, which changes only the speed too: most cubes that are not in its family are told without looking into the file.
 
 // The next two of eight bits.
@@ -344,7 +344,7 @@ fn counter_of(shape: Shape, cube: Cube) -> usize
     }
     let folded = h ^ h >> 32;
     let mixed = folded ^ folded >> 11;
-    1024 + (mixed % 1023) as usize
+    1024 + (mixed % 1024) as usize
 }
 
 // One entry more of its family: how many there are now.

@@ -1,7 +1,7 @@
 // A table of full local states: every configuration with them is above the list. Number 9 shows that of the targets, and the same test of any
 // group that is large enough; at number 11 nothing that has full local states is searched for.
 ghost use Rattle.std.specs.Prelude.{◌≡◌, true, cond, ◌*◌, ◌≤◌, ◌<◌, length, eqb};
-ghost use Rattle.list_known.specs.FullStates.{place_of, is_full, AmongMarked, with_four, with_states, with_mark, states_from};
+ghost use Rattle.list_known.specs.FullStates.{place_of, is_full, Among, with_states, states_from};
 
 use file_records::program::Shape;
 use list_key::states_match;
@@ -45,53 +45,34 @@ pub fn is_full(table: &[u8], shape: Shape, states: [u8; 4]) -> bool
     if table.len() < at + 4 {
         return false;
     }
-    let known = [table[at] % 128, table[at + 1], table[at + 2], table[at + 3]];
+    let known = [table[at], table[at + 1], table[at + 2], table[at + 3]];
     states_match(shape.processes, known, states)
 }
 
-// All four states stand there with the mark, those of processes that do not exist too.
-pub fn is_marked(table: &[u8], states: [u8; 4]) -> bool
-    ensures { result ≡ true → AmongMarked table.now states }
+// All four states stand there, those of processes that do not exist too.
+pub fn has_states(table: &[u8], states: [u8; 4]) -> bool
+    ensures { result ≡ true → Among table.now states }
 {
     let at = place_of(states);
     if table.len() < at + 4 {
         return false;
     }
-    if table[at] < 128 {
-        return false;
-    }
-    let known = [table[at] % 128, table[at + 1], table[at + 2], table[at + 3]];
+    let known = [table[at], table[at + 1], table[at + 2], table[at + 3]];
     states_match(4, known, states)
 }
 
 // Others that stood in their place are forgotten.
-fn put_four(table: &mut [u8], states: [u8; 4], bytes: [u8; 4])
-    ensures { table.new ≡ with_four table.old states bytes }
+pub fn put_full(table: &mut [u8], states: [u8; 4])
+    ensures { table.new ≡ with_states table.old states }
 {
     let at = place_of(states);
     if table.len() < at + 4 {
         return;
     }
-    table[at] = bytes[0];
-    table[at + 1] = bytes[1];
-    table[at + 2] = bytes[2];
-    table[at + 3] = bytes[3];
-}
-
-pub(crate) fn put_full(table: &mut [u8], states: [u8; 4])
-    ensures { table.new ≡ with_states table.old states }
-{
-    put_four(table, states, states);
-}
-
-pub(crate) fn put_mark(table: &mut [u8], states: [u8; 4])
-    ensures { table.new ≡ with_mark table.old states }
-{
-    put_four(
-        table,
-        states,
-        [states[0] % 128 + 128, states[1], states[2], states[3]],
-    );
+    table[at] = states[0];
+    table[at + 1] = states[1];
+    table[at + 2] = states[2];
+    table[at + 3] = states[3];
 }
 
 fn state_or(same: bool, from: u8, state: u8) -> u8

@@ -8,4 +8,3 @@ pub mod full;
 pub mod groups;
 pub mod members;
 pub mod policy;
-pub mod tables;

@@ -1,14 +1,18 @@
 // When what is full is looked for: only the speed depends on it.
-ghost use Rattle.std.specs.Prelude.{◌≤◌, ◌<◌, length};
-ghost use Rattle.list_known.specs.Tables.{Kept};
+ghost use Rattle.std.specs.Prelude.{◌≡◌, ◌<◌, length};
+ghost use Rattle.machine_pws.specs.Program as pws;
+ghost use Rattle.file_records.specs.ProgramPart.{shape_of};
+ghost use Rattle.file_again.specs.Again.{entries_of};
+ghost use Rattle.list_known.specs.FullStates.{Full};
+ghost use Rattle.list_known.specs.FamilyTable.{Families};
+ghost use Rattle.list_targets.specs.Walk.{Searches};
 
 use crate::full::is_full;
-use crate::groups::{group_full, leader_from};
+use crate::groups::put_groups;
 use crate::members::put_member;
-use crate::tables::{keep_full, put_next};
 use base::bytes::both;
 use file_records::program::Shape;
-use list_summary::{states_at, word_at};
+use list_summary::states_at;
 
 // At least so many entries hold everything of one target (README, "Limits"); no list has so many for any other shape. Only the speed depends
 // on it.
@@ -41,58 +45,22 @@ fn least_alone(variables: usize) -> usize {
     }
 }
 
-// After a part of the entries the other groups are tested too, one group to an entry: before, a way in may be found with less.
-pub fn put_others(file: &[u8], work: &mut [u8], at: usize, n: usize, shape: Shape, k: usize)
-    ensures { Kept file.now at n shape k work.old work.new }
-{
-    if k < n / 64 {
-        return;
-    }
-    if at < 16384 {
-        return;
-    }
-    if work.len() < at {
-        return;
-    }
-    let from = word_at(&work[4096..16384], 2047);
-    if n <= from {
-        return;
-    }
-    put_other(file, work, at, n, shape, least_entries(shape), from);
-}
-
-// The next group of so many entries.
-fn put_other(
+// After a part of the entries the other groups are tested too: before, a way in may be found with less.
+pub fn put_others(
     file: &[u8],
-    work: &mut [u8],
-    at: usize,
+    list: &[u8],
+    sum: &[u8],
     n: usize,
     shape: Shape,
-    least: usize,
-    from: usize,
+    k: usize,
+    table: &mut [u8],
 )
-    requires { (from < 4294967296) × (16384 ≤ at) × (at ≤ length work.old) }
-    ensures { Kept file.now at n shape 0 work.old work.new }
+    ensures { (length table.new ≡ length table.old) × ((P : pws.Program) → P.shape ≡ shape_of shape → pws.ProgramInRange P → Searches file.now list.now sum.now n shape → Full P (entries_of file.now list.now n) table.old → Full P (entries_of file.now list.now n) table.new) }
 {
-    let j = leader_from(&work[at..], least, from);
-    put_next(work, j + 1);
-    if n <= j {
+    if k != n / 32 {
         return;
     }
-    if !group_full(
-        &work[0..4096],
-        file,
-        &work[16384..at],
-        &work[at..],
-        n,
-        shape,
-        least,
-        j,
-    ) {
-        return;
-    }
-    let states = states_at(file, &work[16384..at], shape, j);
-    keep_full(work, states);
+    put_groups(file, list, sum, n, shape, least_entries(shape), table);
 }
 
 // One entry in four is counted, whatever the order of the list repeats.
@@ -139,8 +107,17 @@ fn members_of_two(variables: usize) -> usize {
 }
 
 // The family of entry k joins the table if it is found full. Where local states are full there is no need of it.
-pub fn put_like(file: &[u8], work: &mut [u8], at: usize, n: usize, shape: Shape, k: usize)
-    ensures { Kept file.now at n shape k work.old work.new }
+pub fn put_like(
+    full: &[u8],
+    file: &[u8],
+    list: &[u8],
+    sum: &[u8],
+    n: usize,
+    shape: Shape,
+    k: usize,
+    families: &mut [u8],
+)
+    ensures { (length families.new ≡ length families.old) × (k < n → Searches file.now list.now sum.now n shape → Families (shape_of shape) (entries_of file.now list.now n) families.old → Families (shape_of shape) (entries_of file.now list.now n) families.new) }
 {
     if 524288 <= k {
         return;
@@ -156,15 +133,8 @@ pub fn put_like(file: &[u8], work: &mut [u8], at: usize, n: usize, shape: Shape,
     if most == 0 {
         return;
     }
-    if at < 16384 {
+    if is_full(full, shape, states_at(file, list, shape, k)) {
         return;
     }
-    if work.len() < at {
-        return;
-    }
-    let states = states_at(file, &work[16384..at], shape, k);
-    if is_full(&work[..4096], shape, states) {
-        return;
-    }
-    put_member(file, work, at, n, shape, most, k);
+    put_member(file, list, sum, n, shape, most, k, families);
 }

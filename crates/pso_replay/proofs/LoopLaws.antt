@@ -3,26 +3,35 @@ use Prim.Native.Nat.{ℕ, suc, ◌+◌, ◌-◌, ◌<◌, ◌≤◌}
 use mathlib.Core.Path.{◌≡◌, refl, sym, ap, ◌∙◌}
 use mathlib.Core.List.{List}
 use native.Mathlib.Omega.{arith}
+use lib.ListN.{length}
 use Rattle.file_records.specs.declared.program.Shape.{Shape}
 use Rattle.file_records.specs.declared.program.Row.{Row}
-use Rattle.file_records.specs.declared.program.Program.{Program}
 use Rattle.file_records.specs.Records.{step_at}
 use Rattle.run_causes.specs.declared.Cause.{Cause}
 use Rattle.run_causes.specs.declared.Answer.{Answer}
 use Rattle.run_causes.specs.declared.Answer.TheVariants.{Permitted, Refused}
 use Rattle.run_step.specs.declared.last_test.RunAnswer.{RunAnswer}
-use Rattle.run_step.specs.declared.last_test.RunAnswer.TheVariants.{Stopped}
 use Rattle.run_replay.specs.Answers.{answer_then}
 use Rattle.run_step.specs.LastTest.{last_in}
-use Rattle.run_replay.specs.Loop.{next_step}
+use Rattle.run_replay.specs.Loop.{next_step, stopped_by}
 use Rattle.pso_layout.specs.declared.moves.PsoMove.{PsoMove}
 use Rattle.pso_layout.specs.declared.buffers.PsoRun.{PsoRun}
 use Rattle.pso_layout.specs.Layout.{pso_move_of}
 use Rattle.pso_step.specs.Answering.{answer_in}
 use Rattle.pso_step.specs.After.{run_after, lower_after_move}
-use Rattle.pso_replay.specs.declared.units.PsoReplay.{PsoReplay}
-use Rattle.pso_replay.specs.Loop.{first_run, run_from, replay_in}
-use Rattle.pso_replay.specs.Units.{Replayed}
+use Rattle.pso_replay.specs.Loop.{run_from}
+use Rattle.pso_step.proofs.Lengths.{area_length}
+
+-- after k steps: what is left to do gives the answer of all
+pub record Replaying (g f : List ℕ) (s : Shape) (transitions targets : Row) (steps at : ℕ) (run₀ : PsoRun) (a₀ : List ℕ) (k place : ℕ) (run : PsoRun) (a : List ℕ) : Type 0 where
+  pub most : k ≤ steps
+  pub same : length a ≡ length a₀
+  pub rest : run_from g f s transitions targets steps k place run a (steps - k) ≡ run_from g f s transitions targets steps 0 at run₀ a₀ steps
+
+pub replaying_begin : (g f : List ℕ) (s : Shape) (transitions targets : Row) (steps at : ℕ) (run₀ : PsoRun) (a₀ : List ℕ)
+    → Replaying g f s transitions targets steps at run₀ a₀ 0 at run₀ a₀
+replaying_begin g f s transitions targets steps at run₀ a₀ =
+    record { most = omega arith; same = refl; rest = ap (run_from g f s transitions targets steps 0 at run₀ a₀) (omega arith) }
 
 module _ (g f : List ℕ) (s : Shape) (transitions targets : Row) (steps k place : ℕ) (run : PsoRun) (a : List ℕ) where
   run_done : steps ≤ k → run_from g f s transitions targets steps k place run a (steps - k) ≡ last_in g targets s run.states steps
@@ -36,40 +45,31 @@ module _ (g f : List ℕ) (s : Shape) (transitions targets : Row) (steps k place
   unfolding run_from
   run_step l = let e : steps - k ≡ suc (steps - (k + 1)) = omega arith in ap (run_from g f s transitions targets steps k place run a) e
 
--- ---- units
+module _ {g f : List ℕ} {s : Shape} {transitions targets : Row} {steps at : ℕ} {run₀ : PsoRun} {a₀ : List ℕ} {k place : ℕ} {run : PsoRun} {a : List ℕ}
+    (r : Replaying g f s transitions targets steps at run₀ a₀ k place run a) where
+  pub replaying-done : steps ≤ k → last_in g targets s run.states steps ≡ run_from g f s transitions targets steps 0 at run₀ a₀ steps
+  replaying-done l = sym (run_done g f s transitions targets steps k place run a l) ∙ r.rest
 
-pub replayed_begin : (g f : List ℕ) (p : Program) (memory : List ℕ) (at steps : ℕ) (a : List ℕ) (r : PsoReplay) → r.run ≡ first_run p.initial memory → r.place ≡ at
-    → Replayed g f p steps (replay_in g f p memory at steps a) 0 r a
-replayed_begin g f p memory at steps a r er ep =
-    record {
-      most = omega arith;
-      rest = (λ i. run_from g f p.shape p.transitions p.targets steps 0 (ep i) (er i) a (steps - 0))
-          ∙ ap (run_from g f p.shape p.transitions p.targets steps 0 at (first_run p.initial memory) a) (omega arith);
-    }
+  pub replaying-stopped : (x : Answer) (cause : Cause) → k < steps → x ≡ answer_in run a s (pso_move_of g transitions (step_at f place)) → x ≡ Refused cause
+      → stopped_by k x ≡ run_from g f s transitions targets steps 0 at run₀ a₀ steps
+  replaying-stopped x cause l e q =
+      let m = pso_move_of g transitions (step_at f place) in
+      let goes : RunAnswer = run_from g f s transitions targets steps (k + 1) (next_step f place) (run_after run a s m) (lower_after_move a run.tails s m) (steps - (k + 1)) in
+      ap (stopped_by k) q
+      ∙ sym (run_step g f s transitions targets steps k place run a l ∙ ap (λ (z : Answer). answer_then z k (λ _. goes)) (sym e ∙ q)) ∙ r.rest
 
-module _ {g f : List ℕ} {p : Program} {steps : ℕ} {said : RunAnswer} {k : ℕ} {r : PsoReplay} {a : List ℕ} (R : Replayed g f p steps said k r a) where
-  pub replayed_last : steps ≤ k → last_in g p.targets p.shape r.run.states steps ≡ said
-  replayed_last l = sym (run_done g f p.shape p.transitions p.targets steps k r.place r.run a l) ∙ R.rest
-
-  pub replayed_stopped : (x : Answer) (cause : Cause) → k < steps → x ≡ answer_in r.run a p.shape (pso_move_of g p.transitions (step_at f r.place))
-      → x ≡ Refused cause → Stopped k cause ≡ said
-  replayed_stopped x cause l e q =
-      let m = pso_move_of g p.transitions (step_at f r.place) in
-      let goes : RunAnswer =
-      run_from g f p.shape p.transitions p.targets steps (k + 1) (next_step f r.place) (run_after r.run a p.shape m) (lower_after_move a r.run.tails p.shape m) (steps - (k + 1)) in
-      sym (run_step g f p.shape p.transitions p.targets steps k r.place r.run a l ∙ ap (λ (z : Answer). answer_then z k (λ _. goes)) (sym e ∙ q)) ∙ R.rest
-
-  pub replayed_next : {r' : PsoReplay} {a' : List ℕ} (m : PsoMove) → k < steps → m ≡ pso_move_of g p.transitions (step_at f r.place)
-      → answer_in r.run a p.shape m ≡ Permitted → r'.place ≡ next_step f r.place → r'.run ≡ run_after r.run a p.shape m
-      → a' ≡ lower_after_move a r.run.tails p.shape m → Replayed g f p steps said (k + 1) r' a'
-  replayed_next m l em e ep er ea =
+  pub replaying-next : {place' : ℕ} {run' : PsoRun} {a' : List ℕ} (m : PsoMove) → k < steps → m ≡ pso_move_of g transitions (step_at f place)
+      → answer_in run a s m ≡ Permitted → place' ≡ next_step f place → run' ≡ run_after run a s m → a' ≡ lower_after_move a run.tails s m
+      → Replaying g f s transitions targets steps at run₀ a₀ (k + 1) place' run' a'
+  replaying-next {place'} {run'} {a'} m l em e ep er ea =
       let goes : PsoMove → RunAnswer =
-      λ x. run_from g f p.shape p.transitions p.targets steps (k + 1) (next_step f r.place) (run_after r.run a p.shape x) (lower_after_move a r.run.tails p.shape x) (steps - (k + 1)) in
+      λ x. run_from g f s transitions targets steps (k + 1) (next_step f place) (run_after run a s x) (lower_after_move a run.tails s x) (steps - (k + 1)) in
       record {
         most = omega arith;
+        same = ap length ea ∙ area_length a run.tails s m ∙ r.same;
         rest =
-            (λ i. run_from g f p.shape p.transitions p.targets steps (k + 1) (ep i) (er i) (ea i) (steps - (k + 1))) ∙ ap goes em
-            ∙ sym (run_step g f p.shape p.transitions p.targets steps k r.place r.run a l
-            ∙ ap (λ (z : Answer). answer_then z k (λ _. goes (pso_move_of g p.transitions (step_at f r.place)))) (ap (answer_in r.run a p.shape) (sym em) ∙ e))
-            ∙ R.rest;
+            (λ i. run_from g f s transitions targets steps (k + 1) (ep i) (er i) (ea i) (steps - (k + 1))) ∙ ap goes em
+            ∙ sym (run_step g f s transitions targets steps k place run a l
+            ∙ ap (λ (z : Answer). answer_then z k (λ _. goes (pso_move_of g transitions (step_at f place)))) (ap (answer_in run a s) (sym em) ∙ e))
+            ∙ r.rest;
       }

@@ -1,4 +1,3 @@
 pub mod Answers
 pub mod Loop
-pub mod Units
 pub mod Cases

@@ -4,4 +4,3 @@
 #![tactic(auto)]
 
 pub mod run;
-pub mod units;

@@ -20,11 +20,11 @@ use Rattle.file_again.proofs.Tables.{table_length}
 use Rattle.drawing.specs.Writing.{Made, made, refused}
 use Rattle.register_machine.specs.Program.{RegisterProgram, has_register}
 use Rattle.register_machine.specs.Written.{joined, pair_of, states_of, choices, becomes_in, written, target_becomes, written_targets}
-use Rattle.file_written.specs.Written.{shape_bytes, states_bytes, transition_bytes, target_bytes, program_bytes}
+use Rattle.register_program.specs.Form.{shape_record, states_record, transition_record, target_record, program_bytes}
 use Rattle.register_program.specs.Reading.{register_program_of}
 use Rattle.register_program.specs.Registers.{lowest_over, source_of, made_of, of_read, part_of, registers_of}
 use Rattle.register_program.specs.Parts.{Found, registers_in, counted_of, product}
-use Rattle.register_program.proofs.Joined.{joined_length, rows_are}
+use Rattle.register_program.proofs.Joined.{joined_length}
 use Rattle.register_program.proofs.Found.{found_read}
 use Rattle.register_program.proofs.HasLaws.{has_all, no_register}
 use Rattle.register_program.proofs.CountLaws.{states_most}
@@ -33,11 +33,12 @@ use Rattle.register_program.proofs.TargetLaws.{choices_more, map_length, product
 
 pub bytes_length : (P : pws.Program) (ts : List (ℕ → ℕ))
     → length (program_bytes P ts) ≡ 7 + (3 * P.shape.processes + (8 * length P.transitions + 5 * length ts))
+unfolding program_bytes
 bytes_length P ts =
-    let a = joined (states_bytes P) (table_from (λ p. p) 0 P.shape.processes) in
-    let b = joined transition_bytes P.transitions in
-    let c = joined target_bytes ts in
-    omega (arith, ap length (rows_are P ts), length-append (shape_bytes P.shape) (a ++ (b ++ c)), length-append a (b ++ c), length-append b c, joined_length (states_bytes P) 3 (λ p. refl) (table_from (λ p. p) 0 P.shape.processes), table_length (λ (p : ℕ). p) 0 P.shape.processes, joined_length transition_bytes 8 transition_eight P.transitions, joined_length target_bytes 5 (λ t. refl) ts)
+    let a = joined (states_record P) (table_from (λ p. p) 0 P.shape.processes) in
+    let b = joined transition_record P.transitions in
+    let c = joined target_record ts in
+    omega (arith, length-append (shape_record P.shape) (a ++ (b ++ c)), length-append a (b ++ c), length-append b c, joined_length (states_record P) 3 (λ p. refl) (table_from (λ p. p) 0 P.shape.processes), table_length (λ (p : ℕ). p) 0 P.shape.processes, joined_length transition_record 8 transition_eight P.transitions, joined_length target_record 5 (λ t. refl) ts)
 
 records_same : {m n : ℕ} → ◌≡◌ {A = Counted} (Records m) (Records n) → m ≡ n
 records_same e = cc

@@ -1,21 +1,22 @@
 -- The numbers, as the code goes through the 05s and the processes.
 use Prim.Native.Nat.{ℕ, zero, suc, ◌+◌, ◌-◌, ◌*◌, ◌<◌, ◌≤◌}
-use mathlib.Core.Path.{◌≡◌, refl, sym, ap, ◌∙◌}
+use mathlib.Core.Path.{◌≡◌, refl, sym, ap, ap₂, subst, ◌∙◌}
 use mathlib.Core.Bool.{Bool, true, false, cond, ◌&&◌, not}
-use mathlib.Core.List.{List}
+use mathlib.Core.List.{List, [], ◌∷◌, ◌++◌, map}
 use native.Mathlib.Omega.{arith}
 use native.Mathlib.Decide.{ℕ_discrete}
-use lib.ListN.{length, get_or}
+use lib.ListN.{length, get_or, length-append}
 use lib.Dec.{eqb, ltb}
 use borrow.Author.Tests.{lt-ltb, le-ltb, ltb-false}
 use Rattle.machine_pws.specs.declared.Transition.{Transition}
 use Rattle.base.specs.Bytes.{byte}
 use Rattle.file_records.specs.declared.program.Program.{Program}
+use Rattle.file_records.specs.declared.program.Counted.{Counted}
 use Rattle.file_records.specs.declared.program.Counted.TheVariants.{Records, Stopped}
 use Rattle.file_records.specs.ProgramPart.{table_from}
 use Rattle.register_machine.specs.declared.RegisterTransition.{RegisterTransition}
-use Rattle.register_machine.specs.Program.{RegisterProgram}
-use Rattle.register_machine.specs.Written.{states_of, becomes_in, written}
+use Rattle.register_machine.specs.Program.{RegisterProgram, has_register}
+use Rattle.register_machine.specs.Written.{joined, four_values, states_of, written, choices}
 use Rattle.register_program.specs.Reading.{register_transition_at, register_program_of}
 use Rattle.register_program.specs.Registers.{lowest_over, source_of}
 use Rattle.register_program.specs.Parts.{Found, registers_in, counted_of}
@@ -73,6 +74,7 @@ pub record Counting (f : List ℕ) (has : List Bool) (n k₀ k total i : ℕ) : 
   pub place : k ≡ k₀ + 8 * i
   pub most : i ≤ n
   pub few : total ≤ 256
+  pub sum : total + length (joined (expand has) (table_from (transitions_at f k₀) i (n - i))) ≡ length (joined (expand has) (table_from (transitions_at f k₀) 0 n))
   pub source : i + source_of (expand has) (table_from (transitions_at f k₀) i (n - i)) (256 - total) ≡ source_of (expand has) (table_from (transitions_at f k₀) 0 n) 256
 
 pub counting_begin : (f : List ℕ) (has : List Bool) (n k₀ : ℕ) → Counting f has n k₀ k₀ 0 0
@@ -83,6 +85,7 @@ counting_begin f has n k₀ =
       place = omega arith;
       most = omega arith;
       few = omega arith;
+      sum = z _ ∙ ap (λ (ts : List RegisterTransition). length (joined (expand has) ts)) e;
       source = z _ ∙ ap (λ (ts : List RegisterTransition). source_of (expand has) ts 256) e;
     }
 
@@ -98,6 +101,12 @@ module _ {f : List ℕ} {has : List Bool} {n k₀ k total i : ℕ} (C : Counting
   rest j = table_from (transitions_at f k₀) j (n - j)
 
   module _ (l : i < n) (c : ℕ) (e : c ≡ length (expand has (transitions_at f k₀ i))) where
+    size : length (joined (expand has) (rest i)) ≡ c + length (joined (expand has) (rest (i + 1)))
+    size =
+        ap (λ (ts : List RegisterTransition). length (joined (expand has) ts)) (table_next (transitions_at f k₀) i n l)
+        ∙ length-append (expand has (transitions_at f k₀ i)) (joined (expand has) (rest (i + 1)))
+        ∙ ap (λ (x : ℕ). x + length (joined (expand has) (rest (i + 1)))) (sym e)
+
     source_more : source_of (expand has) (rest i) (256 - total)
         ≡ cond (ltb (256 - total) c) 0 (suc (source_of (expand has) (rest (i + 1)) (256 - total - c)))
     source_more =
@@ -114,32 +123,39 @@ module _ {f : List ℕ} {has : List Bool} {n k₀ k total i : ℕ} (C : Counting
           place = omega (arith, C.place);
           most = omega arith;
           few = m;
+          sum = omega (arith, C.sum, size);
           source = omega (arith, C.source, s);
         }
 
-    pub counting-over : 256 < total + c → i ≡ source_of (expand has) (table_from (transitions_at f k₀) 0 n) 256
+    pub counting-over : 256 < total + c
+        → (256 < length (joined (expand has) (table_from (transitions_at f k₀) 0 n))) × (i ≡ source_of (expand has) (table_from (transitions_at f k₀) 0 n) 256)
     counting-over m =
         let s : source_of (expand has) (rest i) (256 - total) ≡ 0 =
         source_more ∙ ap (λ (b : Bool). cond b 0 (suc (source_of (expand has) (rest (i + 1)) (256 - total - c)))) (lt-ltb (256 - total) c (omega (arith, C.few))) in
-        omega (arith, C.source, s)
+        (omega (arith, C.sum, size), omega (arith, C.source, s))
 
-  pub counting_end : n ≤ i → n ≡ source_of (expand has) (table_from (transitions_at f k₀) 0 n) 256
+  pub counting_end : n ≤ i → total ≡ length (joined (expand has) (table_from (transitions_at f k₀) 0 n))
   counting_end l =
-      let e : source_of (expand has) (rest i) (256 - total) ≡ 0 =
-      ap (λ (ts : List RegisterTransition). source_of (expand has) ts (256 - total)) (table_done (transitions_at f k₀) i n l) in
-      omega (arith, C.source, C.most, e)
-
-pub source_is : {f : List ℕ} {p : Program} → Found f p → {has : List Bool} → has ≡ registers_in f p
-    → source_of (expand has) (register_program_of f p).transitions 256 ≡ source_of (becomes_in (register_program_of f p)) (register_program_of f p).transitions 256
-source_is {f} {p} F e = ap (λ (g : RegisterTransition → List Transition). source_of g (register_program_of f p).transitions 256) (expand_is F e)
+      let e : length (joined (expand has) (rest i)) ≡ 0 = ap (λ (ts : List RegisterTransition). length (joined (expand has) ts)) (table_done (transitions_at f k₀) i n l) in
+      omega (arith, C.sum, e)
 
 -- what is said of the count
-module _ (R : RegisterProgram) where
-  pub said_over : (i : ℕ) → 256 < length (written R).transitions → i ≡ source_of (becomes_in R) R.transitions 256
+module _ {f : List ℕ} {p : Program} (F : Found f p) {has : List Bool} (e : has ≡ registers_in f p) where
+  abbrev R : RegisterProgram
+  R = register_program_of f p
+
+  pub said_over : (i : ℕ) → 256 < length (joined (expand has) R.transitions) → i ≡ source_of (expand has) R.transitions 256
       → Stopped (record { number = 28; place = i }) ≡ counted_of R
   unfolding counted_of
-  said_over i l d = rw (lt-ltb 256 (length (written R).transitions) l) (ap (λ (j : ℕ). Stopped (record { number = 28; place = j })) d)
+  said_over i l d =
+      let x = expand_is F e in
+      let m : 256 < length (written R).transitions = subst (λ (g : RegisterTransition → List Transition). 256 < length (joined g R.transitions)) x l in
+      let s : i ≡ source_of _ R.transitions 256 = d ∙ ap (λ (g : RegisterTransition → List Transition). source_of g R.transitions 256) x in
+      rw (lt-ltb 256 (length (written R).transitions) m) (ap (λ (j : ℕ). Stopped (record { number = 28; place = j })) s)
 
-  pub said_count : (total : ℕ) → total ≤ 256 → total ≡ length (written R).transitions → Records total ≡ counted_of R
+  pub said_count : (total : ℕ) → total ≤ 256 → total ≡ length (joined (expand has) R.transitions) → Records total ≡ counted_of R
   unfolding counted_of
-  said_count total l d = rw (le-ltb 256 (length (written R).transitions) (omega (arith, d))) (ap Records d)
+  said_count total l d =
+      let x = expand_is F e in
+      let s : total ≡ length (written R).transitions = d ∙ ap (λ (g : RegisterTransition → List Transition). length (joined g R.transitions)) x in
+      rw (le-ltb 256 (length (written R).transitions) (omega (arith, s))) (ap Records s)

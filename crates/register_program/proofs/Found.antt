@@ -91,9 +91,3 @@ found_named {f} {p} F i l =
     let n = R.parts i l in
     let few = R.states (byte f (p.transitions.at + 8 * i + 1)) n.process in
     record { from = omega (arith, n.from, few); to = omega (arith, n.to, few); shape = p.shape; operation = n.operation }
-
-pub found_process : {f : List ℕ} {p : Program} → Found f p → (i k : ℕ) → k ≡ p.transitions.at + 8 * i → i < p.transitions.count → byte f (k + 1) < 4
-found_process {f} {p} F i k e l =
-    let R = found_read F in
-    let n = (R.parts i l).process in
-    rw e (omega (arith, n, R.shape.processes.1))

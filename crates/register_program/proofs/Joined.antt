@@ -1,13 +1,11 @@
 -- Lists that are joined, and bytes that are put one list after another.
-use Prim.Native.Nat.{ℕ, suc, ◌+◌, ◌-◌, ◌*◌, ◌<◌, ◌≤◌}
-use mathlib.Core.Path.{◌≡◌, refl, sym, ap, ap₂, subst, ◌∙◌}
+use Prim.Native.Nat.{ℕ, zero, suc, ◌+◌, ◌-◌, ◌*◌, ◌<◌, ◌≤◌}
+use mathlib.Core.Path.{◌≡◌, refl, sym, ap, subst, ◌∙◌}
 use mathlib.Core.List.{List, [], ◌∷◌, ◌++◌, map, append_assoc, append-nil}
 use native.Mathlib.Omega.{arith}
-use lib.ListN.{length, length-append}
-use Rattle.machine_pws.specs.Program.{Program}
+use lib.ListN.{length, get_or, length-append, get_or-append}
+use lib.Seq.{get_or-append-add}
 use Rattle.file_records.specs.ProgramPart.{table_from}
-use Rattle.file_written.specs.Written as bytes
-use Rattle.file_written.specs.Written.{numbers, shape_bytes, states_bytes, transition_bytes, target_bytes, program_bytes}
 use Rattle.drawing.specs.Parts.{placed, Put}
 use Rattle.drawing.proofs.PutLaws.{placed_length, then_put, put_as, put_none}
 use Rattle.register_machine.specs.Written.{joined}
@@ -44,20 +42,6 @@ table_all g n = let a : n - 0 ≡ n = omega arith in ap (table_from g 0) a
 
 pub table_done {ℓ} : {A : Type ℓ} (g : ℕ → A) (i n : ℕ) → n ≤ i → table_from g i (n - i) ≡ []
 table_done g i n l = let a : n - i ≡ 0 = omega arith in ap (table_from g i) a
-
--- ---- a program's records, one after another
-
-abbrev pub rows : Program → List (ℕ → ℕ) → List ℕ
-rows P ts = shape_bytes P.shape ++ (joined (states_bytes P) (numbers P.shape.processes) ++ (joined transition_bytes P.transitions ++ joined target_bytes ts))
-
-same_rows : {A : Type 0} (g : A → List ℕ) (xs : List A) → joined g xs ≡ bytes.joined g xs
-same_rows g [] = refl
-same_rows g (x ∷ xs) = ap (λ (l : List ℕ). g x ++ l) (same_rows g xs)
-
-pub rows_are : (P : Program) (ts : List (ℕ → ℕ)) → rows P ts ≡ program_bytes P ts
-rows_are P ts =
-    ap₂ (λ (a b : List ℕ). shape_bytes P.shape ++ (a ++ b)) (same_rows (states_bytes P) (numbers P.shape.processes))
-    (ap₂ (λ (a b : List ℕ). a ++ b) (same_rows transition_bytes P.transitions) (same_rows target_bytes ts))
 
 -- ---- bytes put so far
 
@@ -99,6 +83,22 @@ going_next w more g e p =
 
 pub going_end : {old new : List ℕ} {start at : ℕ} {whole rest : List ℕ} → Going old new start at whole rest → rest ≡ [] → Put old new start at whole
 going_end g e = put_as g.put (sym (append-nil g.done) ∙ ap (λ (l : List ℕ). g.done ++ l) (sym e) ∙ g.split)
+
+-- ---- records of one size
+
+-- byte j of record i
+pub joined_byte : {A : Type 0} (g : A → List ℕ) (k : ℕ) → ((x : A) → length (g x) ≡ k) → (xs : List A) (d : A) (i j : ℕ) → i < length xs → j < k
+    → get_or (joined g xs) (k * i + j) 0 ≡ get_or (g (get_or xs i d)) j 0
+joined_byte g k e [] d i j l m = absurd (omega arith)
+joined_byte g k e (x ∷ xs) d zero j l m =
+    let a : k * 0 + j ≡ j = omega arith in
+    ap (λ (n : ℕ). get_or (g x ++ joined g xs) n 0) a ∙ get_or-append (g x) (joined g xs) 0 j (omega (arith, e x))
+joined_byte g k e (x ∷ xs) d (suc i) j l m =
+    ap (λ (n : ℕ). get_or (g x ++ joined g xs) n 0) (place (length (g x)) (e x))
+    ∙ get_or-append-add (g x) (joined g xs) (k * i + j) 0 ∙ joined_byte g k e xs d i j (omega arith) m
+  where
+    place : (n : ℕ) → n ≡ k → k * suc i + j ≡ n + (k * i + j)
+    place n p = omega arith
 
 -- ---- room for one list after another
 

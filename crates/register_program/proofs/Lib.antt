@@ -3,10 +3,10 @@ pub mod Found
 pub mod Operations
 pub mod HasLaws
 pub mod CountLaws
-pub mod ShareLaws
 pub mod RecordLaws
 pub mod TargetLaws
 pub mod LoopLaws
 pub mod Answers
+pub mod ReadBack
 pub mod WrittenIsRead
 pub mod Sources

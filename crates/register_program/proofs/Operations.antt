@@ -8,7 +8,6 @@ use native.Mathlib.Decide.{ℕ_discrete, dec_lt}
 use lib.ListN.{length}
 use lib.Dec.{eqb, leb, ltb}
 use borrow.Author.Tests.{eqb-true, ltb-true, ne_eqb, lt-leb, le-leb}
-use Rattle.machine_pws.specs.declared.Operation.{Operation}
 use Rattle.base.specs.Bytes.{byte}
 use Rattle.file_records.specs.declared.program.Format.TheVariants.{Registers}
 use Rattle.file_records.specs.declared.program.Shape.{Shape}
@@ -22,7 +21,7 @@ use Rattle.register_machine.specs.declared.RegisterOperation.TheVariants.{Nop}
 use Rattle.register_machine.specs.declared.RegisterTransition.{RegisterTransition}
 use Rattle.register_machine.specs.Program.{uses_register, RegisterOperationOf}
 use Rattle.register_machine.specs.Written.{four_values, starting_values, read_values, plain_operation, held, states_of, becomes}
-use Rattle.file_written.specs.Written.{operation_byte, variable_byte, value_byte, new_value_byte}
+use Rattle.register_program.specs.Form.{operation_bytes}
 use Rattle.register_program.specs.Reading.{register_operation_of}
 
 of_nine {ℓ} : (F : ℕ → Type ℓ) → F 0 → F 1 → F 2 → F 3 → F 4 → F 5 → F 6 → F 7 → F 8 → ((o : ℕ) → 8 < o → F o) → (o : ℕ) → F o
@@ -76,10 +75,6 @@ module _ (v x y : ℕ) where
   expands false p from to =
       of_nine (Expands false p from to) refl refl refl refl refl refl refl refl refl
       (λ o l. rw (other_nop o l, ne_eqb o 6 (λ d. omega arith)))
-
--- the bytes 3 to 6 of a 03
-abbrev pub operation_bytes : Operation → List ℕ
-operation_bytes o = operation_byte o ∷ variable_byte o ∷ value_byte o ∷ new_value_byte o ∷ []
 
 module _ (s : Shape) (v x y : ℕ) where
   named_of : (o : ℕ) → operation_names Registers s o v x y ≡ true → names_of s o v x y ≡ true

@@ -15,7 +15,7 @@ use Rattle.file_records.specs.Records.{state_at}
 use Rattle.file_again.proofs.Tables.{of_four}
 use Rattle.register_machine.specs.Program.{RegisterProgram, has_register}
 use Rattle.register_machine.specs.Written.{joined, four_values, pair_of, states_of, choices, target_becomes}
-use Rattle.file_written.specs.Written.{target_bytes}
+use Rattle.register_program.specs.Form.{target_record}
 use Rattle.register_program.specs.Parts.{chosen, product}
 use Rattle.register_program.proofs.Joined.{joined_append, joined_joined, joined_map}
 
@@ -55,7 +55,7 @@ put_beyond registers p r h q l = rw (ne_eqb q p (λ e. omega arith)) (h q (omega
 
 module _ (R : RegisterProgram) (has : List Bool) (H : (q : ℕ) → get_or has q false ≡ has_register R q) (target : List ℕ) where
   abbrev row : (ℕ → ℕ) → List ℕ
-  row registers = target_bytes (λ q. pair_of (get_or has q false) (get_or target q 0) (registers q))
+  row registers = target_record (λ q. pair_of (get_or has q false) (get_or target q 0) (registers q))
 
   abbrev Rows : ℕ → ℕ → (ℕ → ℕ) → Type 0
   Rows n p registers = joined (λ c. row (over registers p c)) (choices R p n) ≡ chosen has target n p registers

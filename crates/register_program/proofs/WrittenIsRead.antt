@@ -28,17 +28,16 @@ use Rattle.register_machine.specs.declared.RegisterTransition.{RegisterTransitio
 use Rattle.register_machine.specs.Program.{RegisterProgram, RegisterWellFormed, RegisterTransitionOf, register_transition, no_register_transition, has_register}
 use Rattle.register_machine.specs.Written.{joined, four_values, pair_of, states_of, choices, becomes_in, written, target_becomes, written_targets}
 use Rattle.register_machine.proofs.Stepping.{pair_below, written_in_range}
-use Rattle.file_written.specs.Written.{program_bytes}
-use Rattle.file_written.specs.ProgramPart.{ProgramContents, ProgramReadAs}
-use Rattle.file_written.proofs.ProgramWritten.{program_written_is_read}
+use Rattle.register_program.specs.Form.{program_bytes}
 use Rattle.register_program.specs.Reading.{register_transition_at, register_program_of}
-use Rattle.register_program.specs.Registers.{lowest_over, source_of, made_of, of_read, part_of, registers_of, program_in, targets_in, WrittenIsRead}
+use Rattle.register_program.specs.Registers.{lowest_over, source_of, made_of, of_read, part_of, registers_of, program_in, targets_in, ReadAs, WrittenIsRead}
 use Rattle.register_program.specs.Parts.{Found, registers_in, product}
 use Rattle.register_program.proofs.Operations.{named_operation}
 use Rattle.register_program.proofs.Found.{found_read}
 use Rattle.register_program.proofs.HasLaws.{transitions_at, no_register}
 use Rattle.register_program.proofs.CountLaws.{over_none}
 use Rattle.register_program.proofs.Answers.{target_count, product_most, targets_few}
+use Rattle.register_program.proofs.ReadBack.{Bare, bytes_read}
 
 -- ---- what holds of every element
 
@@ -153,11 +152,10 @@ module _ {f : List ℕ} {p : Program} (F : Found f p) where
         room = refl;
       }
 
-  contents : ProgramPartRead (written R) (written_targets R ts) → ProgramContents (written R) (written_targets R ts)
-  contents part =
+  bare : Bare (written R)
+  bare =
       let r = found_read F in
       record {
-        part = part;
         states = λ q l. ap₂ states_of (no_register F q l) (r.no_states q l);
         initial = λ q l. ap₂ (λ (b : Bool) (x : ℕ). pair_of b x 0) (no_register F q l) (r.no_initial q l);
         values = λ v l. elim (dec_lt v 4) [
@@ -219,7 +217,7 @@ module _ {f : List ℕ} {p : Program} (F : Found f p) where
   made_same : {v w : List ℕ} → ◌≡◌ {A = Made} (made v) (made w) → v ≡ w
   made_same e = cc
 
-  found_written : (w : List ℕ) → made_of R ts ≡ made w → ProgramReadAs true w (written R) (written_targets R ts)
+  found_written : (w : List ℕ) → made_of R ts ≡ made w → ReadAs w (written R) (written_targets R ts)
   unfolding made_of
   found_written w e = go (ltb over m) refl (ltb 256 (length (written R).transitions)) refl e
     where
@@ -227,17 +225,17 @@ module _ {f : List ℕ} {p : Program} (F : Found f p) where
       over = lowest_over (written R).states 0 m
 
       go : (a : Bool) → ltb over m ≡ a → (b : Bool) → ltb 256 (length (written R).transitions) ≡ b
-          → choose a (λ _. refused 19 over) (λ _. choose b (λ _. refused 28 (source_of (becomes_in R) R.transitions 256)) (λ _. made bytes)) ≡ made w → ProgramReadAs true w (written R) (written_targets R ts)
+          → choose a (λ _. refused 19 over) (λ _. choose b (λ _. refused 28 (source_of (becomes_in R) R.transitions 256)) (λ _. made bytes)) ≡ made w → ReadAs w (written R) (written_targets R ts)
       go true d b c e = absurd (not_made e)
       go false d true c e = absurd (not_made e)
       go false d false c e =
-          subst (λ (v : List ℕ). ProgramReadAs true v (written R) (written_targets R ts)) (made_same e)
-          (program_written_is_read (written R) (written_targets R ts) (contents (part_written (ltb-false over m d) (ltb-false 256 (length (written R).transitions) c)))).0
+          subst (λ (v : List ℕ). ReadAs v (written R) (written_targets R ts)) (made_same e)
+          (bytes_read (written R) (written_targets R ts) (part_written (ltb-false over m d) (ltb-false 256 (length (written R).transitions) c)) bare)
 
 pub written_is_read : WrittenIsRead
 unfolding registers_of
 written_is_read f w e = go (part_of f).answer refl e
   where
-    go : (x : Checked) → (part_of f).answer ≡ x → of_read f (part_of f).program x ≡ made w → ProgramReadAs true w (written (program_in f)) (written_targets (program_in f) (targets_in f))
+    go : (x : Checked) → (part_of f).answer ≡ x → of_read f (part_of f).program x ≡ made w → ReadAs w (written (program_in f)) (written_targets (program_in f) (targets_in f))
     go Fine d e = found_written (record { fine = d; same = refl }) w e
     go (Refused r) d e = absurd (let z : ◌≡◌ {A = ℕ} 0 1 = cc in omega arith)

@@ -1,4 +1,4 @@
+pub mod Form
 pub mod Reading
 pub mod Registers
 pub mod Parts
-pub mod Shares

@@ -14,7 +14,7 @@ use Rattle.drawing.specs.declared.Written.{Written}
 use Rattle.register_machine.specs.declared.RegisterTransition.{RegisterTransition}
 use Rattle.register_machine.specs.Program.{RegisterProgram, has_register}
 use Rattle.register_machine.specs.Written.{pair_of, states_of, read_values, plain_transition, becomes_in, written}
-use Rattle.file_written.specs.Written.{target_bytes}
+use Rattle.register_program.specs.Form.{target_record}
 use Rattle.register_program.specs.Reading.{register_program_of}
 use Rattle.register_program.specs.Registers.{source_of, part_of}
 
@@ -70,7 +70,7 @@ RegistersLow registers = (q : ℕ) → get_or registers q 0 < 4
 
 -- The 04s of a target: the registers of the processes below p are chosen, those of n processes from p on go through their values.
 unfoldable pub chosen : List Bool → List ℕ → ℕ → ℕ → (ℕ → ℕ) → List ℕ
-chosen has target zero p registers = target_bytes (λ q. pair_of (get_or has q false) (get_or target q 0) (registers q))
+chosen has target zero p registers = target_record (λ q. pair_of (get_or has q false) (get_or target q 0) (registers q))
 chosen has target (suc n) p registers =
     cond (get_or has p false)
     (chosen has target n (suc p) (put registers p 0)

@@ -3,17 +3,17 @@
 -- with 28 and the number of the 05 it comes from, then a slice too short with 29 and the bytes needed" (`answered_or 29` of the crate drawing).
 use Rattle.std.specs.Prelude.{ℕ, zero, suc, ◌-◌, ◌≡◌, true, cond, List, [], ◌∷◌, length, ltb}
 use Rattle.base.specs.Bytes.{choose}
+use Rattle.machine_pws.specs.Program as pws
 use Rattle.file_records.specs.declared.program.Format.TheVariants.{Registers}
 use Rattle.file_records.specs.declared.program.Checked.{Checked}
 use Rattle.file_records.specs.declared.program.Checked.TheVariants.{Fine, Refused}
 use Rattle.file_records.specs.declared.program.Program.{Program}
 use Rattle.file_records.specs.declared.program.ProgramRead.{ProgramRead}
-use Rattle.file_records.specs.ProgramPart.{program_with, targets_of}
+use Rattle.file_records.specs.ProgramPart.{program_with, program_from, program_of, targets_of}
 use Rattle.drawing.specs.Writing.{Made, made, refused}
 use Rattle.register_machine.specs.Program.{RegisterProgram}
 use Rattle.register_machine.specs.Written.{becomes_in, written, written_targets}
-use Rattle.file_written.specs.Written.{program_bytes}
-use Rattle.file_written.specs.ProgramPart.{ProgramReadAs}
+use Rattle.register_program.specs.Form.{program_bytes}
 use Rattle.register_program.specs.Reading.{register_program_of}
 
 -- the lowest of n processes from p on that would need over 32 states; p + n where none does
@@ -52,6 +52,12 @@ program_in f = register_program_of f (part_of f).program
 abbrev pub targets_in : List ℕ → List (ℕ → ℕ)
 targets_in f = targets_of f (part_of f).program
 
--- the bytes written for a file are read, by the judge's own reader, as the program written for what it says
+-- the judge's own reader reads this program file as this program with these targets
+pub record ReadAs (w : List ℕ) (P : pws.Program) (aims : List (ℕ → ℕ)) : Type 0 where
+  pub fine : (program_from true w 0).answer ≡ Fine
+  pub program : program_of w (program_from true w 0).program ≡ P
+  pub targets : targets_of w (program_from true w 0).program ≡ aims
+
+-- the bytes written for a file are read as the program written for what it says
 abbrev pub WrittenIsRead : Type 0
-WrittenIsRead = (f w : List ℕ) → registers_of f ≡ made w → ProgramReadAs true w (written (program_in f)) (written_targets (program_in f) (targets_in f))
+WrittenIsRead = (f w : List ℕ) → registers_of f ≡ made w → ReadAs w (written (program_in f)) (written_targets (program_in f) (targets_in f))

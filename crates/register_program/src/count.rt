@@ -1,14 +1,12 @@
 // The numbers of what is written.
-ghost use Rattle.std.specs.Prelude.{◌≡◌};
-ghost use Rattle.register_machine.specs.Written.{becomes_in, written};
-ghost use Rattle.register_program.specs.Registers.{lowest_over, source_of};
+ghost use Rattle.std.specs.Prelude.{◌≡◌, ◌&&◌, not, eqb};
+ghost use Rattle.register_machine.specs.Written.{states_of, written};
+ghost use Rattle.register_program.specs.Registers.{lowest_over};
 ghost use Rattle.register_program.specs.Reading.{register_program_of};
 ghost use Rattle.register_program.specs.Parts.{Found, registers_in, counted_of, product};
-ghost use Rattle.register_program.specs.Shares.{Numbered};
 
 use crate::has::{has_at, times};
-use crate::numbers::{Numbers, expansions};
-use base::bytes::{field, wide};
+use base::bytes::{both, field, wide};
 use file_records::program::{Counted, Program, Refusal, of_four};
 
 // The lowest process that would need over 32 states, or the number of processes.
@@ -26,10 +24,17 @@ pub(crate) fn lowest_over(file: &[u8], program: Program, has: [bool; 4]) -> usiz
     n
 }
 
-// The number of the 05 that the transition of number 256 comes from, or how many there are.
-fn source_of(file: &[u8], program: Program, has: [bool; 4]) -> usize
+// How many transitions one becomes: one for each value it can start from, and of these one for each value it can read.
+fn expansions(has: bool, operation: u8) -> usize
+    ensures { result ≡ states_of (has && not (eqb operation 8)) (states_of (eqb operation 6) 1) }
+{
+    times(both(has, operation != 8), times(operation == 6, 1))
+}
+
+// The number of transitions, or 28 with the number of the 05 that a 257th comes from.
+pub(crate) fn transitions_of(file: &[u8], program: Program, has: [bool; 4]) -> Counted
     requires { Found file.now program × (has ≡ registers_in file.now program) }
-    ensures { result ≡ source_of (becomes_in (register_program_of file.now program)) (register_program_of file.now program).transitions 256 }
+    ensures { result ≡ counted_of (register_program_of file.now program) }
 {
     let row = program.transitions;
     let n = row.count;
@@ -38,26 +43,12 @@ fn source_of(file: &[u8], program: Program, has: [bool; 4]) -> usize
     for i in 0..n {
         total += expansions(has_at(has, wide(field(file, k, 1))), field(file, k, 3));
         if 256 < total {
-            return i;
+            return Counted::Stopped(Refusal {
+                number: 28,
+                place: i,
+            });
         }
         k += 8;
-    }
-    n
-}
-
-// The number of transitions, or 28 with the number of the 05 that a 257th comes from: only then are the 05s walked
-// again.
-pub(crate) fn transitions_of(file: &[u8], program: Program, numbers: Numbers) -> Counted
-    requires { Found file.now program × Numbered file.now program numbers }
-    ensures { result ≡ counted_of (register_program_of file.now program) }
-{
-    let total = numbers.transitions;
-    if 256 < total {
-        let has = numbers.has;
-        return Counted::Stopped(Refusal {
-            number: 28,
-            place: source_of(file, program, has),
-        });
     }
     Counted::Records(total)
 }

@@ -5,7 +5,6 @@
 
 mod count;
 mod has;
-mod numbers;
 mod put;
 
 ghost use Rattle.std.specs.Prelude.{◌≡◌, length};
@@ -16,7 +15,7 @@ ghost use Rattle.register_program.specs.Parts.{Found, said};
 ghost use Rattle.file_records.specs.ProgramPart.{targets_of};
 
 use crate::count::{choices_of, lowest_over, transitions_of};
-use crate::numbers::numbers_of;
+use crate::has::registers_of;
 use crate::put::put_program;
 use drawing::Written;
 use file_program::program::read_with;
@@ -37,14 +36,13 @@ fn write(program: Program, file: &[u8], out: &mut [u8]) -> Written
     ensures value { result ≡ answered_or 29 (length out.old) (made_of (register_program_of file.now program) (targets_of file.now program)) }
     ensures out_after { out.new ≡ left_in out.old (made_of (register_program_of file.now program) (targets_of file.now program)) }
 {
-    let numbers = numbers_of(file, program);
-    let has = numbers.has;
+    let has = registers_of(file, program);
     let processes = program.shape.processes;
     let over = lowest_over(file, program, has);
     if over < processes {
         return answer(19, over);
     }
-    let counted = transitions_of(file, program, numbers);
+    let counted = transitions_of(file, program, has);
     let Counted::Records(transitions) = counted else {
         let refusal = stop_of(counted);
         return answer(refusal.number, refusal.place);

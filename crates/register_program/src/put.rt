@@ -3,7 +3,7 @@ ghost use Rattle.std.specs.Prelude.{◌≡◌, Bool, ℕ, ◌+◌, ◌-◌, ◌*
 ghost use Rattle.file_records.specs.ProgramPart.{table_from, targets_of};
 ghost use Rattle.drawing.specs.Parts.{Put};
 ghost use Rattle.register_machine.specs.Written.{joined, plain_transition, becomes, written, written_targets};
-ghost use Rattle.file_written.specs.Written.{shape_bytes, states_bytes, transition_bytes, target_bytes, program_bytes};
+ghost use Rattle.register_program.specs.Form.{shape_record, states_record, transition_record, target_record, program_bytes};
 ghost use Rattle.register_program.specs.Reading.{register_transition_at, register_program_of};
 ghost use Rattle.register_program.specs.Parts.{Found, registers_in, chosen, Named, reads, TargetRead, RegistersLow};
 
@@ -15,7 +15,7 @@ use file_records::program::{Program, of_four};
 // 01
 fn put_shape(out: &mut [u8], file: &[u8], program: Program) -> usize
     requires { Found file.now program × (7 ≤ length out.old) }
-    ensures { Put out.old out.new 0 result (shape_bytes (written (register_program_of file.now program)).shape) }
+    ensures { Put out.old out.new 0 result (shape_record (written (register_program_of file.now program)).shape) }
 {
     put(
         out,
@@ -34,8 +34,8 @@ fn put_shape(out: &mut [u8], file: &[u8], program: Program) -> usize
 
 // The 02s.
 fn put_states(out: &mut [u8], start: usize, file: &[u8], program: Program, has: [bool; 4]) -> usize
-    requires { Found file.now program × (has ≡ registers_in file.now program) × (start + length (joined (states_bytes (written (register_program_of file.now program))) (table_from (λ p. p) 0 program.shape.processes)) ≤ length out.old) }
-    ensures { Put out.old out.new start result (joined (states_bytes (written (register_program_of file.now program))) (table_from (λ p. p) 0 program.shape.processes)) }
+    requires { Found file.now program × (has ≡ registers_in file.now program) × (start + length (joined (states_record (written (register_program_of file.now program))) (table_from (λ p. p) 0 program.shape.processes)) ≤ length out.old) }
+    ensures { Put out.old out.new start result (joined (states_record (written (register_program_of file.now program))) (table_from (λ p. p) 0 program.shape.processes)) }
 {
     let n = program.shape.processes;
     let states = program.states;
@@ -54,7 +54,7 @@ fn put_states(out: &mut [u8], start: usize, file: &[u8], program: Program, has: 
 // From the register value r, where the value read is x.
 fn put_one(out: &mut [u8], at: usize, file: &[u8], k: usize, has: bool, r: u8, x: u8) -> usize
     requires { Named file.now k × (r < 4) × (x < 4) × (at + 8 ≤ length out.old) }
-    ensures { Put out.old out.new at result (transition_bytes (plain_transition has (register_transition_at file.now k) r x)) }
+    ensures { Put out.old out.new at result (transition_record (plain_transition has (register_transition_at file.now k) r x)) }
 {
     let process = field(file, k, 1);
     let from = pair(has, field(file, k, 2), r);
@@ -96,8 +96,8 @@ fn put_one(out: &mut [u8], at: usize, file: &[u8], k: usize, has: bool, r: u8, x
 
 // From one register value: one for each value that it can read.
 fn put_reads(out: &mut [u8], at: usize, file: &[u8], k: usize, has: bool, r: u8) -> usize
-    requires { Named file.now k × (r < 4) × (at + length (joined transition_bytes (reads has (register_transition_at file.now k) r)) ≤ length out.old) }
-    ensures { Put out.old out.new at result (joined transition_bytes (reads has (register_transition_at file.now k) r)) }
+    requires { Named file.now k × (r < 4) × (at + length (joined transition_record (reads has (register_transition_at file.now k) r)) ≤ length out.old) }
+    ensures { Put out.old out.new at result (joined transition_record (reads has (register_transition_at file.now k) r)) }
 {
     let a = put_one(out, at, file, k, has, r, 0);
     if field(file, k, 3) == 6 {
@@ -110,8 +110,8 @@ fn put_reads(out: &mut [u8], at: usize, file: &[u8], k: usize, has: bool, r: u8)
 
 // Those that one becomes.
 fn put_becomes(out: &mut [u8], at: usize, file: &[u8], k: usize, has: bool) -> usize
-    requires { Named file.now k × (at + length (joined transition_bytes (becomes has (register_transition_at file.now k))) ≤ length out.old) }
-    ensures { Put out.old out.new at result (joined transition_bytes (becomes has (register_transition_at file.now k))) }
+    requires { Named file.now k × (at + length (joined transition_record (becomes has (register_transition_at file.now k))) ≤ length out.old) }
+    ensures { Put out.old out.new at result (joined transition_record (becomes has (register_transition_at file.now k))) }
 {
     if has {
         if field(file, k, 3) == 8 {
@@ -132,8 +132,8 @@ fn put_transitions(
     program: Program,
     has: [bool; 4],
 ) -> usize
-    requires { Found file.now program × (has ≡ registers_in file.now program) × (start + length (joined transition_bytes (written (register_program_of file.now program)).transitions) ≤ length out.old) }
-    ensures { Put out.old out.new start result (joined transition_bytes (written (register_program_of file.now program)).transitions) }
+    requires { Found file.now program × (has ≡ registers_in file.now program) × (start + length (joined transition_record (written (register_program_of file.now program)).transitions) ≤ length out.old) }
+    ensures { Put out.old out.new start result (joined transition_record (written (register_program_of file.now program)).transitions) }
 {
     let row = program.transitions;
     let n = row.count;
@@ -200,8 +200,8 @@ fn put_choices(
 }
 
 fn put_targets(out: &mut [u8], start: usize, file: &[u8], program: Program, has: [bool; 4]) -> usize
-    requires { Found file.now program × (has ≡ registers_in file.now program) × (start + length (joined target_bytes (written_targets (register_program_of file.now program) (targets_of file.now program))) ≤ length out.old) }
-    ensures { Put out.old out.new start result (joined target_bytes (written_targets (register_program_of file.now program) (targets_of file.now program))) }
+    requires { Found file.now program × (has ≡ registers_in file.now program) × (start + length (joined target_record (written_targets (register_program_of file.now program) (targets_of file.now program))) ≤ length out.old) }
+    ensures { Put out.old out.new start result (joined target_record (written_targets (register_program_of file.now program) (targets_of file.now program))) }
 {
     let row = program.targets;
     let n = row.count;

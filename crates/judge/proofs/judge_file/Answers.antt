@@ -1,30 +1,33 @@
-use Rattle.judge.proofs.JudgeLaws.{unread-returned, list_returned, run-returned}
-use Rattle.list_judge.specs.Units.{Judging}
-use Rattle.file_contents.specs.EvidencePart.{entries_allowed}
-use Rattle.file_contents.specs.Reading.{input}
+use mathlib.Core.Path.{sym}
+use native.Mathlib.Omega.{arith}
 use lib.Seq.{length-take-le}
-use mathlib.Core.Path.{sym, ap, subst, ◌∙◌}
-use Prim.Native.Nat.{ℕ, ◌+◌, ◌*◌}
+use Rattle.verdict.proofs.AreaLaws.{upper_same}
+use Rattle.file_contents.specs.Reading.{input}
+use Rattle.judge.proofs.JudgeLaws.{unread-returned, upper-ready, list_returned, run-returned}
 use native.Mathlib.Omega.{arith}
 use Rattle.judge.proofs.judge_file.Goals as goal
 
-pub shape_of-work-in_default : goal.shape_of-work-in_default
-shape_of-work-in_default c = c.begin-reading.ensures.same
-
 pub returns-in_default : goal.returns-in_default
-returns-in_default c = unread-returned (input c.args.alone c.args.code.now c.args.file.now) c.args.work.now c.begin-reading.result c.begin-reading.ensures.is c.in_default.field-0 _ c.in_default.is c.refusal_of.ensures _ (c.begin-reading.ensures.kept c.requires)
+returns-in_default c = unread-returned (input c.args.alone c.args.code.now c.args.file.now) c.args.work.now c.read-reading.result c.read-reading.ensures.value
+    c.in_default.field-0 _ c.in_default.is c.refusal_of.ensures _ c.read-reading.ensures.work_after c.requires
+
+pub list_judged-requires : goal.list_judged-requires
+list_judged-requires c = upper-ready (input c.args.alone c.args.code.now c.args.file.now) c.args.work.now c.read-reading.result c.read-reading.ensures.value
+    c.in-Fine.is _ c.read-reading.ensures.work_after c.if-contents-eq0.true _ c.summary_place-at.ensures
+    c.requires c.read-reading.auto.1.1.1.0
 
 pub shape_of-work-then-contents-eq0 : goal.shape_of-work-then-contents-eq0
-shape_of-work-then-contents-eq0 c = c.list_answer.ensures.below.same ∙ c.begin-reading.ensures.same
+shape_of-work-then-contents-eq0 c = upper_same 16384 c.args.work.now c.read-reading.new.1.1.1.0 c.list_judged.new.1.1.0 (omega (arith, c.requires)) c.list_judged.auto.1.1.0 c.read-reading.auto.1.1.1.0
 
 pub returns-then-contents-eq0 : goal.returns-then-contents-eq0
-returns-then-contents-eq0 c = let L = (c.begin-reading.ensures.list c.requires c.in-Fine.is c.if-contents-eq0.true) in
-    let at = c.list_end-at.ensures ∙ ap (λ (m : ℕ). 16384 + 4 * entries_allowed m) c.begin-reading.ensures.same in
-    list_returned (input c.args.alone c.args.code.now c.args.file.now) c.args.work.now c.begin-reading.result c.begin-reading.ensures.is c.in-Fine.is L c.requires (c.begin-reading.ensures.kept c.requires) c.list_answer.result _ c.list_answer.ensures.below
-    (c.list_answer.ensures.by_index L.offsets L.summary (subst (λ (i : ℕ). Judging c.args.code.now c.args.file.now L.offsets L.summary i c.begin-reading.result.contents.evidence.count c.begin-reading.result.contents.program c.begin-reading.new.1.1.1.0) (sym at) L.judging))
+returns-then-contents-eq0 c = list_returned (input c.args.alone c.args.code.now c.args.file.now) c.args.work.now c.read-reading.result c.read-reading.ensures.value
+    c.in-Fine.is _ c.read-reading.ensures.work_after c.if-contents-eq0.true _ c.summary_place-at.ensures
+    c.requires c.read-reading.auto.1.1.1.0 c.list_judged.result _ c.list_judged.ensures.result_value c.list_judged.ensures.upper_after
 
 pub slice_bounds-replay_answer-end-2 : goal.slice_bounds-replay_answer-end-2
-slice_bounds-replay_answer-end-2 c = sym (length-take-le 16384 c.begin-reading.new.1.1.1.0 (omega (arith, c.requires, c.begin-reading.ensures.same)))
+slice_bounds-replay_answer-end-2 c = sym (length-take-le 16384 c.read-reading.new.1.1.1.0 (omega (arith, c.requires)))
 
 pub returns : goal.returns
-returns c = run-returned (input c.args.alone c.args.code.now c.args.file.now) c.args.work.now c.begin-reading.result c.begin-reading.ensures.is c.in-Fine.is c.if-contents-eq0.false _ (c.begin-reading.ensures.kept c.requires) c.requires c.begin-reading.ensures.same c.replay_answer.result _ c.replay_answer.ensures.lower_after c.replay_answer.ensures.result_value
+returns c = run-returned (input c.args.alone c.args.code.now c.args.file.now) c.args.work.now c.read-reading.result c.read-reading.ensures.value
+    c.in-Fine.is c.if-contents-eq0.false _ c.read-reading.ensures.work_after c.requires c.read-reading.auto.1.1.1.0
+    c.replay_answer.result _ c.replay_answer.ensures.lower_after c.replay_answer.ensures.result_value

@@ -1,24 +1,19 @@
-use Rattle.list_judge.proofs.LowestLaws.{so_far_begin, so_far_next, so_far_fails, so_far_all}
-use mathlib.Core.Path.{sym, ap, ◌∙◌}
-use mathlib.Core.Bool.{not}
 use Prim.Native.Nat.{◌-◌}
+use mathlib.Core.Path.{sym, ap, ◌∙◌}
 use native.Mathlib.Omega.{arith}
+use Rattle.list_judge.proofs.LowestLaws.{so_far_begin, so_far_next, so_far_fails, so_far_all}
+use mathlib.Core.Bool.{not}
+use Rattle.list_judge.proofs.ListLaws.{start_by}
 use Rattle.list_judge.proofs.lowest_started.Goals as goal
 
 pub loop-k-init : goal.loop-k-init
-loop-k-init c = λ g list sum J. so_far_begin _ _
+loop-k-init c = so_far_begin _ _
 
-pub returns-then-start_unit : goal.returns-then-start_unit
-returns-then-start_unit c = λ g list sum J. so_far_fails (c.loop-k.invariant g list sum J) c.loop-k-test.true (sym (c.start_unit.ensures g list sum c.args.n J c.loop-k-test.true) ∙ ap not c.if-start_unit.true)
-
-pub overflow_step-k : goal.overflow_step-k
-overflow_step-k c = omega (arith, c.loop-k-test.true)
-
-pub loop-k-smaller : goal.loop-k-smaller
-loop-k-smaller c = omega (arith, c.loop-k-test.true)
+pub returns-then-entry_started : goal.returns-then-entry_started
+returns-then-entry_started c = so_far_fails c.loop-k.invariant c.loop-k-test.true (sym (start_by c.args.code.now c.args.file.now c.args.list.now c.args.sum.now c.args.n c.args.program c.requires c.loop-k.k c.loop-k-test.true _ c.entry_started.ensures) ∙ ap not c.if-entry_started.true)
 
 pub loop-k-preserved : goal.loop-k-preserved
-loop-k-preserved c = λ g list sum J. so_far_next (c.loop-k.invariant g list sum J) c.loop-k-test.true (sym (c.start_unit.ensures g list sum c.args.n J c.loop-k-test.true) ∙ ap not c.if-start_unit.false)
+loop-k-preserved c = so_far_next c.loop-k.invariant c.loop-k-test.true (sym (start_by c.args.code.now c.args.file.now c.args.list.now c.args.sum.now c.args.n c.args.program c.requires c.loop-k.k c.loop-k-test.true _ c.entry_started.ensures) ∙ ap not c.if-entry_started.false)
 
 pub returns : goal.returns
-returns c = λ g list sum J. so_far_all (c.loop-k.invariant g list sum J) (omega (arith, c.loop-k-test.false))
+returns c = so_far_all c.loop-k.invariant (omega (arith, c.loop-k-test.false))

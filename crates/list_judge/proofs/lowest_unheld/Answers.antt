@@ -1,32 +1,27 @@
-use Rattle.list_judge.proofs.UnitLaws.{going_begin, going_next}
-use Rattle.list_judge.proofs.LowestLaws.{so_far_fails, so_far_all}
-use Rattle.list_known.proofs.AreaLaws.{below_more}
-use borrow.Author.Tests.{not-true, not-false}
+use Prim.Native.Nat.{ℕ, ◌-◌}
 use mathlib.Core.Path.{sym, ◌∙◌}
-use Prim.Native.Nat.{◌-◌}
 use native.Mathlib.Omega.{arith}
+use lib.ListN.{length-replicate}
+use borrow.Author.Tests.{not-true, not-false}
+use Rattle.list_judge.proofs.LowestLaws.{so_far_begin, so_far_next, so_far_fails, so_far_all}
+use Rattle.list_judge.proofs.ShutLaws.{holds_none}
 use Rattle.list_judge.proofs.lowest_unheld.Goals as goal
 
 pub loop-k-init : goal.loop-k-init
-loop-k-init c = going_begin _ _ _ _ _ _ _ _
+loop-k-init c = (length-replicate {A = ℕ} 4096 255, so_far_begin _ _, holds_none c.args.code.now c.args.file.now c.args.list.now c.args.sum.now c.args.n c.args.program c.requires 4096)
 
-pub shape_of-work-then-not-target_unit : goal.shape_of-work-then-not-target_unit
-shape_of-work-then-not-target_unit c = (below_more c.loop-k.invariant.below c.target_unit.ensures.below).same
+pub slice_bounds-is_held-end : goal.slice_bounds-is_held-end
+slice_bounds-is_held-end c = sym c.loop-k.invariant.0
 
-pub returns-then-not-target_unit : goal.returns-then-not-target_unit
-returns-then-not-target_unit c = record { below = below_more c.loop-k.invariant.below c.target_unit.ensures.below; by_index = λ list sum J. let i = c.loop-k.invariant.judging list sum J in let r = c.target_unit.ensures.by_index list sum i.0 c.loop-k-test.true in (r.0, so_far_fails i.1 c.loop-k-test.true (sym r.1 ∙ not-true _ c.if-not-target_unit.true-raw)) }
-
-pub overflow_step-k : goal.overflow_step-k
-overflow_step-k c = omega (arith, c.loop-k-test.true)
+pub returns-then-not-is_held : goal.returns-then-not-is_held
+returns-then-not-is_held c = so_far_fails c.loop-k.invariant.1 c.loop-k-test.true (sym ((c.is_held.ensures.holds c.requires c.loop-k.invariant.2).1 c.loop-k-test.true) ∙ not-true _ c.if-not-is_held.true-raw)
 
 pub loop-k-smaller : goal.loop-k-smaller
 loop-k-smaller c = omega (arith, c.loop-k-test.true)
 
 pub loop-k-preserved : goal.loop-k-preserved
-loop-k-preserved c = going_next c.loop-k.invariant c.loop-k-test.true c.target_unit.ensures.below (λ list sum J. let r = c.target_unit.ensures.by_index list sum J c.loop-k-test.true in (r.0, sym r.1 ∙ not-false _ c.if-not-target_unit.false-raw))
-
-pub shape_of-work : goal.shape_of-work
-shape_of-work c = c.loop-k.invariant.below.same
+loop-k-preserved c = let w = c.is_held.ensures.holds c.requires c.loop-k.invariant.2 in
+    (c.is_held.ensures.held_len_unchanged ∙ c.loop-k.invariant.0, so_far_next c.loop-k.invariant.1 c.loop-k-test.true (sym (w.1 c.loop-k-test.true) ∙ not-false _ c.if-not-is_held.false-raw), w.0)
 
 pub returns : goal.returns
-returns c = record { below = c.loop-k.invariant.below; by_index = λ list sum J. let i = c.loop-k.invariant.judging list sum J in (i.0, so_far_all i.1 (omega (arith, c.loop-k-test.false))) }
+returns c = so_far_all c.loop-k.invariant.1 (omega (arith, c.loop-k-test.false))

@@ -35,4 +35,4 @@ returns c = let A = c.args in
     let F : Found f c.read_with-read.result.program = record { fine = sym (ap (λ (r : ProgramRead). r.answer) e) ∙ c.in-Fine.is; same = ap (λ (r : ProgramRead). r.program) e } in
     let m = registers_made F in
     let w = c.write.ensures in
-    record { value = w.0 ∙ sym (ap (answered_or 29 (length A.out.now)) m); out_after = w.1 ∙ sym (ap (left_in A.out.now) m) }
+    record { value = w.value ∙ sym (ap (answered_or 29 (length A.out.now)) m); out_after = w.out_after ∙ sym (ap (left_in A.out.now) m) }

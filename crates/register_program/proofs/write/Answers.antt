@@ -7,7 +7,7 @@ use Rattle.drawing.specs.Writing.{refused}
 use Rattle.drawing.proofs.PutLaws.{put_first}
 use Rattle.drawing.proofs.WriteLaws.{says_refused, says_short, says_written}
 use Rattle.register_machine.specs.Written.{written, written_targets}
-use Rattle.file_written.specs.Written.{program_bytes}
+use Rattle.register_program.specs.Form.{program_bytes}
 use Rattle.register_program.specs.Reading.{register_program_of}
 use Rattle.register_program.specs.Registers.{made_of}
 use Rattle.register_program.proofs.Found.{found_read}
@@ -15,28 +15,28 @@ use Rattle.register_program.proofs.Answers.{needed_bytes, made_over, made_many, 
 use Rattle.register_program.proofs.write.Goals as goal
 
 pub lowest_over-over-requires : goal.lowest_over-over-requires
-lowest_over-over-requires c = (c.requires, c.numbers_of-numbers.ensures.has)
+lowest_over-over-requires c = (c.requires, c.registers_of-has.ensures)
 
 pub returns-then-over-processes : goal.returns-then-over-processes
 returns-then-over-processes c = let A = c.args in
     let F = c.requires in
     let f = A.file.now in
     let p = A.program in
-    let h = c.numbers_of-numbers.ensures.has in
+    let h = c.registers_of-has.ensures in
     let o = c.lowest_over-over.ensures in
     let M = made_of (register_program_of f p) (targets_of f p) in
     let q = says_refused 29 A.out.now M 19 c.lowest_over-over.result (made_over F h (omega (arith, o, c.if-over-processes.true)) ∙ ap (refused 19) (sym o)) in
     record { value = c.answer.ensures ∙ q.0; out_after = q.1 }
 
 pub transitions_of-counted-requires : goal.transitions_of-counted-requires
-transitions_of-counted-requires c = (c.requires, c.numbers_of-numbers.ensures)
+transitions_of-counted-requires c = (c.requires, c.registers_of-has.ensures)
 
 pub returns-in_default : goal.returns-in_default
 returns-in_default c = let A = c.args in
     let F = c.requires in
     let f = A.file.now in
     let p = A.program in
-    let h = c.numbers_of-numbers.ensures.has in
+    let h = c.registers_of-has.ensures in
     let o = c.lowest_over-over.ensures in
     let M = made_of (register_program_of f p) (targets_of f p) in
     let r₀ = c.in_default.field-0 in
@@ -51,14 +51,14 @@ overflow_mul-targets c = let A = c.args in
     let F = c.requires in
     let f = A.file.now in
     let p = A.program in
-    let h = c.numbers_of-numbers.ensures.has in
+    let h = c.registers_of-has.ensures in
     let o = c.lowest_over-over.ensures in
     let M = made_of (register_program_of f p) (targets_of f p) in
     let t = c.in-Records.transitions in
     let W = made_written F h (omega (arith, o, c.if-over-processes.false)) t (sym c.transitions_of-counted.ensures ∙ c.in-Records.is) in
     let R = found_read F in
     let k = c.choices_of.result in
-    let few = targets_few p.targets.count k R.targets.2 (omega (arith, c.choices_of.ensures, product_most c.numbers_of-numbers.result.has)) in
+    let few = targets_few p.targets.count k R.targets.2 (omega (arith, c.choices_of.ensures, product_most c.registers_of-has.result)) in
     let N = needed_bytes F h t (p.targets.count * k) W.1 (ap (λ (x : ℕ). p.targets.count * x) c.choices_of.ensures) in
     let bytes = program_bytes (written (register_program_of f p)) (written_targets (register_program_of f p) (targets_of f p)) in
     omega (arith, few)
@@ -68,14 +68,14 @@ overflow_mul-needed c = let A = c.args in
     let F = c.requires in
     let f = A.file.now in
     let p = A.program in
-    let h = c.numbers_of-numbers.ensures.has in
+    let h = c.registers_of-has.ensures in
     let o = c.lowest_over-over.ensures in
     let M = made_of (register_program_of f p) (targets_of f p) in
     let t = c.in-Records.transitions in
     let W = made_written F h (omega (arith, o, c.if-over-processes.false)) t (sym c.transitions_of-counted.ensures ∙ c.in-Records.is) in
     let R = found_read F in
     let k = c.choices_of.result in
-    let few = targets_few p.targets.count k R.targets.2 (omega (arith, c.choices_of.ensures, product_most c.numbers_of-numbers.result.has)) in
+    let few = targets_few p.targets.count k R.targets.2 (omega (arith, c.choices_of.ensures, product_most c.registers_of-has.result)) in
     let N = needed_bytes F h t (p.targets.count * k) W.1 (ap (λ (x : ℕ). p.targets.count * x) c.choices_of.ensures) in
     let bytes = program_bytes (written (register_program_of f p)) (written_targets (register_program_of f p) (targets_of f p)) in
     omega (arith, few, W.2, R.shape.processes.1)
@@ -85,14 +85,14 @@ overflow_add-needed c = let A = c.args in
     let F = c.requires in
     let f = A.file.now in
     let p = A.program in
-    let h = c.numbers_of-numbers.ensures.has in
+    let h = c.registers_of-has.ensures in
     let o = c.lowest_over-over.ensures in
     let M = made_of (register_program_of f p) (targets_of f p) in
     let t = c.in-Records.transitions in
     let W = made_written F h (omega (arith, o, c.if-over-processes.false)) t (sym c.transitions_of-counted.ensures ∙ c.in-Records.is) in
     let R = found_read F in
     let k = c.choices_of.result in
-    let few = targets_few p.targets.count k R.targets.2 (omega (arith, c.choices_of.ensures, product_most c.numbers_of-numbers.result.has)) in
+    let few = targets_few p.targets.count k R.targets.2 (omega (arith, c.choices_of.ensures, product_most c.registers_of-has.result)) in
     let N = needed_bytes F h t (p.targets.count * k) W.1 (ap (λ (x : ℕ). p.targets.count * x) c.choices_of.ensures) in
     let bytes = program_bytes (written (register_program_of f p)) (written_targets (register_program_of f p) (targets_of f p)) in
     omega (arith, few, W.2, R.shape.processes.1)
@@ -102,14 +102,14 @@ overflow_mul-needed-2 c = let A = c.args in
     let F = c.requires in
     let f = A.file.now in
     let p = A.program in
-    let h = c.numbers_of-numbers.ensures.has in
+    let h = c.registers_of-has.ensures in
     let o = c.lowest_over-over.ensures in
     let M = made_of (register_program_of f p) (targets_of f p) in
     let t = c.in-Records.transitions in
     let W = made_written F h (omega (arith, o, c.if-over-processes.false)) t (sym c.transitions_of-counted.ensures ∙ c.in-Records.is) in
     let R = found_read F in
     let k = c.choices_of.result in
-    let few = targets_few p.targets.count k R.targets.2 (omega (arith, c.choices_of.ensures, product_most c.numbers_of-numbers.result.has)) in
+    let few = targets_few p.targets.count k R.targets.2 (omega (arith, c.choices_of.ensures, product_most c.registers_of-has.result)) in
     let N = needed_bytes F h t (p.targets.count * k) W.1 (ap (λ (x : ℕ). p.targets.count * x) c.choices_of.ensures) in
     let bytes = program_bytes (written (register_program_of f p)) (written_targets (register_program_of f p) (targets_of f p)) in
     omega (arith, few, W.2, R.shape.processes.1)
@@ -119,14 +119,14 @@ overflow_add-needed-2 c = let A = c.args in
     let F = c.requires in
     let f = A.file.now in
     let p = A.program in
-    let h = c.numbers_of-numbers.ensures.has in
+    let h = c.registers_of-has.ensures in
     let o = c.lowest_over-over.ensures in
     let M = made_of (register_program_of f p) (targets_of f p) in
     let t = c.in-Records.transitions in
     let W = made_written F h (omega (arith, o, c.if-over-processes.false)) t (sym c.transitions_of-counted.ensures ∙ c.in-Records.is) in
     let R = found_read F in
     let k = c.choices_of.result in
-    let few = targets_few p.targets.count k R.targets.2 (omega (arith, c.choices_of.ensures, product_most c.numbers_of-numbers.result.has)) in
+    let few = targets_few p.targets.count k R.targets.2 (omega (arith, c.choices_of.ensures, product_most c.registers_of-has.result)) in
     let N = needed_bytes F h t (p.targets.count * k) W.1 (ap (λ (x : ℕ). p.targets.count * x) c.choices_of.ensures) in
     let bytes = program_bytes (written (register_program_of f p)) (written_targets (register_program_of f p) (targets_of f p)) in
     omega (arith, few, W.2, R.shape.processes.1)
@@ -136,14 +136,14 @@ overflow_mul-needed-3 c = let A = c.args in
     let F = c.requires in
     let f = A.file.now in
     let p = A.program in
-    let h = c.numbers_of-numbers.ensures.has in
+    let h = c.registers_of-has.ensures in
     let o = c.lowest_over-over.ensures in
     let M = made_of (register_program_of f p) (targets_of f p) in
     let t = c.in-Records.transitions in
     let W = made_written F h (omega (arith, o, c.if-over-processes.false)) t (sym c.transitions_of-counted.ensures ∙ c.in-Records.is) in
     let R = found_read F in
     let k = c.choices_of.result in
-    let few = targets_few p.targets.count k R.targets.2 (omega (arith, c.choices_of.ensures, product_most c.numbers_of-numbers.result.has)) in
+    let few = targets_few p.targets.count k R.targets.2 (omega (arith, c.choices_of.ensures, product_most c.registers_of-has.result)) in
     let N = needed_bytes F h t (p.targets.count * k) W.1 (ap (λ (x : ℕ). p.targets.count * x) c.choices_of.ensures) in
     let bytes = program_bytes (written (register_program_of f p)) (written_targets (register_program_of f p) (targets_of f p)) in
     omega (arith, few, W.2, R.shape.processes.1)
@@ -153,14 +153,14 @@ overflow_add-needed-3 c = let A = c.args in
     let F = c.requires in
     let f = A.file.now in
     let p = A.program in
-    let h = c.numbers_of-numbers.ensures.has in
+    let h = c.registers_of-has.ensures in
     let o = c.lowest_over-over.ensures in
     let M = made_of (register_program_of f p) (targets_of f p) in
     let t = c.in-Records.transitions in
     let W = made_written F h (omega (arith, o, c.if-over-processes.false)) t (sym c.transitions_of-counted.ensures ∙ c.in-Records.is) in
     let R = found_read F in
     let k = c.choices_of.result in
-    let few = targets_few p.targets.count k R.targets.2 (omega (arith, c.choices_of.ensures, product_most c.numbers_of-numbers.result.has)) in
+    let few = targets_few p.targets.count k R.targets.2 (omega (arith, c.choices_of.ensures, product_most c.registers_of-has.result)) in
     let N = needed_bytes F h t (p.targets.count * k) W.1 (ap (λ (x : ℕ). p.targets.count * x) c.choices_of.ensures) in
     let bytes = program_bytes (written (register_program_of f p)) (written_targets (register_program_of f p) (targets_of f p)) in
     omega (arith, few, W.2, R.shape.processes.1)
@@ -170,14 +170,14 @@ returns-then-out-needed c = let A = c.args in
     let F = c.requires in
     let f = A.file.now in
     let p = A.program in
-    let h = c.numbers_of-numbers.ensures.has in
+    let h = c.registers_of-has.ensures in
     let o = c.lowest_over-over.ensures in
     let M = made_of (register_program_of f p) (targets_of f p) in
     let t = c.in-Records.transitions in
     let W = made_written F h (omega (arith, o, c.if-over-processes.false)) t (sym c.transitions_of-counted.ensures ∙ c.in-Records.is) in
     let R = found_read F in
     let k = c.choices_of.result in
-    let few = targets_few p.targets.count k R.targets.2 (omega (arith, c.choices_of.ensures, product_most c.numbers_of-numbers.result.has)) in
+    let few = targets_few p.targets.count k R.targets.2 (omega (arith, c.choices_of.ensures, product_most c.registers_of-has.result)) in
     let N = needed_bytes F h t (p.targets.count * k) W.1 (ap (λ (x : ℕ). p.targets.count * x) c.choices_of.ensures) in
     let bytes = program_bytes (written (register_program_of f p)) (written_targets (register_program_of f p) (targets_of f p)) in
     let q = says_short 29 A.out.now M bytes (7 + 3 * p.shape.processes + 8 * t + 5 * (p.targets.count * k)) W.0 N c.if-out-needed.true in
@@ -188,14 +188,14 @@ put_program-requires c = let A = c.args in
     let F = c.requires in
     let f = A.file.now in
     let p = A.program in
-    let h = c.numbers_of-numbers.ensures.has in
+    let h = c.registers_of-has.ensures in
     let o = c.lowest_over-over.ensures in
     let M = made_of (register_program_of f p) (targets_of f p) in
     let t = c.in-Records.transitions in
     let W = made_written F h (omega (arith, o, c.if-over-processes.false)) t (sym c.transitions_of-counted.ensures ∙ c.in-Records.is) in
     let R = found_read F in
     let k = c.choices_of.result in
-    let few = targets_few p.targets.count k R.targets.2 (omega (arith, c.choices_of.ensures, product_most c.numbers_of-numbers.result.has)) in
+    let few = targets_few p.targets.count k R.targets.2 (omega (arith, c.choices_of.ensures, product_most c.registers_of-has.result)) in
     let N = needed_bytes F h t (p.targets.count * k) W.1 (ap (λ (x : ℕ). p.targets.count * x) c.choices_of.ensures) in
     let bytes = program_bytes (written (register_program_of f p)) (written_targets (register_program_of f p) (targets_of f p)) in
     (F, h, omega (arith, N, c.if-out-needed.false))
@@ -205,14 +205,14 @@ returns c = let A = c.args in
     let F = c.requires in
     let f = A.file.now in
     let p = A.program in
-    let h = c.numbers_of-numbers.ensures.has in
+    let h = c.registers_of-has.ensures in
     let o = c.lowest_over-over.ensures in
     let M = made_of (register_program_of f p) (targets_of f p) in
     let t = c.in-Records.transitions in
     let W = made_written F h (omega (arith, o, c.if-over-processes.false)) t (sym c.transitions_of-counted.ensures ∙ c.in-Records.is) in
     let R = found_read F in
     let k = c.choices_of.result in
-    let few = targets_few p.targets.count k R.targets.2 (omega (arith, c.choices_of.ensures, product_most c.numbers_of-numbers.result.has)) in
+    let few = targets_few p.targets.count k R.targets.2 (omega (arith, c.choices_of.ensures, product_most c.registers_of-has.result)) in
     let N = needed_bytes F h t (p.targets.count * k) W.1 (ap (λ (x : ℕ). p.targets.count * x) c.choices_of.ensures) in
     let bytes = program_bytes (written (register_program_of f p)) (written_targets (register_program_of f p) (targets_of f p)) in
     let q = says_written 29 A.out.now M bytes _ (7 + 3 * p.shape.processes + 8 * t + 5 * (p.targets.count * k)) W.0 N c.if-out-needed.false (put_first c.put_program.ensures) in

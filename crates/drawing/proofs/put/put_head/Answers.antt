@@ -8,14 +8,20 @@ use Prim.Native.Nat.{ℕ}
 use native.Mathlib.Omega.{arith}
 use Rattle.drawing.proofs.put.put_head.Goals as goal
 
-pub put_number-b-requires : goal.put_number-b-requires
-put_number-b-requires c = omega (arith, c.requires.1, head_length c.args.k, ap (λ (m : ℕ). length (decimal m)) (add-one c.args.k), c.put-a.ensures.after, c.put-a.auto.0, c.put_number-b.ensures.after, c.put_number-b.auto.0)
+pub put-a-requires : goal.put-a-requires
+put-a-requires c = omega (arith, c.requires.1, head_length c.args.k, ap (λ (m : ℕ). length (decimal m)) (add-one c.args.k))
 
-pub overflow_add-k : goal.overflow_add-k
-overflow_add-k c = (omega (arith, c.requires.0), omega (arith, c.requires.1, head_length c.args.k, ap (λ (m : ℕ). length (decimal m)) (add-one c.args.k), c.put-a.ensures.after, c.put-a.auto.0, c.put_number-b.ensures.after, c.put_number-b.auto.0, c.put-c.ensures.after, c.put-c.auto.0))
+pub put_number-b-requires : goal.put_number-b-requires
+put_number-b-requires c = (omega (arith, c.requires.0), omega (arith, c.requires.1, head_length c.args.k, ap (λ (m : ℕ). length (decimal m)) (add-one c.args.k), c.put-a.ensures.after, c.put-a.auto.out))
+
+pub put-c-requires : goal.put-c-requires
+put-c-requires c = omega (arith, c.requires.1, head_length c.args.k, ap (λ (m : ℕ). length (decimal m)) (add-one c.args.k), c.put-a.ensures.after, c.put-a.auto.out, c.put_number-b.ensures.after, c.put_number-b.auto.out)
+
+pub put_number-d-requires : goal.put_number-d-requires
+put_number-d-requires c = (omega (arith, c.requires.0), omega (arith, c.requires.1, head_length c.args.k, ap (λ (m : ℕ). length (decimal m)) (add-one c.args.k), c.put-a.ensures.after, c.put-a.auto.out, c.put_number-b.ensures.after, c.put_number-b.auto.out, c.put-c.ensures.after, c.put-c.auto.out))
 
 pub put-requires : goal.put-requires
-put-requires c = omega (arith, c.requires.1, head_length c.args.k, ap (λ (m : ℕ). length (decimal m)) (add-one c.args.k), c.put-a.ensures.after, c.put-a.auto.0, c.put_number-b.ensures.after, c.put_number-b.auto.0, c.put-c.ensures.after, c.put-c.auto.0, c.put_number-d.ensures.after, c.put_number-d.auto.0)
+put-requires c = omega (arith, c.requires.1, head_length c.args.k, ap (λ (m : ℕ). length (decimal m)) (add-one c.args.k), c.put-a.ensures.after, c.put-a.auto.out, c.put_number-b.ensures.after, c.put_number-b.auto.out, c.put-c.ensures.after, c.put-c.auto.out, c.put_number-d.ensures.after, c.put_number-d.auto.out)
 
 pub returns : goal.returns
 returns c = put_as (then_put (then_put (then_put (then_put c.put-a.ensures c.put_number-b.ensures) c.put-c.ensures) c.put_number-d.ensures) c.put.ensures) (head_parts c.args.k)

@@ -9,7 +9,7 @@ put-next-requires c = let h = rw c.in-Take.is at c.requires.1 in omega (arith, h
 
 pub put_number-requires : goal.put_number-requires
 unfolding letters
-put_number-requires c = let h = rw c.in-Take.is at c.requires.1 in let g = rw c.in-Take.is at c.requires.0 in (omega (arith, g), omega (arith, h, c.put-next.ensures.after, c.put-next.auto.0))
+put_number-requires c = let h = rw c.in-Take.is at c.requires.1 in let g = rw c.in-Take.is at c.requires.0 in (omega (arith, g), omega (arith, h, c.put-next.ensures.after, c.put-next.auto.out))
 
 pub digit-requires : goal.digit-requires
 digit-requires c = let g = rw c.in-Serialise.is at c.requires.0 in omega (arith, g.0)

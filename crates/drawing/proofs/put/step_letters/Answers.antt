@@ -10,10 +10,10 @@ pub put_letters-requires : goal.put_letters-requires
 put_letters-requires c = (is_in_range c.args.step (sym c.in_range.ensures ∙ c.if-in_range.true), omega (arith, c.letters_length.ensures, c.if-letters_length-out.true))
 
 pub returns-then-letters_length-out : goal.returns-then-letters_length-out
-returns-then-letters_length-out c = says_letters c.args.out.now c.args.step (sym c.in_range.ensures ∙ c.if-in_range.true) c.put_letters.ensures
+returns-then-letters_length-out c = let q = says_letters c.args.out.now c.args.step (sym c.in_range.ensures ∙ c.if-in_range.true) c.put_letters.ensures in record { value = q.0; out_after = q.1 }
 
 pub returns-else-letters_length-out : goal.returns-else-letters_length-out
-returns-else-letters_length-out c = says_short c.args.out.now c.args.step (sym c.in_range.ensures ∙ c.if-in_range.true) (omega (arith, c.letters_length.ensures, c.if-letters_length-out.false))
+returns-else-letters_length-out c = let q = says_short c.args.out.now c.args.step (sym c.in_range.ensures ∙ c.if-in_range.true) (omega (arith, c.letters_length.ensures, c.if-letters_length-out.false)) in record { value = q.0; out_after = q.1 }
 
 pub returns-else-in_range : goal.returns-else-in_range
-returns-else-in_range c = says_none c.args.out.now c.args.step (sym c.in_range.ensures ∙ c.if-in_range.false)
+returns-else-in_range c = let q = says_none c.args.out.now c.args.step (sym c.in_range.ensures ∙ c.if-in_range.false) in record { value = q.0; out_after = q.1 }

@@ -6,9 +6,6 @@ use Prim.Native.Nat.{◌-◌}
 use native.Mathlib.Omega.{arith}
 use Rattle.drawing.proofs.read.edges_size.Goals as goal
 
-record_size_requires : tie.Need-record-size-requires invariant_loop decreases_loop
-record_size_requires c κs = tt
-
 pub loop-k-init : goal.loop-k-init
 loop-k-init c = size_begin _ _ _ c.requires
 

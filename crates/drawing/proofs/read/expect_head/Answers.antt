@@ -10,7 +10,7 @@ pub put_head-n-requires : goal.put_head-n-requires
 put_head-n-requires c = (c.requires, omega (arith, head_short c.args.k c.requires))
 
 pub slice_bounds-expect-end : goal.slice_bounds-expect-end
-slice_bounds-expect-end c = sym (length-take-le _ _ (omega (arith, c.put_head-n.ensures.after, c.put_head-n.ensures.room, c.put_head-n.auto.0)))
+slice_bounds-expect-end c = sym (length-take-le _ _ (omega (arith, c.put_head-n.ensures.after, c.put_head-n.ensures.room, c.put_head-n.auto.out)))
 
 pub returns : goal.returns
 returns c = c.expect.ensures ∙ ap (expect_at c.args.text.now c.args.at) (put_taken c.put_head-n.ensures)

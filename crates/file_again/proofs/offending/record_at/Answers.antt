@@ -1,13 +1,11 @@
-use Prim.Native.Nat.{◌-◌}
 use mathlib.Core.Path.{ap, ◌∙◌}
-use lib.ListN.{length}
 use native.Mathlib.Omega.{arith}
 use Rattle.file_again.specs.Offending.{body_of}
-use Rattle.file_again.proofs.OffendingLaws.{end_empty, record_past, record_cut, record_whole, body_most}
+use Rattle.file_again.proofs.OffendingLaws.{record_past, record_cut, record_whole, body_most}
 use Rattle.file_again.proofs.offending.record_at.Goals as goal
 
 pub returns-then-file-at : goal.returns-then-file-at
-returns-then-file-at c = let a = c.args in end_empty a.file.now (length a.file.now - length a.file.now) ∙ record_past a.file.now a.at c.if-file-at.true
+returns-then-file-at c = record_past c.args.file.now c.args.at c.if-file-at.true
 
 pub overflow_add-size : goal.overflow_add-size
 overflow_add-size c = omega (arith, c.body_of-size.ensures, body_most c.byte_at.result)

@@ -5,23 +5,28 @@ use native.Mathlib.Omega.{arith}
 use lib.ListN.{length}
 use lib.Dec.{leb}
 use Rattle.machine_pws.specs.Machine.{Configuration}
+use Rattle.file_records.specs.declared.program.Shape.{Shape}
+use Rattle.file_records.specs.declared.program.Checked.{Checked}
+use Rattle.file_reading.specs.declared.list.EntryEnd.{EntryEnd}
+use Rattle.file_reading.specs.declared.list.EntryEnd.TheVariants.{Next}
 use Rattle.file_records.specs.declared.program.Checked.TheVariants.{Fine, Refused}
 use Rattle.file_records.specs.declared.program.Counted.TheVariants.{Records, Stopped}
 use Rattle.file_records.specs.Records.{checked, entry_number}
 use Rattle.file_records.specs.ProgramPart.{refusal_of}
 use Rattle.file_contents.specs.EvidencePart.{whole, entry_read, EntriesRead, stop_at, entries_from, wrote_from}
 use Rattle.file_contents.specs.Tally.{count_of}
-use Rattle.file_reading.specs.Tally.{end_refusal}
+use Rattle.file_reading.specs.Tally.{end_of, end_refusal}
 use Rattle.base.proofs.ByteLaws.{cut_fits}
 use Rattle.file_records.proofs.RecordLaws.{entry_fine}
 use Rattle.file_reading.proofs.ListLaws.{entry_past, end_whole, end_bad, list_ends, head-stops, entry_refused, wrote_length, listed_begin, listed_next}
 use Rattle.file_reading.proofs.list.entries_from.Goals as goal
 
-head : (c : tie.After-enum-told invariant_loop decreases_loop) → checked (entry_number c.before.before.before.before.before.before.before.args.shape c.before.before.before.before.before.before.before.args.states c.before.before.before.before.before.before.before.args.file.now c.before.before.before.before.loop.k (leb c.before.before.before.before.before.before.before.args.allowed c.before.before.before.before.loop.n)) c.before.before.before.before.loop.k ≡ Fine
-head c = sym c.before.before.check-entry.ensures ∙ c.enum_told.given.1
+-- the 10 is fine, or its refusal
+head : {x y z : Checked} → x ≡ y → x ≡ z → y ≡ z
+head e d = sym e ∙ d
 
-body : (c : tie.After-end invariant_loop decreases_loop) → (e : Configuration) × (entry_read c.before.before.before.before.before.before.before.before.before.before.args.shape c.before.before.before.before.before.before.before.before.before.before.args.file.now c.before.before.before.before.before.before.before.loop.k ≡ whole e c.end.given.0.0)
-body c = end_whole (entry_read c.before.before.before.before.before.before.before.before.before.before.args.shape c.before.before.before.before.before.before.before.before.before.before.args.file.now c.before.before.before.before.before.before.before.loop.k) c.end.given.0.0 (sym c.before.before.entry-from.ensures ∙ c.end.given.1)
+body : (s : Shape) (f : List ℕ) (k n : ℕ) {x : EntryEnd} → x ≡ end_of (entry_read s f k) → x ≡ Next n → (e : Configuration) × (entry_read s f k ≡ whole e n)
+body s f k n e d = end_whole (entry_read s f k) n (sym e ∙ d)
 
 same : (list₀ : List ℕ) {list : List ℕ} (os : List ℕ) → list ≡ wrote_from 0 os list₀ → length list ≡ length list₀
 same list₀ os e = ap length e ∙ wrote_length 0 os list₀
@@ -42,7 +47,7 @@ returns-in_default c = let a = c.args in
     record { value = ap Stopped (c.refusal_of.ensures ∙ ap refusal_of c.in_default.is) ∙ sym (ap count_of e); list_after = L.wrote ∙ sym (ap (λ (x : EntriesRead). wrote_from 0 x.offsets a.list.now) e) }
 
 pub entry_from-end-requires : goal.entry_from-end-requires
-entry_from-end-requires c = let g = cut_fits c.args.file.now c.loop-k.k 8 (entry_fine c.args.file.now c.loop-k.k c.args.shape c.args.states (leb c.args.allowed c.loop-k.n) (head c)).whole in
+entry_from-end-requires c = let g = cut_fits c.args.file.now c.loop-k.k 8 (entry_fine c.args.file.now c.loop-k.k c.args.shape c.args.states (leb c.args.allowed c.loop-k.n) (head c.check_entry-head.ensures c.in-Fine.is)).whole in
     (omega (arith, g), c.requires.0, c.requires.1)
 
 pub shape_of-list-in_default-end : goal.shape_of-list-in_default-end
@@ -54,17 +59,17 @@ returns-in_default-end c = let a = c.args in
     let r = c.in_default-end.field-0 in
     let d = end_bad (entry_read a.shape a.file.now c.loop-k.k) r (sym c.entry_from-end.ensures ∙ c.in_default-end.is) in
     let e : entries_from a.allowed a.shape a.states a.file.now a.at [] [] ≡ stop_at L.offsets L.entries r =
-    sym L.reads ∙ entry_refused a.shape a.states a.file.now c.loop-k.k L.offsets L.entries a.allowed c.loop-k.n c.loop-k-test.true (head c.before.before.before.before) r d in
+    sym L.reads ∙ entry_refused a.shape a.states a.file.now c.loop-k.k L.offsets L.entries a.allowed c.loop-k.n c.loop-k-test.true (head c.check_entry-head.ensures c.in-Fine.is) r d in
     record { value = ap Stopped (c.end_refusal.ensures ∙ ap end_refusal c.in_default-end.is) ∙ sym (ap count_of e); list_after = L.wrote ∙ sym (ap (λ (x : EntriesRead). wrote_from 0 x.offsets a.list.now) e) }
 
 pub overflow_add-n : goal.overflow_add-n
 overflow_add-n c = omega (arith, c.loop-k.invariant.most, c.requires.2)
 
 pub loop-k-smaller : goal.loop-k-smaller
-loop-k-smaller c = omega (arith, c.loop-k-test.true, entry_past c.args.shape c.args.file.now c.loop-k.k (body c.before.before.before.before.before.before).0 c.in-Next.next (body c.before.before.before.before.before.before).1)
+loop-k-smaller c = omega (arith, c.loop-k-test.true, entry_past c.args.shape c.args.file.now c.loop-k.k (body c.args.shape c.args.file.now c.loop-k.k c.in-Next.next c.entry_from-end.ensures c.in-Next.is).0 c.in-Next.next (body c.args.shape c.args.file.now c.loop-k.k c.in-Next.next c.entry_from-end.ensures c.in-Next.is).1)
 
 pub loop-k-preserved : goal.loop-k-preserved
-loop-k-preserved c = listed_next c.loop-k.invariant (body c.before.before.before.before.before.before).0 c.loop-k-test.true (head c.before.before.before.before.before.before.before.before.before) (body c.before.before.before.before.before.before).1 (omega (arith, c.word_place.ensures, c.loop-k.invariant.most, c.requires.2)) c.store_number.ensures
+loop-k-preserved c = listed_next c.loop-k.invariant (body c.args.shape c.args.file.now c.loop-k.k c.in-Next.next c.entry_from-end.ensures c.in-Next.is).0 c.loop-k-test.true (head c.check_entry-head.ensures c.in-Fine.is) (body c.args.shape c.args.file.now c.loop-k.k c.in-Next.next c.entry_from-end.ensures c.in-Next.is).1 (omega (arith, c.word_place.ensures, c.loop-k.invariant.most, c.requires.2)) c.store_number.ensures
 
 pub shape_of-list : goal.shape_of-list
 shape_of-list c = same c.args.list.now c.loop-k.invariant.offsets c.loop-k.invariant.wrote

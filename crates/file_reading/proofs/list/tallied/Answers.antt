@@ -1,4 +1,4 @@
-use mathlib.Core.Bool.{true, false}
+use mathlib.Core.Bool.{false}
 use lib.ListN.{get_or}
 use Prim.Native.Nat.{◌≤◌}
 use Rattle.file_records.specs.Records.{is_kind}

@@ -1,38 +1,39 @@
 use Prim.Native.Nat.{ℕ, ◌-◌}
-use mathlib.Core.Path.{◌≡◌, refl, ap, subst, ◌∙◌}
+use mathlib.Core.Path.{◌≡◌, sym, ap, ◌∙◌}
 use mathlib.Core.Logic.{⊎_elim}
 use native.Mathlib.Omega.{arith}
 use lib.ListN.{length, length-replicate, replicate}
-use Rattle.run_replay.specs.Loop.{stopped_by}
-use Rattle.pso_replay.specs.Loop.{replay_in}
-use Rattle.pso_replay.specs.Units.{Replayed}
+use Rattle.pso_layout.specs.Layout.{pso_move_of}
+use Rattle.pso_step.specs.Answering.{answer_in}
+use Rattle.pso_replay.specs.Loop.{run_from, replay_in}
+use Rattle.pso_replay.proofs.LoopLaws.{replaying_begin, replaying-done, replaying-stopped, replaying-next}
 use Rattle.pso_replay.proofs.Replaying.{replay_right}
 use borrow.Author.Rules.{rules}
 use Rattle.pso_replay.proofs.run.replay_steps.Goals as goal
 
-kept : (c : tie.After-slice-known3 invariant_loop decreases_loop) → length c.before.before.before.before.if1.lower ≡ length c.before.before.before.before.before.before.before.before.before.before.args.lower.now
-kept c =
-    ⊎_elim (λ w. ap length w.2) (λ w. ap length w.8 ∙ w.2.ensures.0) c.before.before.before.before.if1.branch
-    ∙ c.before.before.before.before.before.loop.invariant.1
+kept : (c : tie.After-slice-known3 invariant_loop decreases_loop) → length c.before.before.clear.new.0 ≡ length c.before.before.before.before.before.before.before.before.before.before.before.before.before.before.args.lower.now
+kept c = ap length c.before.before.clear.ensures ∙ length-replicate _ _ ∙ c.before.before.before.before.before.loop.invariant.same
 
 four : (c : tie.Start invariant_loop decreases_loop) → length c.args.program.initial ≡ 4
 four c = search rules
 
 said : (c : tie.After-slice-known3 invariant_loop decreases_loop)
-    → (let a = c.before.before.before.before.before.before.before.before.before.before.args in
-    c.before.before.before.before.if1.verdict ≡ replay_in a.code.now a.file.now a.program a.memory a.at a.count a.lower.now)
+    → c.before.before.before.before.if1.verdict ≡ replay_in c.before.before.before.before.before.before.before.before.before.before.before.before.before.before.args.code.now c.before.before.before.before.before.before.before.before.before.before.before.before.before.before.args.file.now c.before.before.before.before.before.before.before.before.before.before.before.before.before.before.args.program c.before.before.before.before.before.before.before.before.before.before.before.before.before.before.args.memory c.before.before.before.before.before.before.before.before.before.before.before.before.before.before.args.at c.before.before.before.before.before.before.before.before.before.before.before.before.before.before.args.count c.before.before.before.before.before.before.before.before.before.before.before.before.before.before.args.lower.now
 said c =
-    let a = c.before.before.before.before.before.before.before.before.before.before.args in
-    let r = replay_in a.code.now a.file.now a.program a.memory a.at a.count a.lower.now in
-    let l = c.before.before.before.before.before.loop in
-    let R = l.invariant.0 r (c.before.before.before.before.before.before.begin-run.ensures a.code.now a.file.now a.lower.now a.count) in
+    let a = c.before.before.before.before.before.before.before.before.before.before.before.before.before.before.args in
+    let g = a.code.now in
+    let f = a.file.now in
+    let s = a.program.shape in
+    let transitions = a.program.transitions in
+    let I = c.before.before.before.before.before.loop.invariant in
     ⊎_elim
-    (λ w. let e : l.i ≡ a.count = omega (arith, w.0.taken, R.most) in w.3 ∙ w.1.ensures a.file.now l.lower r (subst (λ (i : ℕ). Replayed a.code.now a.file.now a.program a.count r i l.replay l.lower) e R))
-    (λ w. w.9 ∙ w.7.ensures ∙ ap (stopped_by l.i) w.6.given.1 ∙ (w.2.ensures.1 a.count l.i r R (omega (arith, w.0.left))).1 w.6.given.0.0 w.6.given.1)
+    (λ w. w.3 ∙ w.2.ensures ∙ replaying-done I w.0.taken)
+    (λ w. w.8 ∙ w.7.ensures ∙ replaying-stopped I w.4.result w.6.given.0.0 w.0.left (w.4.ensures ∙ ap (answer_in c.before.before.before.before.before.loop.run c.before.before.before.before.before.loop.lower s) (w.2.ensures ∙ ap (pso_move_of g transitions) w.1.ensures)) w.6.given.1)
     c.before.before.before.before.if1.branch
+    ∙ (λ i. run_from g f s transitions a.program.targets a.count 0 a.at (c.before.before.before.before.before.before.first_run.ensures i) a.lower.now a.count)
 
 pub loop-i-init : goal.loop-i-init
-loop-i-init c = (λ said R. R, refl)
+loop-i-init c = replaying_begin _ _ _ _ _ _ _ _ _
 
 pub enum_told-1 : goal.enum_told-1
 enum_told-1 c = c.in-Permitted.in-Permitted-own.keys1
@@ -47,15 +48,13 @@ pub loop-i-smaller : goal.loop-i-smaller
 loop-i-smaller c = omega (arith, c.if-count-i.false)
 
 pub loop-i-preserved : goal.loop-i-preserved
-loop-i-preserved c = let w = c.step_unit-stepped.ensures in
-    let l = c.loop-i in (
-      λ said R. (w.1 c.args.count l.i said (l.invariant.0 said R) (omega (arith, c.if-count-i.false))).0 c.in-Permitted.is,
-      w.0 ∙ l.invariant.1,
-    )
+loop-i-preserved c = let g = c.args.code.now in
+    replaying-next c.loop-i.invariant c.pso_move-step.result c.if-count-i.false
+    (c.pso_move-step.ensures ∙ ap (pso_move_of g c.args.program.transitions) c.step_at.ensures)
+    (sym c.step_answer-answer.ensures ∙ c.enum_told-1.given.1) c.next_step-k.ensures c.run_after-next.ensures c.store.ensures
 
 pub shape_of-lower : goal.shape_of-lower
-shape_of-lower c = ap length c.clear.ensures ∙ length-replicate _ _ ∙ kept c
+shape_of-lower c = kept c
 
 pub returns : goal.returns
-returns c = let s = c.before.before.before.before.before.before.before.before.before.before in
-    let a = s.args in record { value = said c; lower_after = c.clear.ensures ∙ ap (λ (k : ℕ). replicate k 0) (kept c); value_2 = (λ R few room. said c ∙ replay_right a.code.now a.file.now a.program R (four s) a.memory a.at a.count few a.lower.now room) }
+returns c = let a = c.args in record { value = said c; lower_after = c.clear.ensures ∙ ap (λ (k : ℕ). replicate k 0) c.loop-i.invariant.same; value_2 = (λ R few room. said c ∙ replay_right a.code.now a.file.now a.program R (four c.before.before.before.before.before.before.before.before.before.before.before.before.before.before) a.memory a.at a.count few a.lower.now room) }

@@ -1,17 +1,53 @@
+use Prim.Native.Nat.{ℕ, ◌-◌}
+use mathlib.Core.Path.{◌≡◌, ap, ap₂, ◌∙◌}
+use mathlib.Core.Bool.{Bool, false, ◌&&◌, not}
 use native.Mathlib.Omega.{arith}
-use Rattle.register_program.specs.Reading.{register_program_of}
-use Rattle.register_program.proofs.CountLaws.{said_over, said_count}
+use lib.ListN.{length, get_or}
+use lib.Dec.{eqb}
+use Rattle.register_machine.specs.Written.{states_of}
+use Rattle.register_program.proofs.Found.{found_read}
+use Rattle.register_program.proofs.HasLaws.{transitions_at, expand}
+use Rattle.register_program.proofs.CountLaws.{states_most, counting_begin, expansion, counting-step, counting-over, counting_end, said_over, said_count}
 use Rattle.register_program.proofs.count.transitions_of.Goals as goal
 
-pub source_of-requires : goal.source_of-requires
-source_of-requires c = (c.requires.0, c.requires.1.has)
+pub loop-i-init : goal.loop-i-init
+loop-i-init c = counting_begin _ _ _ _
+
+pub overflow_add-total : goal.overflow_add-total
+overflow_add-total c = omega (arith, c.loop-i.invariant.few, c.expansions-total.ensures, states_most (c.has_at.result && not (eqb c.field-in-loop-i.result 8)) (states_of (eqb c.field-in-loop-i.result 6) 1), states_most (eqb c.field-in-loop-i.result 6) 1)
 
 pub returns-then-total-gt256 : goal.returns-then-total-gt256
-returns-then-total-gt256 c = let a = c.args in
-    let N = c.requires.1 in
-    said_over (register_program_of a.file.now a.program) c.source_of.result (omega (arith, N.transitions, c.if-total-gt256.true)) c.source_of.ensures
+returns-then-total-gt256 c = let f = c.args.file.now in
+    let C = c.loop-i.invariant in
+    let l = c.loop-i-test.true in
+    let k = c.loop-i.k in
+    let i = c.loop-i.i in
+    let a = c.args in
+    let x = c.expansions-total.result in
+    let e : x ≡ length (expand a.has (transitions_at f a.program.transitions.at i)) =
+    c.expansions-total.ensures ∙ ap₂ (λ (b : Bool) (o : ℕ). states_of (b && not (eqb o 8)) (states_of (eqb o 6) 1)) (c.has_at.ensures ∙ ap (λ (q : ℕ). get_or a.has q false) (c.wide.ensures ∙ c.field.ensures)) c.field-in-loop-i.ensures
+    ∙ expansion f a.has a.program.transitions.at i k C.place in
+    let w = counting-over C l x e c.if-total-gt256.true in
+    said_over c.requires.0 c.requires.1 i w.0 w.1
+
+pub overflow_add-k : goal.overflow_add-k
+overflow_add-k c = let C = c.loop-i.invariant in
+    let R = found_read c.requires.0 in
+    omega (arith, R.transitions.0, R.transitions.1, C.place, c.loop-i-test.true)
+
+pub loop-i-preserved : goal.loop-i-preserved
+loop-i-preserved c = let f = c.args.file.now in
+    let C = c.loop-i.invariant in
+    let l = c.loop-i-test.true in
+    let k = c.loop-i.k in
+    let i = c.loop-i.i in
+    let a = c.args in
+    let x = c.expansions-total.result in
+    let e : x ≡ length (expand a.has (transitions_at f a.program.transitions.at i)) =
+    c.expansions-total.ensures ∙ ap₂ (λ (b : Bool) (o : ℕ). states_of (b && not (eqb o 8)) (states_of (eqb o 6) 1)) (c.has_at.ensures ∙ ap (λ (q : ℕ). get_or a.has q false) (c.wide.ensures ∙ c.field.ensures)) c.field-in-loop-i.ensures
+    ∙ expansion f a.has a.program.transitions.at i k C.place in
+    counting-step C l x e c.if-total-gt256.false
 
 pub returns : goal.returns
-returns c = let a = c.args in
-    let N = c.requires.1 in
-    said_count (register_program_of a.file.now a.program) a.numbers.transitions (omega (arith, c.if-total-gt256.false)) N.transitions
+returns c = let C = c.loop-i.invariant in
+    said_count c.requires.0 c.requires.1 c.loop-i.total C.few (counting_end C c.loop-i-test.false)

@@ -9,17 +9,9 @@ use Rattle.register_program.proofs.TargetLaws.{low_set, next, next_set, chosen_l
 use Prim.Native.Nat.{ℕ, ◌+◌, ◌-◌, ◌<◌}
 use Rattle.register_program.proofs.put.+put_choices.Goals as goal
 
-abbrev put_choices_at : ℕ → In 1 put-choices-kinds.ps
-put_choices_at t =
-    and 1 put-choices-kinds.ps (is 1 put-choices-kinds.ps μ_put_choices t) put-choices.Pre
-
-abbrev put_choices_below : ℕ → In 1 put-choices-kinds.ps
-put_choices_below t =
-    and 1 put-choices-kinds.ps (falls 1 put-choices-kinds.ps ◌<◌ μ_put_choices t) put-choices.Pre
-
 pub put_target-requires : goal.put_target-requires
 put_target-requires t c = let A = c.args in
-    let P = c.requires.1 in
+    let P = c.requires in
     let e = chosen_last A.has A.target A.registers A.p c.if-p-ge4.true in
     (P.0, P.1, omega (arith, P.3, ap length e, chosen_five A.has A.target A.registers A.p))
 
@@ -34,11 +26,11 @@ with-requires t c = omega (arith, c.if-p-ge4.false)
 
 pub put_choices-a-requires : goal.put_choices-a-requires
 put_choices-a-requires t c = let A = c.args in
-    let P = c.requires.1 in
+    let P = c.requires in
     let L : length A.registers ≡ 4 = search (rules) in
     let nx = next A.has A.target A.registers A.p in
     let l : A.p < 4 = omega (arith, c.if-p-ge4.false) in
-    (omega (arith, c.requires.0), (P.0, low_set A.registers A.p 0 (omega (arith, L, l)) (omega arith) P.1 c.with.result c.with.ensures, omega arith, omega (arith, P.3, chosen_least A.has A.target A.registers A.p l, ap length (next_set A.has A.target A.registers A.p 0 (omega (arith, L, l)) c.with.result c.with.ensures))))
+    (omega (arith, l), (P.0, low_set A.registers A.p 0 (omega (arith, L, l)) (omega arith) P.1 c.with.result c.with.ensures, omega arith, omega (arith, P.3, chosen_least A.has A.target A.registers A.p l, ap length (next_set A.has A.target A.registers A.p 0 (omega (arith, L, l)) c.with.result c.with.ensures))))
 
 pub overflow_add-p-then-has_at : goal.overflow_add-p-then-has_at
 overflow_add-p-then-has_at t c = omega (arith, c.if-p-ge4.false)
@@ -48,13 +40,13 @@ with-requires-then-has_at t c = omega (arith, c.if-p-ge4.false)
 
 pub put_choices-b-requires : goal.put_choices-b-requires
 put_choices-b-requires t c = let A = c.args in
-    let P = c.requires.1 in
+    let P = c.requires in
     let L : length A.registers ≡ 4 = search (rules) in
     let nx = next A.has A.target A.registers A.p in
     let l : A.p < 4 = omega (arith, c.if-p-ge4.false) in
     let E = chosen_four A.has A.target A.registers A.p l (sym c.has_at.ensures ∙ c.if-has_at.true) in
     let q₁ = room_next (nx 1 ++ (nx 2 ++ nx 3)) (put_as c.put_choices-a.ensures (next_set A.has A.target A.registers A.p 0 (omega (arith, L, l)) c.with.result c.with.ensures)) P.3 E in
-    (omega (arith, c.requires.0), (P.0, low_set A.registers A.p 1 (omega (arith, L, l)) (omega arith) P.1 c.with-then-has_at.result c.with-then-has_at.ensures, omega arith, omega (arith, q₁, length-append (nx 1) (nx 2 ++ nx 3), ap length (next_set A.has A.target A.registers A.p 1 (omega (arith, L, l)) c.with-then-has_at.result c.with-then-has_at.ensures))))
+    (omega (arith, l), (P.0, low_set A.registers A.p 1 (omega (arith, L, l)) (omega arith) P.1 c.with-then-has_at.result c.with-then-has_at.ensures, omega arith, omega (arith, q₁, length-append (nx 1) (nx 2 ++ nx 3), ap length (next_set A.has A.target A.registers A.p 1 (omega (arith, L, l)) c.with-then-has_at.result c.with-then-has_at.ensures))))
 
 pub overflow_add-p-then-has_at-2 : goal.overflow_add-p-then-has_at-2
 overflow_add-p-then-has_at-2 t c = omega (arith, c.if-p-ge4.false)
@@ -64,14 +56,14 @@ with-requires-then-has_at-2 t c = omega (arith, c.if-p-ge4.false)
 
 pub put_choices-c-requires : goal.put_choices-c-requires
 put_choices-c-requires t c = let A = c.args in
-    let P = c.requires.1 in
+    let P = c.requires in
     let L : length A.registers ≡ 4 = search (rules) in
     let nx = next A.has A.target A.registers A.p in
     let l : A.p < 4 = omega (arith, c.if-p-ge4.false) in
     let E = chosen_four A.has A.target A.registers A.p l (sym c.has_at.ensures ∙ c.if-has_at.true) in
     let q₁ = room_next (nx 1 ++ (nx 2 ++ nx 3)) (put_as c.put_choices-a.ensures (next_set A.has A.target A.registers A.p 0 (omega (arith, L, l)) c.with.result c.with.ensures)) P.3 E in
     let q₂ = room_next (nx 2 ++ nx 3) (put_as c.put_choices-b.ensures (next_set A.has A.target A.registers A.p 1 (omega (arith, L, l)) c.with-then-has_at.result c.with-then-has_at.ensures)) (q₁) refl in
-    (omega (arith, c.requires.0), (P.0, low_set A.registers A.p 2 (omega (arith, L, l)) (omega arith) P.1 c.with-then-has_at-2.result c.with-then-has_at-2.ensures, omega arith, omega (arith, q₂, length-append (nx 2) (nx 3), ap length (next_set A.has A.target A.registers A.p 2 (omega (arith, L, l)) c.with-then-has_at-2.result c.with-then-has_at-2.ensures))))
+    (omega (arith, l), (P.0, low_set A.registers A.p 2 (omega (arith, L, l)) (omega arith) P.1 c.with-then-has_at-2.result c.with-then-has_at-2.ensures, omega arith, omega (arith, q₂, length-append (nx 2) (nx 3), ap length (next_set A.has A.target A.registers A.p 2 (omega (arith, L, l)) c.with-then-has_at-2.result c.with-then-has_at-2.ensures))))
 
 pub overflow_add-p-then-has_at-3 : goal.overflow_add-p-then-has_at-3
 overflow_add-p-then-has_at-3 t c = omega (arith, c.if-p-ge4.false)
@@ -81,7 +73,7 @@ with-requires-then-has_at-3 t c = omega (arith, c.if-p-ge4.false)
 
 pub put_choices-requires : goal.put_choices-requires
 put_choices-requires t c = let A = c.args in
-    let P = c.requires.1 in
+    let P = c.requires in
     let L : length A.registers ≡ 4 = search (rules) in
     let nx = next A.has A.target A.registers A.p in
     let l : A.p < 4 = omega (arith, c.if-p-ge4.false) in
@@ -89,11 +81,11 @@ put_choices-requires t c = let A = c.args in
     let q₁ = room_next (nx 1 ++ (nx 2 ++ nx 3)) (put_as c.put_choices-a.ensures (next_set A.has A.target A.registers A.p 0 (omega (arith, L, l)) c.with.result c.with.ensures)) P.3 E in
     let q₂ = room_next (nx 2 ++ nx 3) (put_as c.put_choices-b.ensures (next_set A.has A.target A.registers A.p 1 (omega (arith, L, l)) c.with-then-has_at.result c.with-then-has_at.ensures)) (q₁) refl in
     let q₃ = room_next (nx 3) (put_as c.put_choices-c.ensures (next_set A.has A.target A.registers A.p 2 (omega (arith, L, l)) c.with-then-has_at-2.result c.with-then-has_at-2.ensures)) (q₂) refl in
-    (omega (arith, c.requires.0), (P.0, low_set A.registers A.p 3 (omega (arith, L, l)) (omega arith) P.1 c.with-then-has_at-3.result c.with-then-has_at-3.ensures, omega arith, omega (arith, q₃, ap length (next_set A.has A.target A.registers A.p 3 (omega (arith, L, l)) c.with-then-has_at-3.result c.with-then-has_at-3.ensures))))
+    (omega (arith, l), (P.0, low_set A.registers A.p 3 (omega (arith, L, l)) (omega arith) P.1 c.with-then-has_at-3.result c.with-then-has_at-3.ensures, omega arith, omega (arith, q₃, ap length (next_set A.has A.target A.registers A.p 3 (omega (arith, L, l)) c.with-then-has_at-3.result c.with-then-has_at-3.ensures))))
 
 pub returns-then-has_at : goal.returns-then-has_at
 returns-then-has_at t c = let A = c.args in
-    let P = c.requires.1 in
+    let P = c.requires in
     let L : length A.registers ≡ 4 = search (rules) in
     let nx = next A.has A.target A.registers A.p in
     let l : A.p < 4 = omega (arith, c.if-p-ge4.false) in
@@ -102,7 +94,7 @@ returns-then-has_at t c = let A = c.args in
 
 pub returns : goal.returns
 returns t c = let A = c.args in
-    let P = c.requires.1 in
+    let P = c.requires in
     let L : length A.registers ≡ 4 = search (rules) in
     let nx = next A.has A.target A.registers A.p in
     let l : A.p < 4 = omega (arith, c.if-p-ge4.false) in

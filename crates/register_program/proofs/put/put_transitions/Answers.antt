@@ -7,7 +7,7 @@ use lib.ListN.{length, get_or}
 use Rattle.file_records.specs.ProgramPart.{table_from}
 use Rattle.drawing.proofs.PutLaws.{put_as}
 use Rattle.register_machine.specs.Written.{joined, becomes}
-use Rattle.file_written.specs.Written.{transition_bytes}
+use Rattle.register_program.specs.Form.{transition_record}
 use Rattle.register_program.specs.Reading.{register_transition_at}
 use Rattle.register_program.specs.Parts.{Named}
 use Rattle.register_program.proofs.Joined.{table_next, table_all, table_done, going_begin, going_same, going_as, going_first, going_next, going_end}
@@ -38,8 +38,8 @@ put_becomes-at-requires c = let A = c.args in
     let k = c.loop-i.k in
     let rest = joined row (table_from (transitions_at f k₀) (i + 1) (m - (i + 1))) in
     let eq : joined row (table_from (transitions_at f k₀) i (m - i)) ≡ row (transitions_at f k₀ i) ++ rest = ap (joined row) (table_next (transitions_at f k₀) i m l) in
-    let w : joined transition_bytes (becomes c.has_at-b.result (register_transition_at f k)) ≡ row (transitions_at f k₀ i) =
-    ap (λ (b : Bool). joined transition_bytes (becomes b (register_transition_at f k))) (c.has_at-b.ensures ∙ ap (λ (q : ℕ). get_or A.has q false) (c.wide.ensures ∙ c.field.ensures))
+    let w : joined transition_record (becomes c.has_at-b.result (register_transition_at f k)) ≡ row (transitions_at f k₀ i) =
+    ap (λ (b : Bool). joined transition_record (becomes b (register_transition_at f k))) (c.has_at-b.ensures ∙ ap (λ (q : ℕ). get_or A.has q false) (c.wide.ensures ∙ c.field.ensures))
     ∙ ap (λ (j : ℕ). row (register_transition_at f j)) v.0 in
     (subst (Named f) (sym v.0) (found_named c.requires.0 i l), omega (arith, going_first (row (transitions_at f k₀ i)) rest v.2 eq, ap length w))
 
@@ -66,8 +66,8 @@ loop-i-preserved c = let A = c.args in
     let k = c.loop-i.k in
     let rest = joined row (table_from (transitions_at f k₀) (i + 1) (m - (i + 1))) in
     let eq : joined row (table_from (transitions_at f k₀) i (m - i)) ≡ row (transitions_at f k₀ i) ++ rest = ap (joined row) (table_next (transitions_at f k₀) i m l) in
-    let w : joined transition_bytes (becomes c.has_at-b.result (register_transition_at f k)) ≡ row (transitions_at f k₀ i) =
-    ap (λ (b : Bool). joined transition_bytes (becomes b (register_transition_at f k))) (c.has_at-b.ensures ∙ ap (λ (q : ℕ). get_or A.has q false) (c.wide.ensures ∙ c.field.ensures))
+    let w : joined transition_record (becomes c.has_at-b.result (register_transition_at f k)) ≡ row (transitions_at f k₀ i) =
+    ap (λ (b : Bool). joined transition_record (becomes b (register_transition_at f k))) (c.has_at-b.ensures ∙ ap (λ (q : ℕ). get_or A.has q false) (c.wide.ensures ∙ c.field.ensures))
     ∙ ap (λ (j : ℕ). row (register_transition_at f j)) v.0 in
     (omega (arith, v.0), omega (arith, l), going_next (row (transitions_at f k₀ i)) rest v.2 eq (put_as c.put_becomes-at.ensures w))
 

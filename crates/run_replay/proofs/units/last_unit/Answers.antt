@@ -1,7 +1,0 @@
-use mathlib.Core.Path.{◌∙◌}
-use Rattle.run_replay.proofs.LoopLaws.{replayed_last}
-use native.Mathlib.Omega.{arith}
-use Rattle.run_replay.proofs.units.last_unit.Goals as goal
-
-pub returns : goal.returns
-returns c = λ f a said R. c.last_answer.ensures ∙ replayed_last R (omega arith)
