@@ -1,4 +1,3 @@
-use Prim.Native.Nat.{◌-◌}
 use mathlib.Core.Path.{sym, ◌∙◌}
 use Rattle.list_cube.proofs.QueueLaws.{no_both}
 use Rattle.list_before.proofs.UpdateLaws.{apart_begin, apart_next}
