@@ -3,4 +3,4 @@ use Rattle.pattern_step.specs.Meaning.{absent}
 use Rattle.pattern_step.proofs.editing.no_pattern.Goals as goal
 
 pub returns : goal.returns
-returns c = absent refl
+returns c s = absent refl

@@ -5,7 +5,7 @@ use borrow.Author.Rules.{rules}
 use Rattle.pattern_step.proofs.editing.with_none_waiting.Goals as goal
 
 pub returns-then-p-ge4 : goal.returns-then-p-ge4
-returns-then-p-ge4 c = absurd (omega (arith, c.if-p-ge4.true, w.processes))
+returns-then-p-ge4 c s k l e w b = absurd (omega (arith, c.if-p-ge4.true, w.processes))
 
 pub returns : goal.returns
-returns c = none-stands w c.args.p c.empty_clue-none.result (search (rules, length_mapped)) b c.empty_clue-none.ensures.0 c.empty_clue-none.ensures.1
+returns c s k l e w b = none-stands w c.args.p c.empty_clue-none.result (search (rules, length_mapped)) b c.empty_clue-none.ensures.0 c.empty_clue-none.ensures.1

@@ -15,26 +15,26 @@ use native.Mathlib.Omega.{arith}
 use Rattle.pattern_step.proofs.operations.before_message.Goals as goal
 
 pub returns-then-not-can_empty : goal.returns-then-not-can_empty
-returns-then-not-can_empty c = let dw : c.wide.result < s.variables = omega (arith, c.wide.ensures) in
+returns-then-not-can_empty c s e w b d u = let dw : c.wide.result < s.variables = omega (arith, c.wide.ensures) in
     let k = clue-here w c.args.p b c.wide.result dw c.clue_of-clue.result c.clue_of-clue.ensures ∙ ap (e.clue c.args.p) c.wide.ensures in
     gives_none (c.no_pattern.ensures s) (provided_no (map (with_path (with_clue e c.args.p c.args.x empty) c.args.p) (read_numbered c.args.x c.args.v (e.path c.args.p) c.args.n)) (ap can_empty (sym k) ∙ sym c.can_empty.ensures ∙ not-true c.can_empty.result c.if-not-can_empty.true-raw))
 
 pub returns-then-n-ne0 : goal.returns-then-n-ne0
-returns-then-n-ne0 c = let dw : c.wide.result < s.variables = omega (arith, c.wide.ensures) in
+returns-then-n-ne0 c s e w b d u = let dw : c.wide.result < s.variables = omega (arith, c.wide.ensures) in
     let k = clue-here w c.args.p b c.wide.result dw c.clue_of-clue.result c.clue_of-clue.ensures ∙ ap (e.clue c.args.p) c.wide.ensures in
     let ph = path-here w c.args.p b c.path_of-path.result c.path_of-path.ensures in
     let o = c.first_own-own.ensures ∙ ap (first_own c.args.x) ph in
     gives_none (c.no_pattern-then-n-ne0.ensures s) (ap (map (with_path (with_clue e c.args.p c.args.x empty) c.args.p)) (own_behind c.args.x c.args.v (e.path c.args.p) c.args.n c.first_own-own.result.value o c.if-own.true c.if-n-ne0.true) ∙ provided_yes (map (with_path (with_clue e c.args.p c.args.x empty) c.args.p) (read_numbered c.args.x c.args.v (e.path c.args.p) c.args.n)) (ap can_empty (sym k) ∙ sym c.can_empty.ensures ∙ not-false c.can_empty.result c.if-not-can_empty.false-raw))
 
 pub returns-then-own-v : goal.returns-then-own-v
-returns-then-own-v c = let dw : c.wide.result < s.variables = omega (arith, c.wide.ensures) in
+returns-then-own-v c s e w b d u = let dw : c.wide.result < s.variables = omega (arith, c.wide.ensures) in
     let k = clue-here w c.args.p b c.wide.result dw c.clue_of-clue.result c.clue_of-clue.ensures ∙ ap (e.clue c.args.p) c.wide.ensures in
     let ph = path-here w c.args.p b c.path_of-path.result c.path_of-path.ensures in
     let o = c.first_own-own.ensures ∙ ap (first_own c.args.x) ph in
     gives_none (c.no_pattern-then-own-v.ensures s) (ap (map (with_path (with_clue e c.args.p c.args.x empty) c.args.p)) (own_other c.args.x c.args.v (e.path c.args.p) c.args.n c.first_own-own.result.value o c.if-own.true c.if-n-ne0.false c.if-own-v.true) ∙ provided_yes (map (with_path (with_clue e c.args.p c.args.x empty) c.args.p) (read_numbered c.args.x c.args.v (e.path c.args.p) c.args.n)) (ap can_empty (sym k) ∙ sym c.can_empty.ensures ∙ not-false c.can_empty.result c.if-not-can_empty.false-raw))
 
 pub returns-then-own : goal.returns-then-own
-returns-then-own c = let dw : c.wide.result < s.variables = omega (arith, c.wide.ensures) in
+returns-then-own c s e w b d u = let dw : c.wide.result < s.variables = omega (arith, c.wide.ensures) in
     let k = clue-here w c.args.p b c.wide.result dw c.clue_of-clue.result c.clue_of-clue.ensures ∙ ap (e.clue c.args.p) c.wide.ensures in
     let ph = path-here w c.args.p b c.path_of-path.result c.path_of-path.ensures in
     let o = c.first_own-own.ensures ∙ ap (first_own c.args.x) ph in
@@ -49,14 +49,14 @@ returns-then-own c = let dw : c.wide.result < s.variables = omega (arith, c.wide
     gives_one c.one_pattern.ensures.0 c.one_pattern.ensures.1 (wider q (omega arith) (omega arith)) (ap (map (with_path (with_clue e c.args.p c.args.x empty) c.args.p)) (own_same c.args.x c.args.v (e.path c.args.p) c.args.n c.first_own-own.result.value o c.if-own.true c.if-n-ne0.false c.if-own-v.false) ∙ provided_yes (map (with_path (with_clue e c.args.p c.args.x empty) c.args.p) (read_numbered c.args.x c.args.v (e.path c.args.p) c.args.n)) (ap can_empty (sym k) ∙ sym c.can_empty.ensures ∙ not-false c.can_empty.result c.if-not-can_empty.false-raw))
 
 pub returns-then-place_of-n : goal.returns-then-place_of-n
-returns-then-place_of-n c = let dw : c.wide.result < s.variables = omega (arith, c.wide.ensures) in
+returns-then-place_of-n c s e w b d u = let dw : c.wide.result < s.variables = omega (arith, c.wide.ensures) in
     let k = clue-here w c.args.p b c.wide.result dw c.clue_of-clue.result c.clue_of-clue.ensures ∙ ap (e.clue c.args.p) c.wide.ensures in
     let ph = path-here w c.args.p b c.path_of-path.result c.path_of-path.ensures in
     let o = c.first_own-own.ensures ∙ ap (first_own c.args.x) ph in
     gives_none (c.no_pattern-then-place_of-n.ensures s) (ap (map (with_path (with_clue e c.args.p c.args.x empty) c.args.p)) (free-past c.args.x c.args.v (e.path c.args.p) c.args.n c.first_own-own.result.value o c.if-own.false (omega (arith, c.place_of.ensures ∙ ap (place_of c.args.x) ph, c.if-place_of-n.true))) ∙ provided_yes (map (with_path (with_clue e c.args.p c.args.x empty) c.args.p) (read_numbered c.args.x c.args.v (e.path c.args.p) c.args.n)) (ap can_empty (sym k) ∙ sym c.can_empty.ensures ∙ not-false c.can_empty.result c.if-not-can_empty.false-raw))
 
 pub returns : goal.returns
-returns c = let dw : c.wide.result < s.variables = omega (arith, c.wide.ensures) in
+returns c s e w b d u = let dw : c.wide.result < s.variables = omega (arith, c.wide.ensures) in
     let k = clue-here w c.args.p b c.wide.result dw c.clue_of-clue.result c.clue_of-clue.ensures ∙ ap (e.clue c.args.p) c.wide.ensures in
     let ph = path-here w c.args.p b c.path_of-path.result c.path_of-path.ensures in
     let o = c.first_own-own.ensures ∙ ap (first_own c.args.x) ph in

@@ -9,12 +9,12 @@ use native.Mathlib.Omega.{arith}
 use Rattle.pattern_step.proofs.operations.before_waiting.Goals as goal
 
 pub returns-then-not-old : goal.returns-then-not-old
-returns-then-not-old c = let g = c.waiting-old.ensures (let z : c.clue_of-clue.result.count ≤ 9 = omega (arith, clue-most w c.args.p b c.args.x d c.clue_of-clue.result c.clue_of-clue.ensures) in z) in
+returns-then-not-old c s e w b d = let g = c.waiting-old.ensures (let z : c.clue_of-clue.result.count ≤ 9 = omega (arith, clue-most w c.args.p b c.args.x d c.clue_of-clue.result c.clue_of-clue.ensures) in z) in
     let h = g.clue ∙ ap (waiting c.args.v) (clue-here w c.args.p b c.args.x d c.clue_of-clue.result c.clue_of-clue.ensures) in
     gives_none (c.no_pattern.ensures s) (from_none (clue_of c.waiting-old.result.clue) (waiting c.args.v (e.clue c.args.p c.args.x)) (with_clue e c.args.p c.args.x) h (not-true c.waiting-old.result.there c.if-not-old.true))
 
 pub returns : goal.returns
-returns c = let g = c.waiting-old.ensures (let z : c.clue_of-clue.result.count ≤ 9 = omega (arith, clue-most w c.args.p b c.args.x d c.clue_of-clue.result c.clue_of-clue.ensures) in z) in
+returns c s e w b d = let g = c.waiting-old.ensures (let z : c.clue_of-clue.result.count ≤ 9 = omega (arith, clue-most w c.args.p b c.args.x d c.clue_of-clue.result c.clue_of-clue.ensures) in z) in
     let h = g.clue ∙ ap (waiting c.args.v) (clue-here w c.args.p b c.args.x d c.clue_of-clue.result c.clue_of-clue.ensures) in
     let m = clue-most w c.args.p b c.args.x d c.clue_of-clue.result c.clue_of-clue.ensures in
     gives_one c.one_pattern.ensures.0 c.one_pattern.ensures.1 (wider (c.with_clue.ensures s 8 16 8 e w b d (omega arith) (omega (arith, g.most))) (omega arith) (omega arith)) (from_some (clue_of c.waiting-old.result.clue) (waiting c.args.v (e.clue c.args.p c.args.x)) (with_clue e c.args.p c.args.x) h (not-false c.waiting-old.result.there c.if-not-old.false))

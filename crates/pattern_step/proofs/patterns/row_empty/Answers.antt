@@ -10,7 +10,7 @@ use native.Mathlib.Omega.{arith}
 use Rattle.pattern_step.proofs.patterns.row_empty.Goals as goal
 
 pub returns-then-p-ge4 : goal.returns-then-p-ge4
-returns-then-p-ge4 c = absurd (omega (arith, c.if-p-ge4.true))
+returns-then-p-ge4 c l = absurd (omega (arith, c.if-p-ge4.true))
 
 pub loop-v-init : goal.loop-v-init
 loop-v-init c = each_begin (λ v. can_empty (clue_at c.args.clues c.args.p v)) true c.least-n.result
@@ -29,7 +29,7 @@ bounds-clues-at c = omega (arith, c.least-n.ensures, c.loop-v-test.true, c.if-p-
 
 pub returns-then-not-can_empty : goal.returns-then-not-can_empty
 unfolding row_empty
-returns-then-not-can_empty c = below_fails (λ v. can_empty (clue_at c.args.clues c.args.p v)) c.args.variables c.least-n.ensures c.loop-v-test.true (sym c.can_empty.ensures ∙ not-true c.can_empty.result c.if-not-can_empty.true-raw)
+returns-then-not-can_empty c l = below_fails (λ v. can_empty (clue_at c.args.clues c.args.p v)) c.args.variables c.least-n.ensures c.loop-v-test.true (sym c.can_empty.ensures ∙ not-true c.can_empty.result c.if-not-can_empty.true-raw)
 
 pub overflow_step-v : goal.overflow_step-v
 overflow_step-v c = omega (arith, c.least-n.ensures, c.loop-v-test.true, c.if-p-ge4.false)
@@ -39,4 +39,4 @@ loop-v-preserved c = each_next c.loop-v.invariant c.loop-v-test.true (sym c.can_
 
 pub returns : goal.returns
 unfolding row_empty
-returns c = below_holds (λ v. can_empty (clue_at c.args.clues c.args.p v)) c.args.variables c.least-n.ensures c.loop-v.invariant (omega (arith, c.loop-v-test.false))
+returns c l = below_holds (λ v. can_empty (clue_at c.args.clues c.args.p v)) c.args.variables c.least-n.ensures c.loop-v.invariant (omega (arith, c.loop-v-test.false))

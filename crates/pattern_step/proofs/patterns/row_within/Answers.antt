@@ -10,7 +10,7 @@ use native.Mathlib.Omega.{arith}
 use Rattle.pattern_step.proofs.patterns.row_within.Goals as goal
 
 pub returns-then-p-ge4 : goal.returns-then-p-ge4
-returns-then-p-ge4 c = absurd (omega (arith, c.if-p-ge4.true))
+returns-then-p-ge4 c l = absurd (omega (arith, c.if-p-ge4.true))
 
 pub loop-v-init : goal.loop-v-init
 loop-v-init c = each_begin (λ v. clue_within (clue_at c.args.a c.args.p v) (clue_at c.args.b c.args.p v)) true c.least-n.result
@@ -35,7 +35,7 @@ bounds-b-at c = omega (arith, c.least-n.ensures, c.loop-v-test.true, c.if-p-ge4.
 
 pub returns-then-not-clue_within : goal.returns-then-not-clue_within
 unfolding row_within
-returns-then-not-clue_within c = below_fails (λ v. clue_within (clue_at c.args.a c.args.p v) (clue_at c.args.b c.args.p v)) c.args.variables c.least-n.ensures c.loop-v-test.true (sym c.clue_within.ensures ∙ not-true c.clue_within.result c.if-not-clue_within.true-raw)
+returns-then-not-clue_within c l = below_fails (λ v. clue_within (clue_at c.args.a c.args.p v) (clue_at c.args.b c.args.p v)) c.args.variables c.least-n.ensures c.loop-v-test.true (sym c.clue_within.ensures ∙ not-true c.clue_within.result c.if-not-clue_within.true-raw)
 
 pub overflow_step-v : goal.overflow_step-v
 overflow_step-v c = omega (arith, c.least-n.ensures, c.loop-v-test.true, c.if-p-ge4.false)
@@ -45,4 +45,4 @@ loop-v-preserved c = each_next c.loop-v.invariant c.loop-v-test.true (sym c.clue
 
 pub returns : goal.returns
 unfolding row_within
-returns c = below_holds (λ v. clue_within (clue_at c.args.a c.args.p v) (clue_at c.args.b c.args.p v)) c.args.variables c.least-n.ensures c.loop-v.invariant (omega (arith, c.loop-v-test.false))
+returns c l = below_holds (λ v. clue_within (clue_at c.args.a c.args.p v) (clue_at c.args.b c.args.p v)) c.args.variables c.least-n.ensures c.loop-v.invariant (omega (arith, c.loop-v-test.false))

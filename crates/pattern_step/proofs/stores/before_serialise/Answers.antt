@@ -13,7 +13,7 @@ use native.Mathlib.Omega.{arith}
 use Rattle.pattern_step.proofs.stores.before_serialise.Goals as goal
 
 pub returns-then-not-message : goal.returns-then-not-message
-returns-then-not-message c = let ph = path-here w c.args.p b c.path_of-path.result c.path_of-path.ensures in
+returns-then-not-message c e w b d = let ph = path-here w c.args.p b c.path_of-path.result c.path_of-path.ensures in
     let pm = path-most w c.args.p b c.path_of-path.result c.path_of-path.ensures in
     let oe = c.place_of-own.ensures ∙ ap (place_of c.args.x) ph in
     let re = c.not_own.ensures.0 ∙ ap₂ not_own oe ph in
@@ -23,7 +23,7 @@ returns-then-not-message c = let ph = path-here w c.args.p b c.path_of-path.resu
     gives_none (c.no_pattern.ensures c.args.shape) (no_given m (not-true c.new_message-message.result.there c.if-not-message.true))
 
 pub returns : goal.returns
-returns c = let ph = path-here w c.args.p b c.path_of-path.result c.path_of-path.ensures in
+returns c e w b d = let ph = path-here w c.args.p b c.path_of-path.result c.path_of-path.ensures in
     let pm = path-most w c.args.p b c.path_of-path.result c.path_of-path.ensures in
     let oe = c.place_of-own.ensures ∙ ap (place_of c.args.x) ph in
     let re = c.not_own.ensures.0 ∙ ap₂ not_own oe ph in
