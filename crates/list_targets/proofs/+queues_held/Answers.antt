@@ -1,4 +1,3 @@
-use Prim.Native.Nat.{◌-◌}
 use native.Mathlib.Omega.{arith}
 use borrow.Author.Tests.{not-true, not-false}
 use Rattle.list_targets.proofs.QueueSteps.{last_queue, next_queue, next_row, next-waiting, empty-not, waiting-too, row_done, queues_done}
