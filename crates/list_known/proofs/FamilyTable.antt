@@ -1,5 +1,5 @@
 -- The table of full families: what stands in it, and what is said of a cube that is found there.
-use Prim.Native.Nat.{ℕ, zero, suc, ◌+◌, ◌-◌, ◌*◌, ◌/◌, ◌%◌, ◌<◌, ◌≤◌, min}
+use Prim.Native.Nat.{ℕ, ◌+◌, ◌-◌, ◌*◌, ◌/◌, ◌%◌, ◌<◌, ◌≤◌, min}
 use mathlib.Core.Path.{◌≡◌, refl, sym, ap, ap₂, subst, subst₂, ◌∙◌}
 use mathlib.Core.Logic.{◌≢◌}
 use mathlib.Core.Bool.{Bool, true}
@@ -8,8 +8,7 @@ use native.Mathlib.Omega.{arith}
 use native.Mathlib.Decide.{ℕ_discrete, dec_lt}
 use lib.ListN.{length, get_or, replicate, length-replicate, get_or-replicate}
 use lib.Dec.{T, eqb, eqb→eq}
-use borrow.Author.Tests.{lt-ltb, le-ltb, lt-leb, le-leb}
-use Rattle.machine_pws.specs.declared.Message.{Message}
+use borrow.Author.Tests.{lt-ltb, le-ltb}
 use Rattle.machine_pws.specs.declared.Step.TheVariants.{Serialise, Update}
 use Rattle.machine_pws.specs.Program as pws
 use Rattle.machine_pws.specs.Machine.{Memory, Configuration, no_message, all_below}
@@ -30,7 +29,7 @@ use Rattle.file_records.specs.ProgramPart.{shape_of}
 use Rattle.base.proofs.ByteLaws.{byte_past}
 use Rattle.file_contents.specs.declared.entry.Cube.{Cube}
 use Rattle.file_contents.specs.declared.entry.Queue.{Queue}
-use Rattle.file_contents.specs.Cube.{no_queue, waiting_of, channel_of, configuration_of, load_entry}
+use Rattle.file_contents.specs.Cube.{no_queue, waiting_of, configuration_of, load_entry}
 use Rattle.file_contents.proofs.CubeParts.{queue_of_lem}
 use Rattle.file_again.specs.Again.{cube_at, entries_of}
 use Rattle.file_again.proofs.Tables.{table_length, table_number}

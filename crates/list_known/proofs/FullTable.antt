@@ -9,13 +9,11 @@ use native.Mathlib.Decide.{ℕ_discrete, dec_lt}
 use lib.ListN.{length, get_or, set, length-set}
 use lib.Seq.{get_or-set_same, get_or-set_other}
 use lib.Dec.{T, eqb, leb}
-use borrow.Author.Tests.{eqb-true, leb-true, leb-false, le-leb, lt-leb}
-use Rattle.machine_pws.specs.declared.Step.{Step}
+use borrow.Author.Tests.{eqb-true, leb-true, le-leb, lt-leb}
 use Rattle.machine_pws.specs.declared.Step.TheVariants.{Take, Serialise, Update}
 use Rattle.machine_pws.specs.Program.{Program, ProgramInRange, transition}
 use Rattle.machine_pws.specs.Machine.{Configuration, put, all_below}
-use Rattle.machine_pws.specs.Configurations.{InTarget}
-use Rattle.machine_pws.specs.Entries.{EntryOf, entry}
+use Rattle.machine_pws.specs.Entries.{EntryOf}
 use Rattle.machine_pws.proofs.Ranges.{format_no_ff}
 use Rattle.machine_pws.proofs.Cases.{all_yes}
 use Rattle.list_theory.specs.Lists.{every}

@@ -2,7 +2,7 @@
 use Prim.Native.Nat.{ℕ, zero, suc, ◌+◌, ◌<◌, ◌≤◌}
 use mathlib.Core.Path.{◌≡◌, refl, sym, ap, subst, ◌∙◌}
 use mathlib.Core.Bool.{Bool, true, false}
-use mathlib.Core.List.{List, []}
+use mathlib.Core.List.{List}
 use native.Mathlib.Omega.{arith}
 use lib.ListN.{length, get_or}
 use lib.Dec.{T, ltb}
@@ -11,10 +11,10 @@ use Rattle.machine_pws.specs.Program as pws
 use Rattle.machine_pws.specs.Program.{ProgramInRange}
 use Rattle.machine_pws.specs.Machine.{Configuration}
 use Rattle.machine_pws.specs.Configurations.{StatesOf}
-use Rattle.machine_pws.specs.Entries.{no_entry, entry}
+use Rattle.machine_pws.specs.Entries.{no_entry}
 use Rattle.list_theory.specs.Lists.{every}
 use Rattle.list_theory.specs.Shapes.{shape_cubes}
-use Rattle.list_theory.specs.Decision.{held, target_held}
+use Rattle.list_theory.specs.Decision.{held}
 use Rattle.list_theory.proofs.Verdict.{target_yes}
 use Rattle.file_records.specs.declared.program.Shape.{Shape}
 use Rattle.base.specs.Bytes.{choose}

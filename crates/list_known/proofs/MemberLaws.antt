@@ -1,10 +1,9 @@
 -- Families that are found full, and the table of them.
-use Prim.Native.Nat.{ℕ, ◌+◌, ◌-◌, ◌*◌, ◌/◌, ◌%◌, ◌<◌, ◌≤◌}
+use Prim.Native.Nat.{ℕ, ◌+◌, ◌-◌, ◌*◌, ◌/◌, ◌%◌, ◌<◌}
 use mathlib.Core.Path.{◌≡◌, refl, sym, subst, ◌∙◌}
 use mathlib.Core.Bool.{Bool, true}
 use mathlib.Core.List.{List, Memᴰ}
 use native.Mathlib.Omega.{arith}
-use lib.ListN.{length}
 use borrow.Author.Tests.{ne_eqb}
 use Rattle.machine_pws.specs.Machine.{Configuration}
 use Rattle.machine_pws.specs.Configurations.{Fits}
@@ -18,7 +17,7 @@ use Rattle.file_again.specs.Again.{cube_at, entries_of}
 use Rattle.file_again.proofs.Tables.{table_number}
 use Rattle.list_theory.specs.Seen.{seen_cubes}
 use Rattle.list_theory.specs.Family.{Clue, sees, FamilyHeld, family_cubes}
-use Rattle.list_known.specs.FamilyTable.{clue_of, Families}
+use Rattle.list_known.specs.FamilyTable.{clue_of}
 use Rattle.list_theory.proofs.FamilyFull.{family-full}
 use Rattle.list_theory.proofs.FamilySeen.{seen_fits, seen-full}
 use Rattle.list_targets.proofs.TargetLaws.{listed}

@@ -1,4 +1,3 @@
-use Prim.Native.Nat.{◌-◌}
 use Rattle.list_known.proofs.MemberLaws.{kept_more}
 use Rattle.list_known.proofs.members.put_sights.Goals as goal
 
