@@ -128,7 +128,7 @@ K_not_below q = let e = q.end in let z : ◌≡◌ {A = ℕ} 0 1 = cc in omega a
 rows_computed : (k : ℕ) → AllRight k cases
 unfolding first_cause first_number checked is_kind in_range count_in_range counts_in_range count_if_absent counts_if_absent shape_number states_number value_exists all_zero names_of operation_names operation_of transition_names transition_number state_name state_names target_number claim_number start_name start_names start_number run_evidence step_body step_names step_number step_at pointer_name pointer_names entry_number value_name value_names message_names waiting_names message_number waiting_number unless_end states_from row_from transitions_from at_end targets_from rows_from rest_from program_with steps_from steps_of extended body_size body_number pointer_inside points_first pointers_fit first_some complete at_boundary finished entry_from entry_read entries_from cut body_of record_at is_of_record offending_by
 rows_computed k =
-    (refl, (refl, (refl, (refl, (refl, (refl, (refl, (refl, (refl, (refl, (refl, (refl, (refl, (refl, (refl, (refl, (refl, (refl, (refl, (refl, (refl, (refl, (refl, (refl, (refl, (refl, (refl, (refl, (refl, (K_below, (K_not_below, (refl, (refl, (refl, (refl, (refl, (refl, (refl, (refl, (refl, (refl, (refl, (refl, (refl, (refl, (refl, (refl, (refl, (refl, (refl, (refl, (refl, (refl, (refl, (refl, (refl, (refl, (refl, (refl, (refl, (refl, (refl, (refl, (refl, (refl, (refl, (refl, (refl, (refl, (refl, (refl, (refl, (refl, (refl, (refl, (refl, (refl, (refl, (refl, (refl, (refl, (refl, (refl, (refl, (refl, (refl, (refl, (refl, (refl, (refl, (refl, (refl, (refl, (refl, (refl, (refl, (refl, tt)))))))))))))))))))))))))))))))))))))))))))))))))))))))))))))))))))))))))))))))))))))))))))))))))
+    (refl, (refl, (refl, (refl, (refl, (refl, (refl, (refl, (refl, (refl, (refl, (refl, (refl, (refl, (refl, (refl, (refl, (refl, (refl, (refl, (refl, (refl, (refl, (refl, (refl, (refl, (refl, (refl, (refl, (K_below, (K_not_below, (refl, (refl, (refl, (refl, (refl, (refl, (refl, (refl, (refl, (refl, (refl, (refl, (refl, (refl, (refl, (refl, (refl, (refl, (refl, (refl, (refl, (refl, (refl, (refl, (refl, (refl, (refl, (refl, (refl, (refl, (refl, (refl, (refl, (refl, (refl, (refl, (refl, (refl, (refl, (refl, (refl, (refl, (refl, (refl, (refl, (refl, (refl, (refl, (refl, (refl, (refl, (refl, (refl, (refl, (refl, (refl, (refl, tt))))))))))))))))))))))))))))))))))))))))))))))))))))))))))))))))))))))))))))))))))))))))
 
 -- ---- the table
 

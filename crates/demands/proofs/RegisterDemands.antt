@@ -1,14 +1,11 @@
 -- The theorems of specs/RegisterDemands: what C gets for the program file that is written (ForC), which is read as the program that is written
 -- (register_program), whose machines go step for step with those of the program with registers (register_machine).
-use Prim.Native.Nat.{ℕ, suc, ◌+◌, ◌<◌, ◌≤◌}
+use Prim.Native.Nat.{ℕ, suc, ◌+◌, ◌<◌}
 use mathlib.Core.Path.{◌≡◌, refl, sym, ap, subst, ◌∙◌}
-use mathlib.Core.Bool.{Bool, true, false}
-use mathlib.Core.List.{List, [], ◌∷◌, ◌++◌}
+use mathlib.Core.List.{List, [], ◌∷◌}
 use native.Mathlib.Omega.{arith}
 use native.Mathlib.Decide.{dec_lt}
-use lib.ListN.{length, get_or, take, drop, length-append}
-use lib.Seq.{take_at}
-use lib.Dec.{ltb}
+use lib.ListN.{length, get_or, take}
 use Rattle.machine_pws.specs.declared.Step.{Step}
 use Rattle.machine_pws.specs.Program.{Program}
 use Rattle.machine_pws.specs.Machine.{Configuration}
@@ -21,13 +18,11 @@ use Rattle.machine_pso.specs.Runs.{PsoTakes, PsoVisited}
 use Rattle.machine_pso.specs.Runs as runs
 use Rattle.machine_equal.proofs.Reachability.{start_of_lem, same_reachability}
 use Rattle.list_theory.specs.Verdict.{target}
-use Rattle.file_records.specs.declared.program.Format.TheVariants.{Registers}
 use Rattle.file_records.specs.declared.program.Checked.{Checked}
 use Rattle.file_records.specs.declared.program.Checked.TheVariants.{Fine, Refused}
 use Rattle.file_contents.specs.Reading.{Input, pair, read_file}
 use Rattle.file_again.specs.Offending.{offending}
-use Rattle.drawing.specs.declared.Written.{Written}
-use Rattle.drawing.specs.Writing.{Made, made, refused, answered_or, left_in}
+use Rattle.drawing.specs.Writing.{made}
 use Rattle.register_machine.specs.Program.{RegisterProgram, RegisterWellFormed}
 use Rattle.register_machine.specs.Machine.{RegisterConfiguration}
 use Rattle.register_machine.specs.Runs.{RegisterTakes, RegisterVisited}
@@ -43,15 +38,14 @@ use Rattle.register_machine.proofs.Lists.{joined_at, found, joined_grows, joined
 use Rattle.register_machine.proofs.Stepping.{written_well_formed}
 use Rattle.register_machine.proofs.Correspondence as machine
 use Rattle.register_machine.proofs.PsoCorrespondence as psoMachine
-use Rattle.register_program.specs.Registers.{lowest_over, made_of, of_read, part_of, registers_of, program_in, targets_in}
+use Rattle.register_program.specs.Registers.{of_read, part_of, registers_of, program_in, targets_in}
 use Rattle.register_program.proofs.WrittenIsRead.{found_well_formed, written_is_read}
 use Rattle.pso_replay.specs.Answers.{pso_steps, PsoReached}
 use Rattle.verdict.specs.declared.answer.Verdict as declared
 use Rattle.verdict.specs.Judge as judge
 use Rattle.verdict.specs.Answers.{answer_in_c, Answered}
 use Rattle.verdict.proofs.Verdicts.{judged_one}
-use Rattle.verdict.proofs.AreaLaws.{each_choice}
-use Rattle.demands.specs.Demands.{memory_in, steps_in, StepsAreRead, NoneVisited, Reaches}
+use Rattle.demands.specs.Demands.{memory_in, steps_in, NoneVisited, Reaches}
 use Rattle.demands.specs.Demands as demands
 use Rattle.demands.specs.RegisterDemands.{
   NoneVisitedWithRegisters,
@@ -62,12 +56,10 @@ use Rattle.demands.specs.RegisterDemands.{
   RegisterSafety,
   RegisterReachability,
   RegisterPsoReachability,
-  RegistersForC,
   RegisterSafeForC,
   RegisterReachableForC,
   RegisterPsoForC,
 }
-use Rattle.demands.proofs.Numbers.{LowChecked, program_low}
 use Rattle.demands.proofs.ForC.{safe_for_c, reachable_for_c, pso_for_c}
 
 -- ---- what is visited is reached, and what is reached is visited
@@ -264,33 +256,30 @@ module _ (f w : List ℕ) (q : registers_of f ≡ made w) where
       subst (λ (P : Program). F P (written_targets (program_in f) (targets_in f))) r.program
       (subst (F (demands.program_in (pair w e))) r.targets y)
 
--- ---- what the judge says of the bytes that are written
+-- ---- what C gets
 
-module _ (f w e : List ℕ) (area : ℕ) (r : declared.Verdict) (q : registers_of f ≡ made w) (A : Answered (pair w e) area r) where
-  abbrev x : Input
-  x = pair w e
+pub register_safe_for_c : RegisterSafeForC
+register_safe_for_c f w e area r q A k =
+    none_visited (program_in f) (formed f w q) (targets_in f) (as_written f w q NoneVisited e (safe_for_c (pair w e) area r A k).1)
 
-  safe_written : r.kind ≡ 0 → NoneVisitedWithRegisters (program_in f) (targets_in f)
-  safe_written k = none_visited (program_in f) (formed f w q) (targets_in f) (as_written f w q NoneVisited e (safe_for_c x area r A k).1)
+pub register_reachable_for_c : RegisterReachableForC
+register_reachable_for_c f w e area r q A k =
+    let x = pair w e in
+    let y = reachable_for_c x area r A k in (
+      y.1,
+      reaches (program_in f) (formed f w q) (targets_in f) (memory_in x) (steps_in x r.first) r.first r.second
+          (as_written f w q (λ P ts. Reaches P ts (memory_in x) (steps_in x r.first) r.first r.second) e y.2),
+    )
 
-  reachable_written : r.kind ≡ 1
-      → StepsAreRead x r.first × ReachesWithRegisters (program_in f) (targets_in f) (memory_in x) (steps_in x r.first) r.first r.second
-  reachable_written k =
-      let y = reachable_for_c x area r A k in (
-        y.1,
-        reaches (program_in f) (formed f w q) (targets_in f) (memory_in x) (steps_in x r.first) r.first r.second
-            (as_written f w q (λ P ts. Reaches P ts (memory_in x) (steps_in x r.first) r.first r.second) e y.2),
-      )
-
-  pso_written : r.kind ≡ 3
-      → StepsAreRead x r.first × PsoReachesWithRegisters (program_in f) (targets_in f) (memory_in x) (pso_steps (steps_in x r.first)) r.first r.second
-  pso_written k =
-      let y = pso_for_c x area r A k in
-      let us = pso_steps (steps_in x r.first) in (
-        y.1,
-        pso_reaches (program_in f) (formed f w q) (targets_in f) (memory_in x) us r.first r.second
-            (as_written f w q (λ P ts. PsoReached P (memory_in x) ts us r.first r.second) e y.2),
-      )
+pub register_pso_for_c : RegisterPsoForC
+register_pso_for_c f w e area r q A k =
+    let x = pair w e in
+    let y = pso_for_c x area r A k in
+    let us = pso_steps (steps_in x r.first) in (
+      y.1,
+      pso_reaches (program_in f) (formed f w q) (targets_in f) (memory_in x) us r.first r.second
+          (as_written f w q (λ P ts. PsoReached P (memory_in x) ts us r.first r.second) e y.2),
+    )
 
 -- ---- the verdict: C gets it
 
@@ -298,72 +287,10 @@ said : (x : Input) (area : ℕ) (v : judge.Verdict) → judge.judged x area ≡ 
 said x area v e = record { verdict = v; judged = subst (judge.Judged x area) e (judged_one x area).0; same = refl }
 
 pub register_safety : RegisterSafety
-register_safety f w e area n q j = safe_written f w e area _ q (said (pair w e) area (judge.safe n) j) refl
+register_safety f w e area n q j = register_safe_for_c f w e area _ q (said (pair w e) area (judge.safe n) j) refl
 
 pub register_reachability : RegisterReachability
-register_reachability f w e area n k q j = reachable_written f w e area _ q (said (pair w e) area (judge.reachable n k) j) refl
+register_reachability f w e area n k q j = register_reachable_for_c f w e area _ q (said (pair w e) area (judge.reachable n k) j) refl
 
 pub register_pso_reachability : RegisterPsoReachability
-register_pso_reachability f w e area n k q j = pso_written f w e area _ q (said (pair w e) area (judge.pso n k) j) refl
-
--- ---- the answer of `hrafnolt_registers`
-
--- no refusal has the number 0
-abbrev Numbered : Made → Type 0
-Numbered (made w) = Unit {0}
-Numbered (refused number place) = 1 ≤ number
-
-made_numbered : (R : RegisterProgram) (ts : List (ℕ → ℕ)) → Numbered (made_of R ts)
-unfolding made_of
-made_numbered R ts =
-    let over : 1 ≤ 19 = omega arith in
-    let many : 1 ≤ 28 = omega arith in
-    each_choice Numbered (ltb (lowest_over (written R).states 0 R.shape.processes) R.shape.processes) _ _ over
-    (each_choice Numbered (ltb 256 (length (written R).transitions)) _ _ many tt)
-
-refused_numbered : (f : List ℕ) → Numbered (registers_of f)
-unfolding registers_of
-refused_numbered f = go (part_of f).answer (program_low Registers true f 0)
-  where
-    go : (x : Checked) → LowChecked x → Numbered (of_read f (part_of f).program x)
-    go Fine h = made_numbered (program_in f) (targets_in f)
-    go (Refused r) h = h.0
-
--- number 0: there is room, and the bytes stand first
-bytes_first : (before after : List ℕ) (a : Written) (m : Made) → Numbered m → a ≡ answered_or 29 (length before) m → after ≡ left_in before m → a.number ≡ 0
-    → (a.value ≤ length after) × (m ≡ made (take a.value after))
-bytes_first before after a (refused number place) h p q z = absurd (omega (arith, h, ap (λ (w : Written). w.number) p))
-bytes_first before after a (made w) h p q z = go (ltb (length before) (length w)) refl
-  where
-    go : (b : Bool) → ltb (length before) (length w) ≡ b → (a.value ≤ length after) × (made w ≡ made (take a.value after))
-    go true d =
-        let n : a.number ≡ 29 = ap (λ (x : Written). x.number) p ∙ rw d in
-        absurd (omega arith)
-    go false d =
-        let v : a.value ≡ length w = ap (λ (x : Written). x.value) p ∙ rw d in
-        let o : after ≡ w ++ drop (length w) before = q ∙ rw d in
-        let t : take a.value after ≡ w = ap (take a.value) o ∙ take_at w (drop (length w) before) a.value (sym v) in
-        (omega (arith, v, ap length o, length-append w (drop (length w) before)), ap made (sym t))
-
-pub registers_for_c : RegistersForC
-registers_for_c f before after a A z =
-    let b = bytes_first before after a (registers_of f) (refused_numbered f) A.answer A.output z in
-    (written_fine f _ b.1, b.0, b.1)
-
--- ---- the two answers
-
-pub register_safe_for_c : RegisterSafeForC
-register_safe_for_c f before after e area a r A z J k =
-    let w = registers_for_c f before after a A z in (w.0, safe_written f (take a.value after) e area r w.2 J k)
-
-pub register_reachable_for_c : RegisterReachableForC
-register_reachable_for_c f before after e area a r A z J k =
-    let w = registers_for_c f before after a A z in
-    let y = reachable_written f (take a.value after) e area r w.2 J k in
-    (w.0, y.0, y.1)
-
-pub register_pso_for_c : RegisterPsoForC
-register_pso_for_c f before after e area a r A z J k =
-    let w = registers_for_c f before after a A z in
-    let y = pso_written f (take a.value after) e area r w.2 J k in
-    (w.0, y.0, y.1)
+register_pso_reachability f w e area n k q j = register_pso_for_c f w e area _ q (said (pair w e) area (judge.pso n k) j) refl

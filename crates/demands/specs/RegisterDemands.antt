@@ -19,10 +19,8 @@ use Rattle.register_machine.specs.PsoMachine.{
 use Rattle.register_machine.specs.Written.{written_targets}
 use Rattle.register_machine.specs.Correspondence.{paired, StepForStep}
 use Rattle.register_machine.specs.PsoCorrespondence.{pso_paired, PsoStepForStep}
-use Rattle.register_program.specs.Registers.{part_of, registers_of, program_in, targets_in}
-use Rattle.drawing.specs.declared.Written.{Written}
-use Rattle.drawing.specs.Writing.{made, answered_or, left_in}
-use Rattle.file_records.specs.declared.program.Checked.TheVariants.{Fine}
+use Rattle.register_program.specs.Registers.{registers_of, program_in, targets_in}
+use Rattle.drawing.specs.Writing.{made}
 use Rattle.file_contents.specs.Reading.{pair}
 use Rattle.pso_replay.specs.Answers.{pso_steps}
 use Rattle.verdict.specs.declared.answer.Verdict as declared
@@ -99,42 +97,21 @@ RegisterPsoReachability =
     (f w e : List ℕ) (area n k : ℕ) → registers_of f ≡ made w → judged (pair w e) area ≡ pso n k
     → StepsAreRead (pair w e) n × PsoReachesWithRegisters (program_in f) (targets_in f) (memory_in (pair w e)) (pso_steps (steps_in (pair w e) n)) n k
 
--- ---- what C gets: the answer of `hrafnolt_registers`, and the verdict on the bytes that it left
-
--- What the contract of `hrafnolt_registers` (crates/exports) says of its answer a for the file f; `before` is the output
--- as it was lent, `after` as it was left.
-pub record AnsweredRegisters (f before after : List ℕ) (a : Written) : Type 0 where
-  pub answer : a ≡ answered_or 29 (length before) (registers_of f)
-  pub output : after ≡ left_in before (registers_of f)
-
--- no record of f is refused
-abbrev pub RegistersAreRead : List ℕ → Type 0
-RegistersAreRead f = (part_of f).answer ≡ Fine
-
--- number 0 is said only where bytes are written, and they are the first `value` of the output
-abbrev pub RegistersForC : Type 0
-RegistersForC =
-    (f before after : List ℕ) (a : Written) → AnsweredRegisters f before after a → a.number ≡ 0
-    → RegistersAreRead f × (a.value ≤ length after) × (registers_of f ≡ made (take a.value after))
-
--- The two answers together: a is that of `hrafnolt_registers`, with number 0, and r that of `hrafnolt_judge_pair` on the
--- bytes left and any evidence e. Nothing else is assumed. Kinds 0, 1 and 3:
+-- ---- what C gets: kinds 0, 1 and 3
 
 abbrev pub RegisterSafeForC : Type 0
 RegisterSafeForC =
-    (f before after e : List ℕ) (area : ℕ) (a : Written) (r : declared.Verdict) → AnsweredRegisters f before after a → a.number ≡ 0
-    → Answered (pair (take a.value after) e) area r → r.kind ≡ 0 → RegistersAreRead f × NoneVisitedWithRegisters (program_in f) (targets_in f)
+    (f w e : List ℕ) (area : ℕ) (r : declared.Verdict) → registers_of f ≡ made w → Answered (pair w e) area r → r.kind ≡ 0
+    → NoneVisitedWithRegisters (program_in f) (targets_in f)
 
 abbrev pub RegisterReachableForC : Type 0
 RegisterReachableForC =
-    (f before after e : List ℕ) (area : ℕ) (a : Written) (r : declared.Verdict) → AnsweredRegisters f before after a → a.number ≡ 0
-    → let x = pair (take a.value after) e in Answered x area r → r.kind ≡ 1
-    → RegistersAreRead f × StepsAreRead x r.first
-    × ReachesWithRegisters (program_in f) (targets_in f) (memory_in x) (steps_in x r.first) r.first r.second
+    (f w e : List ℕ) (area : ℕ) (r : declared.Verdict) → registers_of f ≡ made w → Answered (pair w e) area r → r.kind ≡ 1
+    → StepsAreRead (pair w e) r.first
+    × ReachesWithRegisters (program_in f) (targets_in f) (memory_in (pair w e)) (steps_in (pair w e) r.first) r.first r.second
 
 abbrev pub RegisterPsoForC : Type 0
 RegisterPsoForC =
-    (f before after e : List ℕ) (area : ℕ) (a : Written) (r : declared.Verdict) → AnsweredRegisters f before after a → a.number ≡ 0
-    → let x = pair (take a.value after) e in Answered x area r → r.kind ≡ 3
-    → RegistersAreRead f × StepsAreRead x r.first
-    × PsoReachesWithRegisters (program_in f) (targets_in f) (memory_in x) (pso_steps (steps_in x r.first)) r.first r.second
+    (f w e : List ℕ) (area : ℕ) (r : declared.Verdict) → registers_of f ≡ made w → Answered (pair w e) area r → r.kind ≡ 3
+    → StepsAreRead (pair w e) r.first
+    × PsoReachesWithRegisters (program_in f) (targets_in f) (memory_in (pair w e)) (pso_steps (steps_in (pair w e) r.first)) r.first r.second

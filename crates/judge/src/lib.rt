@@ -166,6 +166,17 @@ fn judge_file(alone: bool, code: &[u8], file: &[u8], work: &mut [u8]) -> Answer
     replay_answer(code, file, contents, &mut work[..16384])
 }
 
+// What each judgement leaves of a work area, with nothing judged: a report, which is judged in parts, ends with it (document 02, N10).
+pub fn clear_area(work: &mut [u8])
+    ensures { work.new ≡ area_after work.old }
+{
+    let size = work.len();
+    if size < 65536 {
+        return;
+    }
+    clear_used(work, used_of(size));
+}
+
 // The answer. Afterwards the first 16,384 bytes of the work area and twelve for each entry allowed are 0, and the rest is untouched; after 8 all
 // of it is.
 fn judge_and_clear(alone: bool, code: &[u8], file: &[u8], work: &mut [u8]) -> Answer

@@ -51,11 +51,15 @@ last_says S i (t ∷ ts) d = go (pso_in_target S t d) refl (pso_lowest_met S (su
     missed : pso_in_target S t d ≡ false → PsoInTarget S t d → ⊥
     missed e h = subst T e (target_yes S.processes d.state t h)
 
+    later : pso_in_target S t d ≡ false → (n : ℕ) → ((j : ℕ) → j < n → PsoInTarget S (get_or ts j (λ p. 0)) d → ⊥)
+        → (j : ℕ) → j < suc n → PsoInTarget S (get_or (t ∷ ts) j (λ p. 0)) d → ⊥
+    later e n h zero l z = missed e z
+    later e n h (suc j) l z = h j (omega arith) z
+
     go : (b : Bool) → pso_in_target S t d ≡ b → (o : Option ℕ) → LastSays S (suc i) ts d o → LastSays S i (t ∷ ts) d (cond b (some i) o)
     go true e o h = (0, omega arith, omega arith, target_is S t d (subst T (sym e) tt), λ j l z. omega arith)
-    go false e none h = λ j. elim j [ zero ↦ λ l z. missed e z | suc j ↦ λ l z. h j (omega arith) z ]
-    go false e (some k) h =
-        (suc h.0, omega (arith, h.1), omega (arith, h.2), h.3, λ j. elim j [ zero ↦ λ l z. missed e z | suc j ↦ λ l z. h.4 j (omega arith) z ])
+    go false e none h = later e (length ts) h
+    go false e (some k) h = (suc h.0, omega (arith, h.1), omega (arith, h.2), h.3, later e h.0 h.4)
 
 -- ---- from a configuration on: n is the number of all steps, k that of those taken
 

@@ -13,7 +13,6 @@ use Rattle.machine_pws.specs.Program as pws
 use Rattle.machine_pws.specs.Machine.{Configuration}
 use Rattle.machine_pso.specs.Machine.{PsoConfiguration, pso_may, pso_after}
 use Rattle.machine_pso.specs.Runs.{pso_start_with, pso_in_target}
-use Rattle.file_records.specs.declared.program.Shape.{Shape}
 use Rattle.file_records.specs.declared.program.Program.{Program}
 use Rattle.file_records.specs.Records.{step_at}
 use Rattle.file_records.specs.ProgramPart.{shape_of, program_of, targets_of}

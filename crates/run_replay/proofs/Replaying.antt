@@ -15,7 +15,6 @@ use Rattle.machine_pws.specs.Program as pws
 use Rattle.machine_pws.specs.Machine.{Configuration, last_write, may, after}
 use Rattle.machine_pws.specs.Configurations.{in_target, start_with}
 use Rattle.machine_pws.specs.Sequences as sequences
-use Rattle.file_records.specs.declared.program.Shape.{Shape}
 use Rattle.file_records.specs.declared.program.Program.{Program}
 use Rattle.base.specs.Bytes.{choose, byte}
 use Rattle.file_records.specs.Records.{is_kind, state_at, step_body, step_at}

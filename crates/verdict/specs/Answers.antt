@@ -1,6 +1,5 @@
 -- The code's answers: document 01's number and values for each, and the verdict as C has it, with the offending record (document 02, N6).
-use Rattle.std.specs.Prelude.{ℕ, ◌≡◌, Bool, cond, List, length}
-use Rattle.machine_pws.specs.declared.Step.{Step}
+use Rattle.std.specs.Prelude.{ℕ, ◌≡◌, Bool, cond, length}
 use Rattle.machine_pws.specs.declared.Step.TheVariants.{Take, Serialise, Update}
 use Rattle.verdict.specs.declared.answer.Answer.{Answer}
 use Rattle.verdict.specs.declared.answer.Answer.TheVariants.{Safe, Reachable, Pso, Unread, Unheld, Started, Entered, Stopped, Missed}

@@ -1,42 +1,16 @@
-use mathlib.Core.Logic.{⊎_elim}
-use lib.ListN.{length, length-replicate, replicate}
+use lib.ListN.{length, replicate}
 use Rattle.run_layout.specs.Layout.{move_of}
 use Rattle.run_step.specs.Answering.{answer_in}
 use Rattle.run_replay.specs.Loop.{run_from, replay_in}
 use Rattle.run_layout.proofs.AreaLaws.{snapshot_length}
 use Rattle.run_replay.proofs.Replaying.{replay_right}
-use Prim.Native.Nat.{ℕ, ◌-◌}
+use Prim.Native.Nat.{ℕ}
 use mathlib.Core.Path.{◌≡◌, sym, ap, ◌∙◌}
 use native.Mathlib.Omega.{arith}
 use Rattle.run_replay.proofs.LoopLaws.{replaying_begin, replaying-done, replaying-stopped, replaying-next}
 use borrow.Author.Rules.{rules}
 use Rattle.run_replay.proofs.run.replay_steps.Goals as goal
-
-kept : (c : tie.After-slice-known4 invariant_loop decreases_loop) → length c.before.before.clear.new.0 ≡ length c.before.before.before.before.before.before.before.before.before.before.before.before.before.before.before.before.before.before.before.args.lower.now
-kept c =
-    ap length c.before.before.clear.ensures ∙ length-replicate _ _ ∙ c.before.before.before.before.before.loop.invariant.same ∙ ap length c.before.before.before.before.before.before.before.before.before.before.put-snapshot.ensures ∙ snapshot_length _ _ _
-
-four : (c : tie.Start invariant_loop decreases_loop) → length c.args.program.initial ≡ 4
-four c = search rules
-
-values : (c : tie.Start invariant_loop decreases_loop) → length c.args.memory ≡ 4
-values c = search rules
-
-said : (c : tie.After-slice-known4 invariant_loop decreases_loop)
-    → c.before.before.before.before.if1.verdict ≡ replay_in c.before.before.before.before.before.before.before.before.before.before.before.before.before.before.before.before.before.before.before.args.code.now c.before.before.before.before.before.before.before.before.before.before.before.before.before.before.before.before.before.before.before.args.file.now c.before.before.before.before.before.before.before.before.before.before.before.before.before.before.before.before.before.before.before.args.program c.before.before.before.before.before.before.before.before.before.before.before.before.before.before.before.before.before.before.before.args.memory c.before.before.before.before.before.before.before.before.before.before.before.before.before.before.before.before.before.before.before.args.at c.before.before.before.before.before.before.before.before.before.before.before.before.before.before.before.before.before.before.before.args.count c.before.before.before.before.before.before.before.before.before.before.before.before.before.before.before.before.before.before.before.args.lower.now
-said c =
-    let g = c.before.before.before.before.before.before.before.before.before.before.before.before.before.before.before.before.before.before.before.args.code.now in
-    let f = c.before.before.before.before.before.before.before.before.before.before.before.before.before.before.before.before.before.before.before.args.file.now in
-    let s = c.before.before.before.before.before.before.before.before.before.before.before.before.before.before.before.before.before.before.before.args.program.shape in
-    let transitions = c.before.before.before.before.before.before.before.before.before.before.before.before.before.before.before.before.before.before.before.args.program.transitions in
-    let targets = c.before.before.before.before.before.before.before.before.before.before.before.before.before.before.before.before.before.before.before.args.program.targets in
-    let n = c.before.before.before.before.before.before.before.before.before.before.before.before.before.before.before.before.before.before.before.args.count in
-    let I = c.before.before.before.before.before.loop.invariant in
-    ⊎_elim
-    (λ w. w.3 ∙ w.2.ensures ∙ replaying-done I w.0.taken)
-    (λ w. w.8 ∙ w.7.ensures ∙ replaying-stopped I w.4.result w.6.given.0.0 w.0.left (w.4.ensures ∙ ap (answer_in c.before.before.before.before.before.loop.run c.before.before.before.before.before.loop.rows c.before.before.before.before.before.loop.lower s) (w.2.ensures ∙ ap (move_of g transitions) w.1.ensures)) w.6.given.1)
-    c.before.before.before.before.if1.branch
-    ∙ (λ i. run_from g f s transitions targets n 0 c.before.before.before.before.before.before.before.before.before.before.before.before.before.before.before.before.before.before.before.args.at (c.before.before.before.before.before.before.before.first_run.ensures i) (c.before.before.before.before.before.before.first_rows.ensures i) (c.before.before.before.before.before.before.before.before.before.before.put-snapshot.ensures i) n)
+use Rattle.run_replay.proofs.run.replay_steps.Goals.{then-count-i, else-count-i+in_default}
 
 pub loop-i-init : goal.loop-i-init
 loop-i-init c = replaying_begin _ _ _ _ _ _ _ _ _ _
@@ -60,8 +34,21 @@ loop-i-preserved c = let g = c.args.code.now in
     (sym c.step_answer-answer.ensures ∙ c.in-Permitted.is)
     c.next_step-k.ensures c.after-run.ensures c.rows_after-next.ensures c.store.ensures
 
-pub shape_of-lower : goal.shape_of-lower
-shape_of-lower c = kept c
-
 pub returns : goal.returns
-returns c = let a = c.args in record { value = said c; lower_after = c.clear.ensures ∙ ap (λ (k : ℕ). replicate k 0) (c.loop-i.invariant.same ∙ ap length c.put_snapshot.ensures ∙ snapshot_length _ _ _); value_2 = (λ R few room. said c ∙ replay_right a.code.now a.file.now a.program R (four c.before.before.before.before.before.before.before.before.before.before.before.before.before.before.before.before.before.before.before) a.memory (values c.before.before.before.before.before.before.before.before.before.before.before.before.before.before.before.before.before.before.before) a.at a.count few a.lower.now room) }
+returns c =
+    let a = c.args in
+    let I = c.loop-i.invariant in
+    let said : c.if-count-i.verdict ≡ replay_in a.code.now a.file.now a.program a.memory a.at a.count a.lower.now =
+    (elim c.if-count-i.branch [
+      | then-count-i w ↦ w.verdict-is ∙ w.last_answer-verdict.ensures ∙ replaying-done I w.if-count-i.true
+      | else-count-i+in_default w ↦ w.verdict-is ∙ w.stopped_by-verdict.ensures
+          ∙ replaying-stopped I w.step_answer-answer.result w.in_default.field-0 w.if-count-i.false
+          (w.step_answer-answer.ensures ∙ ap (answer_in c.loop-i.run c.loop-i.rows c.loop-i.lower a.program.shape) (w.move_of-step.ensures ∙ ap (move_of a.code.now a.program.transitions) w.step_at.ensures))
+          w.in_default.is
+    ])
+    ∙ (λ i. run_from a.code.now a.file.now a.program.shape a.program.transitions a.program.targets a.count 0 a.at (c.first_run-run.ensures i) (c.first_rows-rows.ensures i) (c.put_snapshot.ensures i) a.count) in
+    record {
+      value = said;
+      lower_after = c.clear.ensures ∙ ap (λ (k : ℕ). replicate k 0) (I.same ∙ ap length c.put_snapshot.ensures ∙ snapshot_length _ _ _);
+      value_2 = (λ R few room. said ∙ replay_right a.code.now a.file.now a.program R (search rules) a.memory (search rules) a.at a.count few a.lower.now room);
+    }
