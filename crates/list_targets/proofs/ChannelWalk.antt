@@ -25,10 +25,10 @@ use Rattle.list_theory.specs.Cubes.{any_message}
 use Rattle.list_theory.specs.Shapes.{Outline, choices, allowed, outlines, longest, outline_memory, memory_shapes, queue_shapes, shape_cubes}
 use Rattle.list_theory.proofs.Lists.{each_in}
 use Rattle.list_theory.proofs.Shapes.{memory_shape, queues_shape}
-use Rattle.list_targets.specs.ShapeCube.{outline_of, empty_shape}
+use Rattle.list_targets.specs.ShapeCube.{outline_of}
 use Rattle.file_contents.specs.declared.entry.Cube.{Cube}
 use Rattle.list_theory.specs.Family.{family_cube, family_cubes}
-use Rattle.list_targets.specs.Walk.{with_queues, choices_from, Leaf, target_leaf, family_leaf, cubes_after, outline_cubes, all_cubes, label_cubes, choice_cubes}
+use Rattle.list_targets.specs.Walk.{choices_from, Leaf, target_leaf, family_leaf, cubes_after, outline_cubes, all_cubes, label_cubes, choice_cubes}
 use Rattle.list_targets.proofs.ListLaws.{each_append, each_one, each_below, each_each, each_map, each_none, below_none, each_itself}
 
 -- ---- places

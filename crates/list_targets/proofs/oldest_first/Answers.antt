@@ -1,4 +1,4 @@
-use Prim.Native.Nat.{◌-◌, ◌≤◌}
+use Prim.Native.Nat.{◌≤◌}
 use lib.ListN.{length}
 use Rattle.list_targets.proofs.ShapeLaws.{turned_begin, turned_next, turned_all}
 use borrow.Author.Rules.{rules}
