@@ -104,6 +104,7 @@ module _ (S : Shape) (R : ShapeInRange S) (e : Configuration) (oe : Fits (ValueO
   top = serialise_before S e p v (on_top v)
 
   same-channel : (ms : List Message) → FillChannel top.memory.channel ms → FillChannel e.memory.channel ms
+  same-channel [] x' = elim x' [ ]
   same-channel (m ∷ ms) (channel_cons f r) =
       let l = labelled_is (topmost e.memory.channel) p v label in
       channel_newest e.memory.channel oe.memory.some
