@@ -15,4 +15,4 @@ pub clear_used-requires : goal.clear_used-requires
 clear_used-requires c = omega (arith, used_fits (length c.args.work.now) (omega (arith, c.if-n-lt65536.false)), c.used_of.ensures)
 
 pub returns : goal.returns
-returns c = record { result_value = c.judge_file-answer.ensures.result_value; result_value_2 = c.judge_file-answer.ensures.result_value_2; work_after = c.clear_used.ensures ∙ ap (λ (n : ℕ). replicate n 0 ++ drop n c.judge_file-answer.new.1.1.1.0) c.used_of.ensures ∙ cleared_all c.args.work.now c.judge_file-answer.new.1.1.1.0 c.if-n-lt65536.false c.judge_file-answer.ensures.work_unchanged }
+returns c = record { result_value = c.judge_file-answer.ensures.result_value; result_value_2 = c.judge_file-answer.ensures.result_value_2; work_after = c.clear_used.ensures ∙ ap (λ (n : ℕ). replicate n 0 ++ drop n c.judge_file-answer.new.work) c.used_of.ensures ∙ cleared_all c.args.work.now c.judge_file-answer.new.work c.if-n-lt65536.false c.judge_file-answer.ensures.work_unchanged }
