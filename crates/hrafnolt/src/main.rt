@@ -1,7 +1,7 @@
 // Reads a file from standard input to its end, judges it, and prints one line (document 01).
 #![tactic(auto)]
 
-ghost use Rattle.std.specs.Prelude.{◌≡◌, ◌++◌, ◌∷◌, ◌+◌, ◌≤◌, length, take};
+ghost use Rattle.std.specs.Prelude.{◌≡◌, ◌++◌, ◌∷◌, ◌+◌, ◌≤◌, length, take, IfOk};
 ghost use Rattle.io.specs.Counts.{IsPrefixLen};
 ghost use Rattle.verdict.specs.Judge.{Verdict as Judge-as-Verdict};
 ghost use Rattle.verdict.specs.Answers.{in_c, with_record};
@@ -11,8 +11,10 @@ ghost use Rattle.hrafnolt.specs.Line.{Numbered, LineOf, word_of, step_in, StepKn
 
 use drawing::step_letters;
 use judge::judge;
-use libc::{STDERR_FILENO, STDIN_FILENO, STDOUT_FILENO};
 use machine_pws::Step;
+use std::env::FillError;
+use std::io::{Read, Result};
+use std::rt::Env;
 use verdict::answer::Verdict;
 
 // Room for the longest input that is judged, and one byte more.
@@ -154,25 +156,45 @@ fn line_for(input: &[u8], line: &mut [u8]) -> usize
     put_line(line, verdict)
 }
 
-fn main() {
-    // whoever names a file would wait for a verdict on it
-    if os::arg_count() > 1 {
-        io::write_all(
-            STDERR_FILENO,
-            b"usage: hrafnolt <FILE (it takes no argument; hrafnolt-files does)\n",
-        );
-        return;
+// ---- the program
+
+// Is there an argument beside the program's name, be it empty, long or no text?
+fn has_argument(rt: &impl Env) -> bool {
+    let mut name = [0u8; 1];
+    !matches!(rt.arg(1, &mut name), Err(FillError::NotPresent))
+}
+
+// Reads until the buffer is full or the input ends. A read that fails is not the input's end.
+fn read_full<R: Read>(reader: &mut R, buf: &mut [u8]) -> Result<usize>
+    ensures { IfOk result (λ n. IsPrefixLen n buf.new) }
+{
+    let mut done = 0;
+    while done < buf.len() {
+        let n = reader.read(&mut buf[done..])?;
+        if n == 0 {
+            break;
+        }
+        done += n;
     }
+    Ok(done)
+}
+
+fn main(rt: HostRuntime) -> Result<()> {
+    // whoever names a file would wait for a verdict on it
+    if has_argument(&rt) {
+        return rt.eprintln("usage: hrafnolt <FILE (it takes no argument; hrafnolt-files does)");
+    }
+    let mut stdin = rt.stdin();
     let mut input = input_buffer();
-    let n = io::read_full(STDIN_FILENO, &mut input);
-    // a read that failed is not the input's end, and what was read until then is not judged
+    let n = read_full(&mut stdin, &mut input)?;
+    // an end with more behind it, as a terminal may give, is not the input's end, and what was read until then is not judged
     let mut more = [0u8; 1];
     if n <= 65536 {
-        if libc::read(STDIN_FILENO, &mut more) != 0 {
-            return;
+        if stdin.read(&mut more)? != 0 {
+            return Ok(());
         }
     }
     let mut line = [0u8; 64];
     let k = line_for(&input[..n], &mut line);
-    io::write_all(STDOUT_FILENO, &line[..k]);
+    rt.write_all(&line[..k])
 }
