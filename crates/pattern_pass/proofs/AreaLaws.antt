@@ -20,7 +20,7 @@ use Rattle.file_contents.specs.Reading.{Input, evidence_at}
 use Rattle.pattern_theory.specs.Patterns.{Pattern}
 use Rattle.pattern_reading.specs.Records.{Given, claim_number, pattern_number}
 use Rattle.pattern_reading.specs.Reading.{pattern_of, PatternRead, whole, bad}
-use Rattle.pattern_pass.specs.Passing.{PatternsListed, listed_then, given_then, listed_from, Passed, no_patterns, listed, evidence_passed, passed_of, pass_area}
+use Rattle.pattern_pass.specs.Passing.{PatternsListed, listed_then, given_then, listed_from, Passed, listed, passed_of, pass_area}
 use Rattle.pattern_pass.proofs.SeenLaws.{read_pattern}
 use Rattle.pattern_pass.proofs.PassLaws.{evidence_refused, evidence_listed, passed_short, passed_refused, passed_evidence}
 

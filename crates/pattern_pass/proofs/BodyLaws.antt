@@ -1,32 +1,27 @@
 -- What a record of a pattern says when it is fine, and what holds of a pattern with it.
 use Prim.Native.Nat.{ℕ, ◌+◌, ◌<◌, ◌≤◌}
-use mathlib.Core.Path.{◌≡◌, refl, sym, ap, subst, ◌∙◌}
-use mathlib.Core.Logic.{inl, inr}
+use mathlib.Core.Path.{◌≡◌, refl, sym, subst}
 use mathlib.Core.Bool.{Bool, true, false, cond, ◌&&◌, not}
-use mathlib.Core.Option.{Option, none, some}
-use mathlib.Core.List.{List, [], ◌∷◌, ◌++◌}
+use mathlib.Core.List.{List}
 use native.Mathlib.Omega.{arith}
-use native.Mathlib.Decide.{ℕ_discrete, dec_lt}
-use lib.ListN.{length, length-append}
+use native.Mathlib.Decide.{ℕ_discrete}
+use lib.ListN.{length}
 use lib.Dec.{eqb, leb, ltb}
-use borrow.Author.Tests.{eq-eqb, ne_eqb, lt-ltb, le-ltb, leb-true, leb-false, ltb-true, not-false}
+use borrow.Author.Tests.{ne_eqb, lt-ltb, leb-true, leb-false, ltb-true, not-false}
 use Rattle.machine_pws.specs.Entries.{ValueOrFF}
 use Rattle.machine_pws.specs.Machine.{put}
-use Rattle.machine_pws.proofs.Facts.{put_same, put_other, put_each}
+use Rattle.machine_pws.proofs.Facts.{put_same, put_other}
 use Rattle.base.specs.Bytes.{byte, cut}
 use Rattle.base.proofs.ByteLaws.{cut_fits}
 use Rattle.file_records.specs.declared.program.Shape.{Shape}
 use Rattle.file_records.specs.declared.program.Checked.TheVariants.{Fine}
-use Rattle.file_records.specs.Records.{checked, is_kind, value_count, exists, value_name, state_names, waiting_names, waiting_number}
+use Rattle.file_records.specs.Records.{checked, is_kind, value_count, exists, waiting_names, waiting_number}
 use Rattle.file_records.specs.ProgramPart.{shape_of}
 use Rattle.file_records.proofs.RecordLaws.{Good, good}
 use Rattle.file_records.proofs.ProgramLaws.{and_true}
-use Rattle.file_again.proofs.Tables.{of_four}
-use Rattle.file_again.proofs.Names.{both_exist, value_inside, waiting_in}
-use Rattle.pattern_theory.specs.Patterns.{PathRead}
-use Rattle.pattern_theory.specs.Verdict.{ReadsOf, is_some}
-use Rattle.pattern_reading.specs.Records.{asked, Given, newest_names, pattern_number, newest_at, beginning, read_names, read_number, mark_names, mark_number, body_number, body_size, with_value, read_at, read_put, with_mark, extended}
-use Rattle.pattern_reading.specs.Places.{ValueOrAny, ValuesOrAny, GivenWithin}
+use Rattle.file_again.proofs.Names.{both_exist, waiting_in}
+use Rattle.pattern_theory.specs.Verdict.{is_some}
+use Rattle.pattern_reading.specs.Records.{Given, read_names, read_number, mark_names, mark_number, body_number, body_size}
 
 -- ---- one of a table by two numbers
 

@@ -1,28 +1,24 @@
 -- What the pass hands on is what readPatterns says, with the places of the patterns in the work area.
-use Prim.Native.Nat.{ℕ, zero, suc, ◌+◌, ◌*◌, ◌-◌, ◌/◌, ◌<◌, ◌≤◌, min}
-use mathlib.Core.Path.{◌≡◌, refl, sym, ap, ap₂, subst, ◌∙◌}
+use Prim.Native.Nat.{ℕ, zero, suc, ◌+◌, ◌*◌, ◌-◌, ◌<◌, ◌≤◌}
+use mathlib.Core.Path.{◌≡◌, refl, sym, ap, subst, ◌∙◌}
 use mathlib.Core.Bool.{Bool, true, false, cond}
 use mathlib.Core.List.{List, [], ◌∷◌, ◌++◌}
 use native.Mathlib.Omega.{arith}
 use native.Mathlib.Decide.{dec_lt}
 use lib.ListN.{length, get_or, take, drop, length-drop}
 use lib.Seq.{length-take-le, drop_at}
-use lib.Dec.{leb, ltb}
+use lib.Dec.{leb}
 use borrow.Author.Tests.{lt-ltb, le-ltb}
 use Rattle.base.specs.Bytes.{choose, le32}
 use Rattle.file_records.specs.declared.program.Shape.{Shape}
-use Rattle.file_records.specs.declared.program.Refusal.{Refusal}
 use Rattle.file_records.specs.declared.program.Checked.{Checked}
 use Rattle.file_records.specs.declared.program.Checked.TheVariants.{Fine, Refused}
 use Rattle.file_records.specs.declared.program.Program.{Program}
 use Rattle.file_records.specs.Records.{checked}
-use Rattle.file_records.specs.ProgramPart.{unless_end, program_from, program_of, targets_of}
+use Rattle.file_records.specs.ProgramPart.{unless_end, program_from}
 use Rattle.file_records.proofs.RecordLaws.{fine_refused}
-use Rattle.file_contents.specs.declared.evidence.Part.{Part}
-use Rattle.file_contents.specs.declared.evidence.Part.TheVariants.{InProgram, InEvidence}
 use Rattle.file_contents.specs.EvidencePart.{entries_allowed, wrote_from}
 use Rattle.file_contents.specs.Reading.{Input, evidence_at, list_area}
-use Rattle.file_again.specs.Again.{offset_at}
 use Rattle.file_again.proofs.Names.{no_true}
 use Rattle.file_again.proofs.Entries.{wrote_at}
 use Rattle.file_again.proofs.ProgramPart.{part_shape, part_sizes, claim_near}
@@ -33,7 +29,7 @@ use Rattle.pattern_reading.specs.Reading.{pattern_of, PatternRead, whole, bad, P
 use Rattle.pattern_reading.specs.Reading as reading
 use Rattle.pattern_reading.specs.Places.{PatternAt, PatternsAt}
 use Rattle.pattern_pass.specs.declared.reading.PatternReading.{PatternReading}
-use Rattle.pattern_pass.specs.Passing.{PatternsListed, listed_then, given_then, listed_from, Passed, no_patterns, listed, evidence_passed, passed_of, pass_reading, pass_area, HandsOn, PassHandsOn}
+use Rattle.pattern_pass.specs.Passing.{PatternsListed, listed_then, given_then, listed_from, Passed, listed, passed_of, pass_reading, pass_area, HandsOn, PassHandsOn}
 use Rattle.pattern_pass.proofs.SeenLaws.{read_pattern}
 use Rattle.pattern_pass.proofs.ListedLaws.{head_fine}
 use Rattle.pattern_pass.proofs.PassLaws.{evidence_refused, evidence_listed, passed_short, passed_refused, passed_evidence}

@@ -1,6 +1,6 @@
 -- Laws of the pass over patterns and of the list of their offsets.
 use Prim.Native.Nat.{ℕ, zero, suc, ◌+◌, ◌*◌, ◌-◌, ◌<◌, ◌≤◌}
-use mathlib.Core.Path.{◌≡◌, refl, sym, ap, ap₂, subst, ◌∙◌}
+use mathlib.Core.Path.{◌≡◌, refl, sym, ap, ap₂, ◌∙◌}
 use mathlib.Core.Bool.{Bool, true, false, cond, ◌&&◌, not}
 use mathlib.Core.List.{List, [], ◌∷◌, ◌++◌}
 use native.Mathlib.Omega.{arith}
@@ -23,7 +23,7 @@ use Rattle.pattern_reading.specs.Records.{Given, pattern_number, newest_names, b
 use Rattle.pattern_reading.specs.Reading.{pattern_of, complete, PatternRead, whole, bad, at_boundary, finished, body_then, pattern_from}
 use Rattle.pattern_pass.specs.declared.pass.PatternEnd.TheVariants.{Next, Bad}
 use Rattle.pattern_pass.specs.Seen.{end_of_pattern}
-use Rattle.pattern_pass.specs.Passing.{PatternsListed, stopped_at, listed_from}
+use Rattle.pattern_pass.specs.Passing.{stopped_at, listed_from}
 use Rattle.pattern_pass.proofs.SeenLaws.{read_pattern}
 
 -- ---- a pattern ends past its 13

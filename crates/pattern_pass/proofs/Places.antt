@@ -1,14 +1,12 @@
 -- A pattern that was read: what its records give is within the limits, and it is near to its 13.
 use Prim.Native.Nat.{ℕ, zero, suc, ◌+◌, ◌*◌, ◌<◌, ◌≤◌}
 use mathlib.Core.Path.{◌≡◌, refl, sym, ap, subst, ◌∙◌}
-use mathlib.Core.Logic.{inl, inr}
-use mathlib.Core.Bool.{Bool, true, false, cond, ◌||◌}
+use mathlib.Core.Bool.{Bool, true, false, cond}
 use mathlib.Core.Option.{Option, none, some}
 use mathlib.Core.List.{List, [], ◌∷◌, ◌++◌}
 use native.Mathlib.Omega.{arith}
-use native.Mathlib.Decide.{ℕ_discrete}
 use lib.ListN.{length, length-append}
-use lib.Dec.{eqb, leb, ltb}
+use lib.Dec.{ltb}
 use borrow.Author.Tests.{eqb-true, ne_eqb, lt-ltb, le-ltb, ltb-true, le-leb}
 use Rattle.machine_pws.specs.Entries.{ValueOrFF}
 use Rattle.machine_pws.specs.Machine.{put}
@@ -17,12 +15,11 @@ use Rattle.base.specs.Bytes.{choose, byte}
 use Rattle.file_records.specs.declared.program.Shape.{Shape}
 use Rattle.file_records.specs.declared.program.Checked.{Checked}
 use Rattle.file_records.specs.declared.program.Checked.TheVariants.{Fine, Refused}
-use Rattle.file_records.specs.declared.program.Refusal.{Refusal}
 use Rattle.file_records.specs.Records.{checked, is_kind, value_count, exists, state_at}
 use Rattle.file_records.specs.ProgramPart.{shape_of}
 use Rattle.file_again.proofs.Tables.{of_four}
 use Rattle.file_again.proofs.Names.{value_inside}
-use Rattle.pattern_theory.specs.Patterns.{PathRead, Pattern}
+use Rattle.pattern_theory.specs.Patterns.{PathRead}
 use Rattle.pattern_theory.specs.Verdict.{ReadsOf, is_some}
 use Rattle.pattern_reading.specs.Records.{asked, Given, pattern_number, newest_names, newest_at, beginning, body_number, body_size, with_value, read_at, read_put, with_mark, extended}
 use Rattle.pattern_reading.specs.Reading.{pattern_of, complete, whole, bad, at_boundary, finished, body_then, pattern_from}

@@ -1,6 +1,6 @@
 -- Laws of the pass over one pattern: its loop, and the counts that stand for what was read.
 use Prim.Native.Nat.{ℕ, zero, suc, ◌+◌, ◌*◌, ◌-◌, ◌<◌, ◌≤◌}
-use mathlib.Core.Path.{◌≡◌, refl, sym, ap, ap₂, subst, ◌∙◌}
+use mathlib.Core.Path.{◌≡◌, refl, sym, ap, ap₂, ◌∙◌}
 use mathlib.Core.Bool.{Bool, true, false, cond, ◌&&◌, ◌||◌, not}
 use mathlib.Core.Option.{Option, none, some}
 use mathlib.Core.List.{List, [], ◌∷◌, ◌++◌}
@@ -10,14 +10,12 @@ use lib.ListN.{length, get_or, set, replicate, length-append, length-set, length
 use lib.Seq.{get_or-set_same, get_or-set_other}
 use lib.Dec.{eqb, leb, ltb}
 use borrow.Author.Tests.{eq-eqb, ne_eqb, leb-false, ltb-true}
-use Rattle.machine_pws.specs.Machine.{all_below, put}
 use Rattle.machine_pws.proofs.Facts.{put_same, put_other}
-use Rattle.base.specs.Bytes.{choose, byte}
+use Rattle.base.specs.Bytes.{byte}
 use Rattle.file_records.specs.declared.program.Shape.{Shape}
 use Rattle.file_records.specs.declared.program.Refusal.{Refusal}
 use Rattle.file_records.specs.declared.program.Checked.TheVariants.{Fine, Refused}
 use Rattle.file_records.specs.Records.{checked, is_kind, exists, waiting_number}
-use Rattle.file_records.proofs.ProgramLaws.{and_true}
 use Rattle.file_contents.specs.Tally.{queue_at}
 use Rattle.file_again.proofs.Names.{both_exist}
 use Rattle.list_key.proofs.Below.{all_equal}

@@ -19,7 +19,7 @@ use Rattle.file_contents.specs.Reading.{Input, evidence_at, list_area}
 use Rattle.file_again.specs.Contents.{ProgramSizes}
 use Rattle.pattern_theory.specs.Patterns.{Pattern}
 use Rattle.pattern_reading.specs.Records.{Given, claim_number, pattern_number, beginning}
-use Rattle.pattern_reading.specs.Reading.{pattern_of, PatternRead, whole, bad, pattern_from, PatternFile, refused, patterns, read_patterns}
+use Rattle.pattern_reading.specs.Reading.{pattern_of, PatternRead, whole, bad, pattern_from, refused, patterns, read_patterns}
 use Rattle.pattern_reading.specs.Places.{PatternsAt}
 use Rattle.pattern_pass.specs.declared.reading.PatternReading.{PatternReading}
 

@@ -15,7 +15,7 @@ use Rattle.pattern_theory.specs.Predecessors.{provided, from_option, can_empty, 
 use Rattle.pattern_step.specs.declared.patterns.Pattern.{Pattern}
 use Rattle.pattern_step.specs.declared.editing.Before.{Before}
 use Rattle.pattern_step.specs.Meaning.{place_of, Stands, GivenBy, absent, present}
-use Rattle.pattern_step.specs.Numbers.{read_numbered, many, arw_numbered, operation_count, read_before, operation_numbered, FineOperation}
+use Rattle.pattern_step.specs.Numbers.{read_numbered, arw_numbered, operation_count, read_before, operation_numbered, FineOperation}
 use Rattle.pattern_step.proofs.EditLaws.{wider}
 
 module _ (s : Shape) (r : Before) (e : patterns.Pattern) (p j : ℕ) {o : Operation} where

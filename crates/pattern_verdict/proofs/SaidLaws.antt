@@ -28,9 +28,8 @@ use Rattle.verdict.specs.Answers.{verdict_in, in_c, offending_in, answer_in_c}
 use Rattle.verdict.proofs.Verdicts.{code, list_code}
 use Rattle.pattern_theory.specs.Patterns.{Pattern}
 use Rattle.pattern_theory.specs.Verdict.{pattern_verdict}
-use Rattle.pattern_reading.specs.Reading.{PatternsRead, read, stopped, PatternFile, refused, patterns, evidence_read, evidence_from, program_then, files_read, read_patterns, unread, judged, of_patterns, pattern_answer}
+use Rattle.pattern_reading.specs.Reading.{PatternsRead, read, stopped, PatternFile, refused, patterns, evidence_read, evidence_from, program_then, files_read, read_patterns, judged, of_patterns, pattern_answer}
 use Rattle.pattern_reading.proofs.Safety.{file_judged}
-use Rattle.pattern_verdict.specs.Offending.{patterns_offending}
 use Rattle.pattern_verdict.specs.Said.{of_pattern_answer, refused_in_c, patterns_said_in_c, PatternFileJudged, PatternsAnswered, AlwaysAnswered, CalledSafe, KindZero}
 
 module _ (x : Input) (area : ℕ) where

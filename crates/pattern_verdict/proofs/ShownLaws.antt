@@ -1,15 +1,15 @@
 -- Laws of the record that a refusal of a pattern file hands back.
-use Prim.Native.Nat.{ℕ, ◌+◌, ◌-◌, ◌≤◌, ◌<◌, min}
-use mathlib.Core.Path.{◌≡◌, refl, sym, ap, ◌∙◌}
+use Prim.Native.Nat.{ℕ, ◌+◌, ◌-◌, ◌≤◌, min}
+use mathlib.Core.Path.{◌≡◌, sym, ap, ◌∙◌}
 use mathlib.Core.Bool.{Bool, true, false, cond}
 use mathlib.Core.List.{List}
 use native.Mathlib.Omega.{arith}
-use lib.ListN.{length, take, drop, length-take, length-drop}
+use lib.ListN.{length, drop, length-take, length-drop}
 use lib.Dec.{eqb}
 use Rattle.base.specs.Bytes.{byte}
 use Rattle.file_contents.specs.declared.evidence.Part.{Part}
 use Rattle.file_contents.specs.Reading.{Input}
-use Rattle.file_again.specs.Offending.{Offending, bytes_of, is_of_record, offending_by}
+use Rattle.file_again.specs.Offending.{bytes_of, is_of_record, offending_by}
 use Rattle.file_again.proofs.OffendingLaws.{of_record}
 use Rattle.verdict.specs.declared.answer.Verdict as declared
 use Rattle.verdict.specs.Judge.{Verdict}

@@ -1,7 +1,6 @@
 -- What C gets for a pattern file, or for a program file and an evidence file (docs/PATTERNS.md, "Records"). The area afterwards is the judge's
 -- areaAfter (verdict, Judge).
 use Rattle.std.specs.Prelude.{ℕ, ◌≡◌, List}
-use Rattle.machine_pws.specs.Program.{Program}
 use Rattle.file_records.specs.declared.program.Refusal.{Refusal}
 use Rattle.file_records.specs.declared.program.Checked.TheVariants.{Fine}
 use Rattle.file_records.specs.ProgramPart.{program_from, program_of, targets_of}

@@ -1,4 +1,3 @@
-use Prim.Native.Nat.{◌-◌}
 use native.Mathlib.Omega.{arith}
 use Rattle.pattern_index.proofs.IndexLaws.{indexed_short, indexed_full, indexed_many, adding_begin, adding_next, adding_end}
 use Rattle.pattern_index.proofs.index_patterns.Goals as goal

@@ -1,8 +1,12 @@
-use Prim.Native.Nat.{◌-◌}
+use Prim.Native.Nat.{ℕ}
 use mathlib.Core.Path.{◌≡◌, sym, ap, ◌∙◌}
-use mathlib.Core.Bool.{true, false}
+use mathlib.Core.Bool.{Bool, true, false}
+use mathlib.Core.List.{List}
 use native.Mathlib.Omega.{arith}
 use borrow.Author.Tests.{not-true, not-false}
+use Rattle.file_records.specs.declared.program.Shape.{Shape}
+use Rattle.pattern_pass.specs.declared.seen.Seen.{Seen}
+use Rattle.file_records.specs.declared.program.Checked.{Checked}
 use Rattle.file_records.specs.declared.program.Checked.TheVariants.{Fine, Refused}
 use Rattle.pattern_pass.specs.declared.pass.PatternEnd.TheVariants.{Bad}
 use Rattle.file_records.specs.Records.{checked}
@@ -12,11 +16,11 @@ use Rattle.pattern_pass.specs.Seen.{seen_number, seen_complete, end_of_pattern}
 use Rattle.pattern_pass.proofs.SeenLaws.{sofar_begin, sofar-room, sofar-fits, sofar-next, sofar_stops, sofar_ends}
 use Rattle.pattern_pass.proofs.pass.pattern_from.Goals as goal
 
-beyond : (c : tie.After-at-boundary invariant_loop decreases_loop) → c.at-boundary.result ≡ false → at_boundary c.before.before.before.args.file.now c.before.loop.k ≡ false
-beyond c e = sym c.at-boundary.ensures ∙ e
+beyond : {r : Bool} (f : List ℕ) (k : ℕ) → r ≡ at_boundary f k → r ≡ false → at_boundary f k ≡ false
+beyond f k e h = sym e ∙ h
 
-found : (c : tie.After-enum-told invariant_loop decreases_loop) → checked (seen_number c.before.before.before.before.before.before.before.before.args.shape c.before.before.before.before.before.before.before.before.args.file.now c.before.before.before.before.before.before.loop.k c.before.before.before.before.before.before.loop.seen) c.before.before.before.before.before.before.loop.k ≡ Fine
-found c = sym (c.before.before.answer.ensures ∙ ap (λ n. checked n c.before.before.before.before.before.before.loop.k) c.before.before.before.seen-number.ensures) ∙ c.enum_told.given.1
+found : {n : ℕ} {r : Checked} (s : Shape) (f : List ℕ) (k : ℕ) (t : Seen) → r ≡ checked n k → n ≡ seen_number s f k t → r ≡ Fine → checked (seen_number s f k t) k ≡ Fine
+found s f k t e q h = sym (e ∙ ap (λ n. checked n k) q) ∙ h
 
 pub loop-answer-init : goal.loop-answer-init
 loop-answer-init c = sofar_begin c.args.shape c.args.file.now c.args.start c.requires.0
@@ -28,20 +32,20 @@ returns-in_default c = let a = c.args in
     let t = c.loop-answer.seen in
     let e : checked (seen_number a.shape f k t) k ≡ Refused c.in_default.field-0 = sym (c.answer-answer.ensures ∙ ap (λ n. checked n k) c.seen_number.ensures) ∙ c.in_default.is in
     ap Bad (c.refusal_of.ensures ∙ ap refusal_of c.in_default.is)
-    ∙ sym (ap end_of_pattern (sofar_stops a.shape c.requires.1 c.requires.2 f a.start t k c.loop-answer.invariant c.in_default.field-0 (beyond c.before.before.before.before.before.before (not-true _ c.loop-answer-test.true-raw)) e))
+    ∙ sym (ap end_of_pattern (sofar_stops a.shape c.requires.1 c.requires.2 f a.start t k c.loop-answer.invariant c.in_default.field-0 (beyond c.args.file.now c.loop-answer.k c.at_boundary.ensures (not-true _ c.loop-answer-test.true-raw)) e))
 
 pub seen_more-seen-requires : goal.seen_more-seen-requires
-seen_more-seen-requires c = sofar-room c.args.shape c.requires.1 c.requires.2 c.args.file.now c.args.start c.loop-answer.seen c.loop-answer.k c.loop-answer.invariant (beyond c.before.before.before.before.before (not-true _ c.loop-answer-test.true-raw)) (found c)
+seen_more-seen-requires c = sofar-room c.args.shape c.requires.1 c.requires.2 c.args.file.now c.args.start c.loop-answer.seen c.loop-answer.k c.loop-answer.invariant (beyond c.args.file.now c.loop-answer.k c.at_boundary.ensures (not-true _ c.loop-answer-test.true-raw)) (found c.args.shape c.args.file.now c.loop-answer.k c.loop-answer.seen c.answer-answer.ensures c.seen_number.ensures c.in-Fine.is)
 
 pub overflow_add-k-in-loop-answer : goal.overflow_add-k-in-loop-answer
-overflow_add-k-in-loop-answer c = omega (arith, c.body_size-k.ensures, (sofar-fits c.args.shape c.requires.1 c.requires.2 c.args.file.now c.args.start c.loop-answer.seen c.loop-answer.k c.loop-answer.invariant (beyond c.before.before.before.before.before.before.before (not-true _ c.loop-answer-test.true-raw)) (found c.before.before)).0)
+overflow_add-k-in-loop-answer c = omega (arith, c.body_size-k.ensures, (sofar-fits c.args.shape c.requires.1 c.requires.2 c.args.file.now c.args.start c.loop-answer.seen c.loop-answer.k c.loop-answer.invariant (beyond c.args.file.now c.loop-answer.k c.at_boundary.ensures (not-true _ c.loop-answer-test.true-raw)) (found c.args.shape c.args.file.now c.loop-answer.k c.loop-answer.seen c.answer-answer.ensures c.seen_number.ensures c.in-Fine.is)).0)
 
 pub loop-answer-smaller : goal.loop-answer-smaller
-loop-answer-smaller c = let w = sofar-fits c.args.shape c.requires.1 c.requires.2 c.args.file.now c.args.start c.loop-answer.seen c.loop-answer.k c.loop-answer.invariant (beyond c.before.before.before.before.before.before.before (not-true _ c.loop-answer-test.true-raw)) (found c.before.before) in
+loop-answer-smaller c = let w = sofar-fits c.args.shape c.requires.1 c.requires.2 c.args.file.now c.args.start c.loop-answer.seen c.loop-answer.k c.loop-answer.invariant (beyond c.args.file.now c.loop-answer.k c.at_boundary.ensures (not-true _ c.loop-answer-test.true-raw)) (found c.args.shape c.args.file.now c.loop-answer.k c.loop-answer.seen c.answer-answer.ensures c.seen_number.ensures c.in-Fine.is) in
     omega (arith, c.body_size-k.ensures, w.0, w.1)
 
 pub loop-answer-preserved : goal.loop-answer-preserved
-loop-answer-preserved c = rw (c.seen_more-seen.ensures, c.body_size-k.ensures) (sofar-next c.args.shape c.requires.1 c.requires.2 c.args.file.now c.args.start c.loop-answer.seen c.loop-answer.k c.loop-answer.invariant (beyond c.before.before.before.before.before.before.before (not-true _ c.loop-answer-test.true-raw)) (found c.before.before))
+loop-answer-preserved c = rw (c.seen_more-seen.ensures, c.body_size-k.ensures) (sofar-next c.args.shape c.requires.1 c.requires.2 c.args.file.now c.args.start c.loop-answer.seen c.loop-answer.k c.loop-answer.invariant (beyond c.args.file.now c.loop-answer.k c.at_boundary.ensures (not-true _ c.loop-answer-test.true-raw)) (found c.args.shape c.args.file.now c.loop-answer.k c.loop-answer.seen c.answer-answer.ensures c.seen_number.ensures c.in-Fine.is))
 
 pub returns-then-is_complete : goal.returns-then-is_complete
 returns-then-is_complete c = let a = c.args in

@@ -9,19 +9,12 @@ use Rattle.file_records.specs.declared.program.Counted.TheVariants.{Records, Sto
 use Rattle.file_records.specs.Records.{checked}
 use Rattle.file_records.specs.ProgramPart.{refusal_of}
 use Rattle.file_contents.specs.EvidencePart.{wrote_from}
-use Rattle.pattern_reading.specs.Records.{Given, pattern_number}
-use Rattle.pattern_reading.specs.Reading.{whole}
+use Rattle.pattern_reading.specs.Records.{pattern_number}
 use Rattle.pattern_pass.specs.Seen.{end_refused}
 use Rattle.pattern_pass.specs.Passing.{PatternsListed, stopped_at, listed_from, count_listed}
 use Rattle.pattern_pass.proofs.SeenLaws.{read_pattern}
 use Rattle.pattern_pass.proofs.ListedLaws.{pattern_past, end_whole, end_bad, head_fine, list_ends, head-stops, pattern-refused, wrote_length, listed_begin, listed_next}
 use Rattle.pattern_pass.proofs.pass.patterns_from.Goals as goal
-
-head : (c : tie.After-enum-told invariant_loop decreases_loop) → checked (pattern_number c.before.before.before.before.before.before.before.args.shape c.before.before.before.before.before.before.before.args.states c.before.before.before.before.before.before.before.args.file.now c.before.before.before.before.loop.k (leb c.before.before.before.before.before.before.before.args.allowed c.before.before.before.before.loop.n)) c.before.before.before.before.loop.k ≡ Fine
-head c = sym c.before.before.check-pattern.ensures ∙ c.enum_told.given.1
-
-body : (c : tie.After-end invariant_loop decreases_loop) → (e : Given) × (read_pattern c.before.before.before.before.before.before.before.before.before.before.args.shape c.before.before.before.before.before.before.before.before.before.before.args.file.now c.before.before.before.before.before.before.before.loop.k ≡ whole e c.end.given.0.0)
-body c = end_whole (read_pattern c.before.before.before.before.before.before.before.before.before.before.args.shape c.before.before.before.before.before.before.before.before.before.before.args.file.now c.before.before.before.before.before.before.before.loop.k) c.end.given.0.0 (sym c.before.before.pattern-from.ensures ∙ c.end.given.1)
 
 same : (list₀ : List ℕ) {list : List ℕ} (os : List ℕ) → list ≡ wrote_from 0 os list₀ → length list ≡ length list₀
 same list₀ os e = ap length e ∙ wrote_length 0 os list₀
@@ -42,7 +35,7 @@ returns-in_default c = let a = c.args in
     record { value = ap Stopped (c.refusal_of.ensures ∙ ap refusal_of c.in_default.is) ∙ sym (ap count_listed e); list_after = L.wrote ∙ sym (ap (λ (x : PatternsListed). wrote_from 0 x.offsets a.list.now) e) }
 
 pub pattern_from-end-requires : goal.pattern_from-end-requires
-pattern_from-end-requires c = let g = head_fine c.args.file.now c.loop-k.k c.args.shape c.args.states (leb c.args.allowed c.loop-k.n) (head c) in
+pattern_from-end-requires c = let g = head_fine c.args.file.now c.loop-k.k c.args.shape c.args.states (leb c.args.allowed c.loop-k.n) (sym c.check_pattern-head.ensures ∙ c.in-Fine.is) in
     (g.1, c.requires.0, c.requires.1)
 
 pub shape_of-list-in_default-end : goal.shape_of-list-in_default-end
@@ -54,17 +47,17 @@ returns-in_default-end c = let a = c.args in
     let r = c.in_default-end.field-0 in
     let d = end_bad (read_pattern a.shape a.file.now c.loop-k.k) r (sym c.pattern_from-end.ensures ∙ c.in_default-end.is) in
     let e : listed_from a.allowed a.shape a.states a.file.now a.at [] [] ≡ stopped_at L.offsets L.patterns r =
-    sym L.reads ∙ pattern-refused a.shape a.states a.file.now c.loop-k.k L.offsets L.patterns a.allowed c.loop-k.n c.loop-k-test.true (head c.before.before.before.before) r d in
+    sym L.reads ∙ pattern-refused a.shape a.states a.file.now c.loop-k.k L.offsets L.patterns a.allowed c.loop-k.n c.loop-k-test.true (sym c.check_pattern-head.ensures ∙ c.in-Fine.is) r d in
     record { value = ap Stopped (c.end_refusal.ensures ∙ ap end_refused c.in_default-end.is) ∙ sym (ap count_listed e); list_after = L.wrote ∙ sym (ap (λ (x : PatternsListed). wrote_from 0 x.offsets a.list.now) e) }
 
 pub overflow_add-n : goal.overflow_add-n
 overflow_add-n c = omega (arith, c.loop-k.invariant.most, c.requires.2)
 
 pub loop-k-smaller : goal.loop-k-smaller
-loop-k-smaller c = omega (arith, c.loop-k-test.true, pattern_past c.args.shape c.args.file.now c.loop-k.k (body c.before.before.before.before.before.before).0 c.in-Next.next (body c.before.before.before.before.before.before).1)
+loop-k-smaller c = omega (arith, c.loop-k-test.true, pattern_past c.args.shape c.args.file.now c.loop-k.k (end_whole (read_pattern c.args.shape c.args.file.now c.loop-k.k) c.in-Next.next (sym c.pattern_from-end.ensures ∙ c.in-Next.is)).0 c.in-Next.next (end_whole (read_pattern c.args.shape c.args.file.now c.loop-k.k) c.in-Next.next (sym c.pattern_from-end.ensures ∙ c.in-Next.is)).1)
 
 pub loop-k-preserved : goal.loop-k-preserved
-loop-k-preserved c = listed_next c.loop-k.invariant (body c.before.before.before.before.before.before).0 c.loop-k-test.true (head c.before.before.before.before.before.before.before.before.before) (body c.before.before.before.before.before.before).1 (omega (arith, c.word_place.ensures, c.loop-k.invariant.most, c.requires.2)) c.store_number.ensures
+loop-k-preserved c = listed_next c.loop-k.invariant (end_whole (read_pattern c.args.shape c.args.file.now c.loop-k.k) c.in-Next.next (sym c.pattern_from-end.ensures ∙ c.in-Next.is)).0 c.loop-k-test.true (sym c.check_pattern-head.ensures ∙ c.in-Fine.is) (end_whole (read_pattern c.args.shape c.args.file.now c.loop-k.k) c.in-Next.next (sym c.pattern_from-end.ensures ∙ c.in-Next.is)).1 (omega (arith, c.word_place.ensures, c.loop-k.invariant.most, c.requires.2)) c.store_number.ensures
 
 pub shape_of-list : goal.shape_of-list
 shape_of-list c = same c.args.list.now c.loop-k.invariant.offsets c.loop-k.invariant.wrote

@@ -1,4 +1,3 @@
-use Prim.Native.Nat.{◌-◌}
 use lib.ListN.{get_or}
 use Rattle.pattern_step.proofs.MessageLaws.{digits_are}
 use Rattle.pattern_step.proofs.messages.digits.Goals as goal

@@ -1,4 +1,4 @@
-use Prim.Native.Nat.{◌-◌, ◌<◌, ◌≤◌}
+use Prim.Native.Nat.{◌<◌, ◌≤◌}
 use mathlib.Core.Path.{◌≡◌}
 use Rattle.pattern_step.specs.Numbers.{places_more}
 use Rattle.pattern_step.proofs.MessageLaws.{four_of}

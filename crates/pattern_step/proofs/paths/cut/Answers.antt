@@ -1,6 +1,4 @@
-use Prim.Native.Nat.{◌-◌}
 use mathlib.Core.Path.{sym}
-use lib.ListN.{length}
 use Rattle.pattern_step.specs.Meaning.{path_of}
 use Rattle.pattern_step.proofs.ClueLaws.{length_mapped}
 use Rattle.pattern_step.proofs.PathLaws.{reads_length, cut_reads}

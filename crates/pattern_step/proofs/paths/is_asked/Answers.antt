@@ -1,4 +1,3 @@
-use Prim.Native.Nat.{◌-◌}
 use Rattle.pattern_step.specs.Meaning.{newest_of}
 use Rattle.pattern_step.proofs.PathLaws.{own_unasked, asks_none, asks_some}
 use Rattle.pattern_step.proofs.paths.is_asked.Goals as goal

@@ -1,7 +1,7 @@
 use native.Mathlib.Numerals.{unary_clauses}
 use Prim.Native.Nat.{suc}
 use lib.ListN.{drop_of_length-le}
-use Prim.Native.Nat.{◌-◌, ◌≤◌}
+use Prim.Native.Nat.{◌≤◌}
 use mathlib.Core.Path.{sym, ap, ◌∙◌}
 use mathlib.Core.List.{List, [], ◌∷◌}
 use lib.ListN.{length, get_or, drop}

@@ -1,5 +1,4 @@
 use native.Mathlib.Numerals.{unary_clauses}
-use Prim.Native.Nat.{◌-◌}
 use mathlib.Core.Path.{◌≡◌, sym, ap, ◌∙◌}
 use Rattle.pattern_theory.specs.Patterns.{PathRead}
 use Rattle.pattern_step.specs.Meaning.{no_read, read_of, reads_of, place_of}

@@ -1,4 +1,3 @@
-use Prim.Native.Nat.{◌-◌}
 use Rattle.pattern_step.proofs.PathLaws.{other_variable, other-value, own-goes, goes}
 use Rattle.pattern_step.proofs.paths.same_read.Goals as goal
 
