@@ -3,11 +3,5 @@ use Rattle.verdict.specs.Answers.{stepless, with_record}
 use borrow.Author.Rules.{rules}
 use Rattle.report_verdict.proofs.unread.Goals as goal
 
-record_place_requires : tie.Need-record-place-requires
-record_place_requires c κs = search rules
-
-record_length_requires : tie.Need-record-length-requires
-record_length_requires c κs = search rules
-
 pub returns : goal.returns
 returns c = c.with_record.ensures ∙ ap₂ (λ a l. with_record (stepless 2 c.args.refusal.number c.args.refusal.place) 0 a l) c.record_place-at.ensures c.record_length-size.ensures

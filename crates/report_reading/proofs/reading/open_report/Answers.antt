@@ -9,9 +9,6 @@ use Rattle.report_reading.proofs.OpenLaws.{open_short}
 use Rattle.report_reading.proofs.OpenReturns.{program_returned, marks-returned, marks-room, due-returned, all-returned}
 use Rattle.report_reading.proofs.reading.open_report.Goals as goal
 
-room : (c : tie.After-known-told) → c.before.before.before.before.before.before.before.before.before.before.program-end.result + 2 * c.before.marks.given.0.0 ≤ length c.before.before.before.before.before.before.before.before.before.before.before.before.before.args.file.now
-room c = marks-room c.before.before.before.before.before.before.before.before.before.before.before.before.before.args.file.now c.before.before.before.before.before.before.before.before.before.before.before.before.before.args.area c.before.before.before.before.before.before.before.before.before.before.before.if1.false _ c.before.before.before.before.before.before.before.before.before.before.program-end.ensures _ c.before.before.before.before.before.before.before.before.read-program.ensures c.before.before.before.before.before.before.enum_told.given.1 _ c.before.before.before.marks-from.ensures c.before.marks.given.0.0 c.before.marks.given.1
-
 pub returns-then-area-lt65536 : goal.returns-then-area-lt65536
 returns-then-area-lt65536 c = c.report_refused.ensures ∙ sym (ap (report_opened c.args.file.now) (open_short c.args.file.now c.args.area c.if-area-lt65536.true))
 
@@ -25,10 +22,10 @@ pub returns-in_default-marks : goal.returns-in_default-marks
 returns-in_default-marks c = marks-returned c.args.file.now c.args.area c.if-area-lt65536.false _ c.program_end-end.ensures _ c.read_program-part.ensures c.in-Fine.is _ c.marks_from-marks.ensures c.in_default-marks.field-0 c.in_default-marks.is _ c.stop_of.ensures _ c.report_refused-in_default-marks.ensures
 
 pub overflow_mul-n : goal.overflow_mul-n
-overflow_mul-n c = omega (arith, room c)
+overflow_mul-n c = omega (arith, marks-room c.args.file.now c.args.area c.if-area-lt65536.false _ c.program_end-end.ensures _ c.read_program-part.ensures c.in-Fine.is _ c.marks_from-marks.ensures c.in-Records.n c.in-Records.is)
 
 pub overflow_add-end : goal.overflow_add-end
-overflow_add-end c = omega (arith, room c)
+overflow_add-end c = omega (arith, marks-room c.args.file.now c.args.area c.if-area-lt65536.false _ c.program_end-end.ensures _ c.read_program-part.ensures c.in-Fine.is _ c.marks_from-marks.ensures c.in-Records.n c.in-Records.is)
 
 pub returns-in_default-due : goal.returns-in_default-due
 returns-in_default-due c = due-returned c.args.file.now c.args.area c.if-area-lt65536.false _ c.program_end-end.ensures _ c.read_program-part.ensures c.in-Fine.is _ c.marks_from-marks.ensures c.in-Records.n c.in-Records.is _ c.due_claim-due.ensures c.in_default-due.field-0 c.in_default-due.is _ c.refusal_of-in_default-due.ensures _ c.report_refused-in_default-due.ensures

@@ -22,9 +22,6 @@ ends f k n = not (is_kind f k 48)
 abbrev check : ℕ → List ℕ → ℕ → ℕ → Checked
 check transitions f k n = checked (mark_number transitions f k n) k
 
-found : (c : tie.After-enum-told invariant_loop decreases_loop) → check c.before.before.before.before.before.before.before.args.transitions c.before.before.before.before.before.before.before.args.file.now c.before.before.before.before.before.loop.k c.before.before.before.before.before.loop.n ≡ Fine
-found c = sym c.before.before.check-mark.ensures ∙ c.enum_told.given.1
-
 pub loop-answer-init : goal.loop-answer-init
 unfolding marks_from
 loop-answer-init c = (search rules, refl)
@@ -43,11 +40,11 @@ returns-in_default c = let a = c.args in
 
 pub overflow_add-k : goal.overflow_add-k
 unfolding marks_from
-overflow_add-k c = omega (arith, cut_fits c.args.file.now c.loop-answer.k 1 (mark_fine c.args.transitions c.args.file.now c.loop-answer.k c.loop-answer.n (found c)).whole)
+overflow_add-k c = omega (arith, cut_fits c.args.file.now c.loop-answer.k 1 (mark_fine c.args.transitions c.args.file.now c.loop-answer.k c.loop-answer.n (sym c.check_mark-answer.ensures ∙ c.in-Fine.is)).whole)
 
 pub loop-answer-smaller : goal.loop-answer-smaller
 unfolding marks_from
-loop-answer-smaller c = omega (arith, leb-false 8 c.loop-answer.n (mark_fine c.args.transitions c.args.file.now c.loop-answer.k c.loop-answer.n (found c)).room)
+loop-answer-smaller c = omega (arith, leb-false 8 c.loop-answer.n (mark_fine c.args.transitions c.args.file.now c.loop-answer.k c.loop-answer.n (sym c.check_mark-answer.ensures ∙ c.in-Fine.is)).room)
 
 pub loop-answer-preserved : goal.loop-answer-preserved
 unfolding marks_from
@@ -56,8 +53,8 @@ loop-answer-preserved c = let a = c.args in
     let k = c.loop-answer.k in
     let n = c.loop-answer.n in
     let d : is_kind f k 48 ≡ true = sym c.is_kind.ensures ∙ c.loop-answer-test.true in
-    let l = leb-false 8 n (mark_fine a.transitions f k n (found c)).room in
-    (omega arith, sym (row_step (ends f) (check a.transitions f) (λ k. 2) 8 k n l (ap not d) (found c)) ∙ c.loop-answer.invariant.1)
+    let l = leb-false 8 n (mark_fine a.transitions f k n (sym c.check_mark-answer.ensures ∙ c.in-Fine.is)).room in
+    (omega arith, sym (row_step (ends f) (check a.transitions f) (λ k. 2) 8 k n l (ap not d) (sym c.check_mark-answer.ensures ∙ c.in-Fine.is)) ∙ c.loop-answer.invariant.1)
 
 pub returns : goal.returns
 unfolding marks_from
