@@ -179,22 +179,28 @@ fn read_full<R: Read>(reader: &mut R, buf: &mut [u8]) -> Result<usize>
     Ok(done)
 }
 
-fn main(rt: HostRuntime) -> Result<()> {
+fn main(rt: HostRuntime) {
     // whoever names a file would wait for a verdict on it
     if has_argument(&rt) {
-        return rt.eprintln("usage: hrafnolt <FILE (it takes no argument; hrafnolt-files does)");
+        let _ = rt.eprintln("usage: hrafnolt <FILE (it takes no argument; hrafnolt-files does)");
+        return;
     }
     let mut stdin = rt.stdin();
     let mut input = input_buffer();
-    let n = read_full(&mut stdin, &mut input)?;
-    // an end with more behind it, as a terminal may give, is not the input's end, and what was read until then is not judged
+    let n = match read_full(&mut stdin, &mut input) {
+        Ok(n) => n,
+        // a read that failed is not the input's end, and what was read until then is not judged
+        Err(_) => return,
+    };
+    // the input's end is where a read gives no byte, twice
     let mut more = [0u8; 1];
     if n <= 65536 {
-        if stdin.read(&mut more)? != 0 {
-            return Ok(());
+        match stdin.read(&mut more) {
+            Ok(0) => {}
+            _ => return,
         }
     }
     let mut line = [0u8; 64];
     let k = line_for(&input[..n], &mut line);
-    rt.write_all(&line[..k])
+    let _ = rt.write_all(&line[..k]);
 }
