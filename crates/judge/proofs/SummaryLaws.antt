@@ -2,25 +2,24 @@
 use Prim.Native.Nat.{ℕ, zero, suc, ◌+◌, ◌*◌, ◌-◌, ◌/◌, ◌%◌, ◌<◌, ◌≤◌}
 use mathlib.Core.Path.{◌≡◌, refl, sym, ap, ap₂, subst, ◌∙◌}
 use mathlib.Core.Bool.{Bool, true, false, ◌&&◌}
-use mathlib.Core.List.{List, [], ◌∷◌, ◌++◌, append_assoc}
+use mathlib.Core.List.{List, [], ◌∷◌, ◌++◌}
 use native.Mathlib.Omega.{arith}
-use lib.ListN.{length, get_or, set, take, drop, replicate, length-append, length-drop, length-replicate, get_or-replicate, get_or-append}
-use lib.Seq.{length-take-le, take_at, drop_at, drop-drop, get_or-take, take_all}
+use lib.ListN.{length, set, take, drop, replicate, length-append, length-drop, length-replicate, get_or-replicate, get_or-append}
+use lib.Seq.{length-take-le, take_at, drop_at, drop-drop, get_or-take}
 use lib.Dec.{eqb, leb, ltb}
 use borrow.Author.Tests.{le-leb, ltb-false, eqb-false}
 use Rattle.machine_pws.specs.Machine.{Configuration}
 use Rattle.machine_pws.specs.Entries.{entry}
 use Rattle.file_records.specs.declared.program.Program.{Program}
 use Rattle.file_records.specs.declared.program.Shape.{Shape}
-use Rattle.file_contents.specs.declared.entry.Cube.{Cube}
 use Rattle.base.specs.Bytes.{choose, byte, le32, put32}
 use Rattle.file_records.specs.ProgramPart.{table_from, program_of, targets_of}
 use Rattle.list_theory.specs.Decision.{verdict_of}
 use Rattle.file_contents.specs.Cube.{configuration_of, load_entry}
-use Rattle.file_again.specs.Again.{offset_at, cube_at, entries_of}
+use Rattle.file_again.specs.Again.{cube_at, entries_of}
 use Rattle.file_again.specs.Contents.{EntryRange, CubeRange}
 use Rattle.list_key.specs.Number.{number_of, states_mixed}
-use Rattle.list_summary.specs.Slots.{word, put_word, linked, head_link, next_link, count_at, hung, put_field, home_of, mark_in}
+use Rattle.list_summary.specs.Slots.{put_word, linked, head_link, next_link, count_at, hung, put_field, home_of, mark_in}
 use Rattle.list_summary.specs.Groups.{states_at, same_states, leader_from, leader_of, joined_at, added, added_from, summarised}
 use Rattle.list_summary.specs.Summary.{Summed}
 use Rattle.list_summary.proofs.ChainLaws.{home_below}
