@@ -64,7 +64,7 @@ use Rattle.demands.specs.Demands.{
   ValuesInRange,
   PsoValuesInRange,
 }
-use Rattle.verdict.proofs.Verdicts.{kind, code, to_list, list_back, run_is, pso_is, never_both, run_high, list_code, is_run, short_file, judged_as, list-range, file-list-judged, judged_one}
+use Rattle.verdict.proofs.Verdicts.{kind, code, to_list, list_back, run_is, pso_is, never_both, run_high, list_code, is_run, short_file, judged_as, list_range, file_list_judged, judged_one}
 use Rattle.demands.proofs.Numbers.{refused_low, refused_large}
 use Rattle.demands.proofs.Runs.{RunJudged, run_judged, run_only, stopped_cannot, cannot_stopped}
 use Rattle.demands.proofs.PsoRuns.{never_pointer, stopped_halts, halts_stopped}
@@ -144,11 +144,11 @@ module _ (u : reading.Input) (area : ℕ) where
   run_memory P ts m ss q = (run_read_lem u area q).permitted
 
   module _ (P : Program) (ts : List (ℕ → ℕ)) (m : List ℕ) (ss : List Step) (q : Reads (reading.pso_run P ts m ss)) where
-    pub pso-run-formed : WellFormed P
-    pso-run-formed = (pso_run_read u area q).part.program.well_formed
+    pub pso_run_formed : WellFormed P
+    pso_run_formed = (pso_run_read u area q).part.program.well_formed
 
-    pso-run-memory : StartingMemory P.shape m
-    pso-run-memory = (pso_run_read u area q).permitted
+    pso_run_memory : StartingMemory P.shape m
+    pso_run_memory = (pso_run_read u area q).permitted
 
   -- what is said of a list, and of a run
 
@@ -157,14 +157,14 @@ module _ (u : reading.Input) (area : ℕ) where
     λ e. go (reading.read_file u area) refl e,
     λ x.
         judged_as u area _ x.reads
-        ∙ ap of_list (verdict_unique x.program x.targets x.entries (decision.verdict_of x.program x.targets x.entries) v (file-list-judged u area x.program x.targets x.entries x.reads) x.holds),
+        ∙ ap of_list (verdict_unique x.program x.targets x.entries (decision.verdict_of x.program x.targets x.entries) v (file_list_judged u area x.program x.targets x.entries x.reads) x.holds),
   )
     where
       go : (r : reading.FileRead) → Reads r → judged u area ≡ of_list v → OfList u area (λ P ts es. lists.ListJudged P ts es v)
       go (reading.refused w₀ r) q e = absurd (omega (arith, (refused_low u area w₀ r q).1, list_code v, ap code (sym (judged_as u area _ q) ∙ e)))
       go (reading.list P ts es) q e =
           let z = sym (list_back (decision.verdict_of P ts es)) ∙ ap to_list (sym (judged_as u area _ q) ∙ e) ∙ list_back v in
-          record { program = P; targets = ts; entries = es; reads = q; holds = subst (lists.ListJudged P ts es) z (file-list-judged u area P ts es q) }
+          record { program = P; targets = ts; entries = es; reads = q; holds = subst (lists.ListJudged P ts es) z (file_list_judged u area P ts es q) }
       go (reading.run P ts m ss) q e = absurd (never_both v _ (run_is (run_answer P ts m ss)) (sym e ∙ judged_as u area _ q))
       go (reading.pso_run P ts m ss) q e = absurd (never_both v _ (pso_is (pso_run_answer P m ts (pso_steps ss))) (sym e ∙ judged_as u area _ q))
 
@@ -181,7 +181,7 @@ module _ (u : reading.Input) (area : ℕ) where
   said_pso : (v : RunAnswer) → PsoRun v → judged u area ≡ of_pso_run v
   said_pso v x =
       judged_as u area _ x.reads
-      ∙ ap of_pso_run (sym (pso_only x.program (pso-run-formed _ _ _ _ x.reads) x.memory x.targets (pso_steps x.records) v x.holds))
+      ∙ ap of_pso_run (sym (pso_only x.program (pso_run_formed _ _ _ _ x.reads) x.memory x.targets (pso_steps x.records) v x.holds))
 
   -- w is the verdict of a run with the answer v, in one of the machines
   one_of_runs : (v : RunAnswer) (w : Verdict) → is_run w ≡ true → to_run w ≡ v → judged u area ≡ w → (Run v × (w ≡ of_run v)) ⊎ (PsoRun v × (w ≡ of_pso_run v))
@@ -215,7 +215,7 @@ module _ (u : reading.Input) (area : ℕ) where
               records = ss;
               reads = q;
               holds =
-                  subst (PsoAnswered P m ts (pso_steps ss)) z (pso_answered P (pso-run-formed P ts m ss q) m ts (pso_steps ss) (pso-run-memory P ts m ss q));
+                  subst (PsoAnswered P m ts (pso_steps ss)) z (pso_answered P (pso_run_formed P ts m ss q) m ts (pso_steps ss) (pso_run_memory P ts m ss q));
             },
             sym d ∙ ap of_pso_run z,
           )
@@ -311,7 +311,7 @@ pub refused_step : RefusedStep
 refused_step u area k = (
   λ w.
       let c = number_step w.0 w.1 in
-      ⊎_elim (λ x. inl (run-cannot c.0 x)) (λ x. inr (pso-cannot c.0 x))
+      ⊎_elim (λ x. inl (run_cannot c.0 x)) (λ x. inr (pso_cannot c.0 x))
       ((either_said u area (Stopped k c.0) (refused (cause_number c.0) k) refl refl).0 (w.2 ∙ ap (λ (m : ℕ). refused m k) (sym c.1))),
   ⊎_elim
       (λ x.
@@ -332,8 +332,8 @@ refused_step u area k = (
       )),
 )
   where
-    run-cannot : (cause : Cause) → OfRun u area (λ P ts m ss. RunJudged P ts m ss (Stopped k cause)) → OfRun u area (λ P ts m ss. Stops Cannot P m ss k)
-    run-cannot cause x =
+    run_cannot : (cause : Cause) → OfRun u area (λ P ts m ss. RunJudged P ts m ss (Stopped k cause)) → OfRun u area (λ P ts m ss. Stops Cannot P m ss k)
+    run_cannot cause x =
         record {
           program = x.program;
           targets = x.targets;
@@ -343,8 +343,8 @@ refused_step u area k = (
           holds = stopped_cannot x.program (run_formed u area _ _ _ _ x.reads) x.targets x.memory (run_memory u area _ _ _ _ x.reads) x.steps k cause x.holds;
         }
 
-    pso-cannot : (cause : Cause) → OfPsoRun u area (λ P ts m us. PsoAnswered P m ts us (Stopped k cause)) → OfPsoRun u area (λ P ts m us. PsoHalts P m us k)
-    pso-cannot cause x =
+    pso_cannot : (cause : Cause) → OfPsoRun u area (λ P ts m us. PsoAnswered P m ts us (Stopped k cause)) → OfPsoRun u area (λ P ts m us. PsoHalts P m us k)
+    pso_cannot cause x =
         record {
           program = x.program;
           targets = x.targets;
@@ -360,24 +360,24 @@ refused13 u area n = either_said u area (Missed n) (refused 13 n) refl refl
 pub no_other : NoOther
 no_other u area n k e = go (reading.read_file u area) refl
   where
-    list-most : (v : lists.ListVerdict) → of_list v ≡ refused n k → (9 ≤ n) × (n ≤ 10)
-    list-most (lists.safe m) e = absurd (let z : ◌≡◌ {A = ℕ} _ 2 = ap kind e in omega arith)
-    list-most (lists.unheld m) e = let z : 9 ≡ n = ap code e in (omega arith, omega arith)
-    list-most (lists.started m) e = let z : 10 ≡ n = ap code e in (omega arith, omega arith)
-    list-most (lists.entered m s) e = absurd (let z : ◌≡◌ {A = ℕ} 4 2 = ap kind e in omega arith)
+    list_most : (v : lists.ListVerdict) → of_list v ≡ refused n k → (9 ≤ n) × (n ≤ 10)
+    list_most (lists.safe m) e = absurd (let z : ◌≡◌ {A = ℕ} _ 2 = ap kind e in omega arith)
+    list_most (lists.unheld m) e = let z : 9 ≡ n = ap code e in (omega arith, omega arith)
+    list_most (lists.started m) e = let z : 10 ≡ n = ap code e in (omega arith, omega arith)
+    list_most (lists.entered m s) e = absurd (let z : ◌≡◌ {A = ℕ} 4 2 = ap kind e in omega arith)
 
-    run-most : (v : RunAnswer) → of_run v ≡ refused n k → (12 ≤ n) × (n ≤ 18) × (n ≡ 14 → ⊥)
-    run-most (Reachable m j) e = absurd (let z : ◌≡◌ {A = ℕ} _ 2 = ap kind e in omega arith)
-    run-most (Stopped m cause) e =
+    run_most : (v : RunAnswer) → of_run v ≡ refused n k → (12 ≤ n) × (n ≤ 18) × (n ≡ 14 → ⊥)
+    run_most (Reachable m j) e = absurd (let z : ◌≡◌ {A = ℕ} _ 2 = ap kind e in omega arith)
+    run_most (Stopped m cause) e =
         let z : cause_number cause ≡ n = ap code e in
         let w = cause_range cause in
         (omega (arith, w.0), omega (arith, w.1), λ q. w.2 (z ∙ q))
-    run-most (Missed m) e = let z : 13 ≡ n = ap code e in (omega arith, omega arith, λ q. omega arith)
+    run_most (Missed m) e = let z : 13 ≡ n = ap code e in (omega arith, omega arith, λ q. omega arith)
 
-    pso-most : (v : RunAnswer) → of_pso_run v ≡ refused n k → (12 ≤ n) × (n ≤ 18) × (n ≡ 14 → ⊥)
-    pso-most (Reachable m j) e = absurd (let z : ◌≡◌ {A = ℕ} _ 2 = ap kind e in omega arith)
-    pso-most (Stopped m cause) e = run-most (Stopped m cause) e
-    pso-most (Missed m) e = run-most (Missed m) e
+    pso_most : (v : RunAnswer) → of_pso_run v ≡ refused n k → (12 ≤ n) × (n ≤ 18) × (n ≡ 14 → ⊥)
+    pso_most (Reachable m j) e = absurd (let z : ◌≡◌ {A = ℕ} _ 2 = ap kind e in omega arith)
+    pso_most (Stopped m cause) e = run_most (Stopped m cause) e
+    pso_most (Missed m) e = run_most (Missed m) e
 
     go : (r : reading.FileRead) → reading.read_file u area ≡ r → (1 ≤ n) × (n ≤ 18) × (n ≡ 11 → ⊥) × (n ≡ 14 → ⊥)
     go (reading.refused w₀ r) q =
@@ -385,13 +385,13 @@ no_other u area n k e = go (reading.read_file u area) refl
         let z : r.number ≡ n = ap code (sym (judged_as u area _ q) ∙ e) in
         (omega (arith, w.0), omega (arith, w.1), λ x. omega (arith, w.1), λ x. omega (arith, w.1))
     go (reading.list P ts es) q =
-        let w = list-most (decision.verdict_of P ts es) (sym (judged_as u area _ q) ∙ e) in
+        let w = list_most (decision.verdict_of P ts es) (sym (judged_as u area _ q) ∙ e) in
         (omega (arith, w.0), omega (arith, w.1), λ x. omega (arith, w.1), λ x. omega (arith, w.1))
     go (reading.run P ts m ss) q =
-        let w = run-most (run_answer P ts m ss) (sym (judged_as u area _ q) ∙ e) in
+        let w = run_most (run_answer P ts m ss) (sym (judged_as u area _ q) ∙ e) in
         (omega (arith, w.0), w.1, λ x. omega (arith, w.0), w.2)
     go (reading.pso_run P ts m ss) q =
-        let w = pso-most (pso_run_answer P m ts (pso_steps ss)) (sym (judged_as u area _ q) ∙ e) in
+        let w = pso_most (pso_run_answer P m ts (pso_steps ss)) (sym (judged_as u area _ q) ∙ e) in
         (omega (arith, w.0), w.1, λ x. omega (arith, w.0), w.2)
 
 -- ---- demand 2
@@ -415,14 +415,14 @@ safety u area n e =
       targets = x.targets;
       entries = x.entries;
       reads = x.reads;
-      holds = list_safety x.program (list-range u area x.program x.targets x.entries x.reads).well_formed x.targets x.entries x.holds.1;
+      holds = list_safety x.program (list_range u area x.program x.targets x.entries x.reads).well_formed x.targets x.entries x.holds.1;
     }
 
 pub simulation : Simulation
 simulation u area P ts = (
-  λ es q. machine.simulation P (list-range u area P ts es q).well_formed,
+  λ es q. machine.simulation P (list_range u area P ts es q).well_formed,
   λ m ss q. machine.simulation P (run_formed u area P ts m ss q),
-  λ m ss q. machine.simulation P (pso-run-formed u area P ts m ss q),
+  λ m ss q. machine.simulation P (pso_run_formed u area P ts m ss q),
 )
 
 in_range_lem : (f : List ℕ) (P : Program) → WellFormed P → CountsOf P.shape (counts_in f) → CountsOf P.shape (counts_in f) × KeepsRanges P (counts_in f)
@@ -430,9 +430,9 @@ in_range_lem f P R C = (C, keeps_ranges P R (counts_in f) C)
 
 pub values_in_range : ValuesInRange
 values_in_range u area P ts = (
-  λ es q. in_range_lem u.code P (list-range u area P ts es q).well_formed (subst (HasCounts u.code) q (file_counts u area)),
+  λ es q. in_range_lem u.code P (list_range u area P ts es q).well_formed (subst (HasCounts u.code) q (file_counts u area)),
   λ m ss q. in_range_lem u.code P (run_formed u area P ts m ss q) (subst (HasCounts u.code) q (file_counts u area)),
-  λ m ss q. in_range_lem u.code P (pso-run-formed u area P ts m ss q) (subst (HasCounts u.code) q (file_counts u area)),
+  λ m ss q. in_range_lem u.code P (pso_run_formed u area P ts m ss q) (subst (HasCounts u.code) q (file_counts u area)),
 )
 
 pso_in_range : (f : List ℕ) (P : Program) → WellFormed P → CountsOf P.shape (counts_in f) → CountsOf P.shape (counts_in f) × PsoKeepsRanges P (counts_in f)
@@ -440,7 +440,7 @@ pso_in_range f P R C = (C, pso_keeps_ranges P R (counts_in f) C)
 
 pub pso_values_in_range : PsoValuesInRange
 pso_values_in_range u area P ts = (
-  λ es q. pso_in_range u.code P (list-range u area P ts es q).well_formed (subst (HasCounts u.code) q (file_counts u area)),
+  λ es q. pso_in_range u.code P (list_range u area P ts es q).well_formed (subst (HasCounts u.code) q (file_counts u area)),
   λ m ss q. pso_in_range u.code P (run_formed u area P ts m ss q) (subst (HasCounts u.code) q (file_counts u area)),
-  λ m ss q. pso_in_range u.code P (pso-run-formed u area P ts m ss q) (subst (HasCounts u.code) q (file_counts u area)),
+  λ m ss q. pso_in_range u.code P (pso_run_formed u area P ts m ss q) (subst (HasCounts u.code) q (file_counts u area)),
 )

@@ -68,19 +68,19 @@ group_agrees S es d = (into S d es, onto S d es)
 -- one entry more at the end
 group_more : (S : Shape) (d : Configuration) (g : ℕ → Configuration) (i n : ℕ)
     → length (group S (table_from g i (suc n)) d) ≡ length (group S (table_from g i n) d) + cond (equal_states S (g (i + n)) d) 1 0
-group_more S d g i zero = go (equal_states S (g i) d) ∙ ap (λ (x : ℕ). 0 + cond (equal_states S (g x) d) 1 0) i-0
+group_more S d g i zero = go (equal_states S (g i) d) ∙ ap (λ (x : ℕ). 0 + cond (equal_states S (g x) d) 1 0) i_0
   where
-    i-0 : i ≡ i + 0
-    i-0 = omega arith
+    i_0 : i ≡ i + 0
+    i_0 = omega arith
 
     go : (b : Bool) → length (choose b (λ _. g i ∷ []) (λ _. [])) ≡ 0 + cond b 1 0
     go true = refl
     go false = refl
 group_more S d g i (suc n) =
-    go (equal_states S (g i) d) (group_more S d g (suc i) n ∙ ap (λ (x : ℕ). length (group S (table_from g (suc i) n) d) + cond (equal_states S (g x) d) 1 0) i-suc)
+    go (equal_states S (g i) d) (group_more S d g (suc i) n ∙ ap (λ (x : ℕ). length (group S (table_from g (suc i) n) d) + cond (equal_states S (g x) d) 1 0) i_suc)
   where
-    i-suc : suc i + n ≡ i + suc n
-    i-suc = omega arith
+    i_suc : suc i + n ≡ i + suc n
+    i_suc = omega arith
 
     go : (b : Bool)
         → length (group S (table_from g (suc i) (suc n)) d) ≡ length (group S (table_from g (suc i) n) d) + cond (equal_states S (g (i + suc n)) d) 1 0
@@ -91,13 +91,13 @@ group_more S d g i (suc n) =
 
 pub group_numbered : GroupNumbered
 unfolding same_states equal_states in_group
-group_numbered c₀ f list sum n p Z k l first = Z.summed.grouped.numbers k l ∙ leading ∙ counted n ∙ ap (λ (c : Configuration). length (group S (entries_of f list n) c)) (ap g (zero-plus k) ∙ sym (at n 0 k l))
+group_numbered c₀ f list sum n p Z k l first = Z.summed.grouped.numbers k l ∙ leading ∙ counted n ∙ ap (λ (c : Configuration). length (group S (entries_of f list n) c)) (ap g (zero_plus k) ∙ sym (at n 0 k l))
   where
     S : Shape
     S = (program_of c₀ p).shape
 
-    zero-plus : (x : ℕ) → x ≡ 0 + x
-    zero-plus x = omega arith
+    zero_plus : (x : ℕ) → x ≡ 0 + x
+    zero_plus x = omega arith
 
     g : ℕ → Configuration
     g i = configuration_of (cube_at f list i)
@@ -113,7 +113,7 @@ group_numbered c₀ f list sum n p Z k l first = Z.summed.grouped.numbers k l �
 
     counted : (m : ℕ) → in_group f list p.shape m (states_at f list p.shape k) ≡ length (group S (table_from g 0 m) (g k))
     counted zero = refl
-    counted (suc m) = ap₂ (λ (a b : ℕ). a + b) (counted m) (ap (λ (b : Bool). cond b 1 0) (equal m)) ∙ ap (λ (x : ℕ). length (group S (table_from g 0 m) (g k)) + cond (equal_states S (g x) (g k)) 1 0) (zero-plus m) ∙ sym (group_more S (g k) g 0 m)
+    counted (suc m) = ap₂ (λ (a b : ℕ). a + b) (counted m) (ap (λ (b : Bool). cond b 1 0) (equal m)) ∙ ap (λ (x : ℕ). length (group S (table_from g 0 m) (g k)) + cond (equal_states S (g x) (g k)) 1 0) (zero_plus m) ∙ sym (group_more S (g k) g 0 m)
 
     at : (m i j : ℕ) → j < m → entry (table_from g i m) j ≡ g (i + j)
     at zero i j u = absurd (omega arith)

@@ -4,14 +4,14 @@ use Rattle.list_theory.proofs.Verdict.{list_safety}
 use Rattle.machine_equal.proofs.Reachability.{permitted_start, start_of_lem, visited_takes, takes_visited, same_reachability}
 use Rattle.pso_replay.specs.Answers.{pso_steps}
 use Rattle.demands.specs.PsoDemands.{PsoSafety, PsoReachability, PwsReachability}
-use Rattle.verdict.proofs.Verdicts.{list-range}
-use Rattle.demands.proofs.Demands.{run_formed, pso-run-formed, accepted_list, accepted_run, accepted_pso_run}
+use Rattle.verdict.proofs.Verdicts.{list_range}
+use Rattle.demands.proofs.Demands.{run_formed, pso_run_formed, accepted_list, accepted_run, accepted_pso_run}
 
 pub pso_safety : PsoSafety
 pso_safety f area n e =
     let x = (accepted_list f area n).0 e in
     let P = x.program in
-    let R = (list-range f area P x.targets x.entries x.reads).well_formed in
+    let R = (list_range f area P x.targets x.entries x.reads).well_formed in
     record {
       program = P;
       targets = x.targets;
@@ -53,7 +53,7 @@ pub pws_reachability : PwsReachability
 pws_reachability f area n k e =
     let x = (accepted_pso_run f area n k).0 e in
     let P = x.program in
-    let R = pso-run-formed f area P x.targets x.memory x.records x.reads in
+    let R = pso_run_formed f area P x.targets x.memory x.records x.reads in
     let r = x.holds in
     record {
       program = P;

@@ -25,7 +25,7 @@ use Rattle.run_replay.specs.Answers.{run_answer}
 use Rattle.run_replay.proofs.Accepted.{target_yes, target_is}
 use Rattle.verdict.specs.declared.answer.Verdict as declared
 use Rattle.verdict.specs.Answers.{stepless, with_record}
-use Rattle.verdict.proofs.Verdicts.{file-list-judged}
+use Rattle.verdict.proofs.Verdicts.{file_list_judged}
 use Rattle.report_theory.specs.Nops.{with_nops}
 use Rattle.report_theory.specs.Report.{mark, DifferentFences, Run, run, RunReaches, run_choice, run_program, NeededReport}
 use Rattle.report_theory.specs.Verdict.{LowestWrong, LowestFailing, ReportVerdict, needed, wrong_mark, unsafe_list, failing_run, ReportJudged}
@@ -161,17 +161,17 @@ module _ (f : List ℕ) (area : ℕ) (P : Program) (ts : List (ℕ → ℕ)) (ma
 
   listed : lists.ListJudged P ts es (decision.verdict_of P ts es)
   unfolding read_part
-  listed = file-list-judged (pair (program_part f) (evidence_part f (evidence_place f (length marks) 0))) area P ts es parts.list
+  listed = file_list_judged (pair (program_part f) (evidence_part f (evidence_place f (length marks) 0))) area P ts es parts.list
 
   abbrev Said : ReportVerdict → Type 0
   Said v = ReportJudged P ts marks es runs v
 
   module _ (i : ℕ) (l : i < length marks) where
-    ran-yes : run_fails P ts marks runs i ≡ false → RunReaches (run_program P marks i) ts (run runs i)
-    ran-yes e = run_yes (run_program P marks i) (nops_well_formed P (run_choice marks i) formed) ts (run runs i) (parts.run_in_range i l).permitted (not_not _ e)
+    ran_yes : run_fails P ts marks runs i ≡ false → RunReaches (run_program P marks i) ts (run runs i)
+    ran_yes e = run_yes (run_program P marks i) (nops_well_formed P (run_choice marks i) formed) ts (run runs i) (parts.run_in_range i l).permitted (not_not _ e)
 
-    ran-no : run_fails P ts marks runs i ≡ true → RunReaches (run_program P marks i) ts (run runs i) → ⊥
-    ran-no e = run_no (run_program P marks i) (nops_well_formed P (run_choice marks i) formed) ts (run runs i) (parts.run_in_range i l).permitted (not_is _ e)
+    ran_no : run_fails P ts marks runs i ≡ true → RunReaches (run_program P marks i) ts (run runs i) → ⊥
+    ran_no e = run_no (run_program P marks i) (nops_well_formed P (run_choice marks i) formed) ts (run runs i) (parts.run_in_range i l).permitted (not_is _ e)
 
   by_runs : DifferentFences P marks → SafeList P ts es → (b : Bool) → ltb (failing_of P ts marks runs) (length marks) ≡ b
       → Said (cond b (failing_run (failing_of P ts marks runs)) (needed (length marks) (length es)))
@@ -180,12 +180,12 @@ module _ (f : List ℕ) (area : ℕ) (P : Program) (ts : List (ℕ → ℕ)) (ma
       let n = length marks in
       let k = failing_of P ts marks runs in
       let l : k < n = ltb-true k n e in
-      (D, S, record { exists = l; fails = ran-no k l (lowest_taken test n l); lower = λ j h. ran-yes j (omega arith) (lowest_lower test n j h) })
+      (D, S, record { exists = l; fails = ran_no k l (lowest_taken test n l); lower = λ j h. ran_yes j (omega arith) (lowest_lower test n j h) })
   by_runs D S false e =
       let test = run_fails P ts marks runs in
       let n = length marks in
       let h : n ≤ failing_of P ts marks runs = ltb-false (failing_of P ts marks runs) n e in
-      (refl, refl, record { fences = D; list = S; count = parts.count; reach = λ i l. ran-yes i l (lowest_lower test n i (omega arith)) })
+      (refl, refl, record { fences = D; list = S; count = parts.count; reach = λ i l. ran_yes i l (lowest_lower test n i (omega arith)) })
 
   by_list : DifferentFences P marks → (b : Bool) → is_safe (decision.verdict_of P ts es) ≡ b
       → Said (after_list b (after_runs (length marks) (length es) (failing_of P ts marks runs)))
@@ -197,23 +197,23 @@ module _ (f : List ℕ) (area : ℕ) (P : Program) (ts : List (ℕ → ℕ)) (ma
   by_marks true e = (wrong_mark_found P marks).0 (ltb-true (wrong_of P marks) (length marks) e)
   by_marks false e = by_list ((wrong_mark_found P marks).1 (ltb-false (wrong_of P marks) (length marks) e)) (is_safe (decision.verdict_of P ts es)) refl
 
-  report-judged : Said (report_verdict P ts marks es runs)
+  report_judged : Said (report_verdict P ts marks es runs)
   unfolding report_verdict
-  report-judged = by_marks (ltb (wrong_of P marks) (length marks)) refl
+  report_judged = by_marks (ltb (wrong_of P marks) (length marks)) refl
 
   -- and no other verdict is
-  report-only : (v : ReportVerdict) → Said v → report_verdict P ts marks es runs ≡ v
-  report-only v j = theory.verdict_unique P ts marks es runs (report_verdict P ts marks es runs) v report-judged j
+  report_only : (v : ReportVerdict) → Said v → report_verdict P ts marks es runs ≡ v
+  report_only v j = theory.verdict_unique P ts marks es runs (report_verdict P ts marks es runs) v report_judged j
 
-  said-is : report_said_in_c f area ≡ judged_in_c f (report_verdict P ts marks es runs)
+  said_is : report_said_in_c f area ≡ judged_in_c f (report_verdict P ts marks es runs)
   unfolding report_said_in_c
-  said-is = ap (report_in_c f) q
+  said_is = ap (report_in_c f) q
 
   -- a verdict that C tells from the others
-  said-exactly : (v : ReportVerdict) → ((w : ReportVerdict) → Said w → judged_in_c f w ≡ judged_in_c f v → w ≡ v) → (report_said_in_c f area ≡ judged_in_c f v) ↔ Said v
-  said-exactly v alone = (
-    λ e. subst Said (alone (report_verdict P ts marks es runs) report-judged (sym said-is ∙ e)) report-judged,
-    λ j. said-is ∙ ap (judged_in_c f) (report-only v j),
+  said_exactly : (v : ReportVerdict) → ((w : ReportVerdict) → Said w → judged_in_c f w ≡ judged_in_c f v → w ≡ v) → (report_said_in_c f area ≡ judged_in_c f v) ↔ Said v
+  said_exactly v alone = (
+    λ e. subst Said (alone (report_verdict P ts marks es runs) report_judged (sym said_is ∙ e)) report_judged,
+    λ j. said_is ∙ ap (judged_in_c f) (report_only v j),
   )
 
 -- ---- one answer
@@ -225,8 +225,8 @@ one_report_answer f area = go (read_report f area) refl
     go : (x : ReportRead) → read_report f area ≡ x → ReportSaid f x (report_in_c f x) × ((r : declared.Verdict) → ReportSaid f x r → r ≡ report_in_c f x)
     go (unread q) e = (refl, λ r d. d)
     go (report P ts marks es runs) e = (
-      (report_verdict P ts marks es runs, report-judged f area P ts marks es runs e, refl),
-      λ r w. w.2 ∙ ap (judged_in_c f) (sym (report-only f area P ts marks es runs e w.0 w.1)),
+      (report_verdict P ts marks es runs, report_judged f area P ts marks es runs e, refl),
+      λ r w. w.2 ∙ ap (judged_in_c f) (sym (report_only f area P ts marks es runs e w.0 w.1)),
     )
 
 pub report_unread : ReportUnread
@@ -303,7 +303,7 @@ pub report_accepted : ReportAccepted
 report_accepted f area m n =
     exactly f area _ (judged_in_c f (needed m n))
     (λ r d e. let z : ◌≡◌ {A = ℕ} 2 4 = ap kind_of (sym (report_unread f area r d) ∙ e) in omega arith)
-    (λ P ts marks es runs d. said-exactly f area P ts marks es runs d (needed m n) (λ w j e. needed_alone f m n w e))
+    (λ P ts marks es runs d. said_exactly f area P ts marks es runs d (needed m n) (λ w j e. needed_alone f m n w e))
 
 -- a refusal of the records has a number of the reading
 low_number : (f : List ℕ) (area : ℕ) (r : Refusal) (n k : ℕ) → 9 ≤ n → read_report f area ≡ unread r → report_said_in_c f area ≡ with_record (stepless 2 n k) 0 (length f) 0 → ⊥
@@ -313,17 +313,17 @@ low_number f area r n k l d e =
 pub report22 : Report22
 report22 f area i =
     exactly f area _ (judged_in_c f (wrong_mark i)) (λ r d e. low_number f area r 22 i (omega arith) d e)
-    (λ P ts marks es runs d. said-exactly f area P ts marks es runs d (wrong_mark i) (λ w j e. wrong_alone f i w e))
+    (λ P ts marks es runs d. said_exactly f area P ts marks es runs d (wrong_mark i) (λ w j e. wrong_alone f i w e))
 
 pub report23_list : Report23List
 report23_list f area =
     exactly f area _ (judged_in_c f unsafe_list) (λ r d e. low_number f area r 23 8 (omega arith) d e)
-    (λ P ts marks es runs d. said-exactly f area P ts marks es runs d unsafe_list (λ w j e. unsafe_alone f w (few_failing f area P ts marks es runs d w j) e))
+    (λ P ts marks es runs d. said_exactly f area P ts marks es runs d unsafe_list (λ w j e. unsafe_alone f w (few_failing f area P ts marks es runs d w j) e))
 
 pub report23_run : Report23Run
 report23_run f area i l =
     exactly f area _ (judged_in_c f (failing_run i)) (λ r d e. low_number f area r 23 i (omega arith) d e)
-    (λ P ts marks es runs d. said-exactly f area P ts marks es runs d (failing_run i) (λ w j e. failing_alone f i l w e))
+    (λ P ts marks es runs d. said_exactly f area P ts marks es runs d (failing_run i) (λ w j e. failing_alone f i l w e))
 
 -- ---- what C gets
 

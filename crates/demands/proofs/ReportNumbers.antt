@@ -42,7 +42,7 @@ use Rattle.report_reading.specs.Reading.{
   read_part,
   read_report,
 }
-use Rattle.report_reading.proofs.OpenLaws.{open_short, open-program, open-marks, open-due, open-all}
+use Rattle.report_reading.proofs.OpenLaws.{open_short, open_program, open_marks, open_due, open_all}
 use Rattle.demands.proofs.Numbers.{LowChecked, LowCounted, each_cond, first_low, checked_low, unless_low, row_low, program_low, refused_low}
 
 abbrev LowOpened : Opened → Type 0
@@ -79,20 +79,20 @@ module _ (f : List ℕ) (area : ℕ) where
       → (x : Checked) → due_claim 0 f (program_end f + 2 * n) ≡ x → LowOpened (open_report f area)
   by_due l n a b (Refused r) e =
       let h = subst LowChecked e (due_low 0 f (program_end f + 2 * n)) in
-      subst LowOpened (sym (open-due f area l n r a b e)) (omega (arith, h.1))
-  by_due l n a b Fine e = subst LowOpened (sym (open-all f area l n a b e)) tt
+      subst LowOpened (sym (open_due f area l n r a b e)) (omega (arith, h.1))
+  by_due l n a b Fine e = subst LowOpened (sym (open_all f area l n a b e)) tt
 
   by_marks : (l : 65536 ≤ area) → (program_from true (program_part f) 0).answer ≡ Fine
       → (x : Counted) → marks_from (program_from true (program_part f) 0).program.transitions.count f (program_end f) ≡ x → LowOpened (open_report f area)
   by_marks l a (Stopped r) e =
       let h = subst LowCounted e (marks_low _ f (program_end f)) in
-      subst LowOpened (sym (open-marks f area l r a e)) (omega (arith, h.1))
+      subst LowOpened (sym (open_marks f area l r a e)) (omega (arith, h.1))
   by_marks l a (Records n) e = by_due l n a e _ refl
 
   by_program : (l : 65536 ≤ area) (x : Checked) → (program_from true (program_part f) 0).answer ≡ x → LowOpened (open_report f area)
   by_program l (Refused r) e =
       let h = subst LowChecked e (program_low Plain true (program_part f) 0) in
-      subst LowOpened (sym (open-program f area l r e)) (in_report_low f 0 (program_end f) r (omega (arith, h.1)))
+      subst LowOpened (sym (open_program f area l r e)) (in_report_low f 0 (program_end f) r (omega (arith, h.1)))
   by_program l Fine e = by_marks l e _ refl
 
   open_low : LowOpened (open_report f area)

@@ -171,32 +171,32 @@ module _ (P : Program) (c : Configuration) where
     abbrev TakeBy : Answer → Type 0
     TakeBy = By (InState P c n) (QueuesEmpty P.shape c p o) (AtNewest c p o) (ValueThere c p o) (Unit {0})
 
-    state-told : Tells (InState P c n) (ltb n (length P.transitions) && eqb (c.state p) (transition P n).from)
-    state-told = tells_and (tells_less n (length P.transitions)) (tells_same (c.state p) (transition P n).from)
+    state_told : Tells (InState P c n) (ltb n (length P.transitions) && eqb (c.state p) (transition P n).from)
+    state_told = tells_and (tells_less n (length P.transitions)) (tells_same (c.state p) (transition P n).from)
 
     taken : step_answer P c (Take n)
         ≡ first_cause (ltb n (length P.transitions) && eqb (c.state p) (transition P n).from) (queue_fits P.shape c p o) (pointer_fits c p o) (value_fits c p o) true
     taken = with_state (ltb n (length P.transitions)) (eqb (c.state p) (transition P n).from) (queue_fits P.shape c p o) (pointer_fits c p o) (value_fits c p o)
 
-    take-reason : (cause : Cause) → TakeBy (Refused cause) → ReasonOf cause P c (Take n)
-    take-reason State w = w
-    take-reason Queue w = w
-    take-reason Pointer w = w
-    take-reason Value w = w
-    take-reason Nothing w = w.4 tt
+    take_reason : (cause : Cause) → TakeBy (Refused cause) → ReasonOf cause P c (Take n)
+    take_reason State w = w
+    take_reason Queue w = w
+    take_reason Pointer w = w
+    take_reason Value w = w
+    take_reason Nothing w = w.4 tt
 
-    reason-take : (cause : Cause) → ReasonOf cause P c (Take n) → TakeBy (Refused cause)
-    reason-take State w = w
-    reason-take Queue w = w
-    reason-take Pointer w = w
-    reason-take Value w = w
-    reason-take Nothing w = absurd w
+    reason_take : (cause : Cause) → ReasonOf cause P c (Take n) → TakeBy (Refused cause)
+    reason_take State w = w
+    reason_take Queue w = w
+    reason_take Pointer w = w
+    reason_take Value w = w
+    reason_take Nothing w = absurd w
 
     take_by : TakeBy (step_answer P c (Take n))
-    take_by = subst TakeBy (sym taken) (first_by state-told (queues_told p o) (pointer_told p o) (value_told p o) (holds tt))
+    take_by = subst TakeBy (sym taken) (first_by state_told (queues_told p o) (pointer_told p o) (value_told p o) (holds tt))
 
-    by-take : (cause : Cause) → TakeBy (Refused cause) → step_answer P c (Take n) ≡ Refused cause
-    by-take cause w = taken ∙ by_first state-told (queues_told p o) (pointer_told p o) (value_told p o) (holds tt) cause w
+    by_take : (cause : Cause) → TakeBy (Refused cause) → step_answer P c (Take n) ≡ Refused cause
+    by_take cause w = taken ∙ by_first state_told (queues_told p o) (pointer_told p o) (value_told p o) (holds tt) cause w
 
   -- ---- the memory's own steps: one test, and nothing else
 
@@ -231,7 +231,7 @@ module _ (P : Program) (c : Configuration) where
   -- ---- every step
 
   pub cause_reason : (s : Step) (cause : Cause) → step_answer P c s ≡ Refused cause → ReasonOf cause P c s
-  cause_reason (Take n) cause e = take-reason n cause (subst (TakeBy n) e (take_by n))
+  cause_reason (Take n) cause e = take_reason n cause (subst (TakeBy n) e (take_by n))
   cause_reason (Serialise q v) cause e =
       let r = own_reason (CanSerialise q v) cause (subst (OwnBy (CanSerialise q v)) e (own_by (serialise_told q v))) in
       subst (λ (x : Cause). ReasonOf x P c (Serialise q v)) (sym r.0) r.1
@@ -240,7 +240,7 @@ module _ (P : Program) (c : Configuration) where
       subst (λ (x : Cause). ReasonOf x P c (Update q)) (sym r.0) r.1
 
   pub reason_cause : (s : Step) (cause : Cause) → ReasonOf cause P c s → step_answer P c s ≡ Refused cause
-  reason_cause (Take n) cause w = by-take n cause (reason-take n cause w)
+  reason_cause (Take n) cause w = by_take n cause (reason_take n cause w)
   reason_cause (Serialise q v) State w = absurd w
   reason_cause (Serialise q v) Queue w = absurd w
   reason_cause (Serialise q v) Pointer w = absurd w

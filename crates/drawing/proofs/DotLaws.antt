@@ -36,16 +36,16 @@ module _ (t : List ℕ) where
   no_nodes p e = rw e
 
   module _ (n a : ℕ) (nodes : nodes_read t ≡ Nodes n a) where
-    reading-is : (r : Reading) → edges_at n t a 0 ≡ r → records_in t ≡ of_reading r
+    reading_is : (r : Reading) → edges_at n t a 0 ≡ r → records_in t ≡ of_reading r
     unfolding records_in reading_of
-    reading-is r e = rw nodes (ap of_reading e)
+    reading_is r e = rw nodes (ap of_reading e)
 
     pub no_edges : (p : ℕ) → size_after 0 (edges_at n t a 0) ≡ Outside p → records_in t ≡ refused 27 p
-    no_edges p e = reading-is (place p) (sized_place (edges_at n t a 0) p e)
+    no_edges p e = reading_is (place p) (sized_place (edges_at n t a 0) p e)
 
     module _ (needed : ℕ) (size : size_after 0 (edges_at n t a 0) ≡ Bytes needed) where
       pub all_edges : records_in t ≡ made (records_of (steps_in (edges_at n t a 0)))
-      all_edges = reading-is (run (steps_in (edges_at n t a 0))) (sized_run (edges_at n t a 0) needed size).0
+      all_edges = reading_is (run (steps_in (edges_at n t a 0))) (sized_run (edges_at n t a 0) needed size).0
 
       pub needed_is : needed ≡ length (records_of (steps_in (edges_at n t a 0)))
       needed_is = (sized_run (edges_at n t a 0) needed size).1

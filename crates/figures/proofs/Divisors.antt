@@ -90,10 +90,10 @@ module _ (x y X Y : ℕ) (positive : 0 < y) (exists : 0 < Y) (same : x * Y ≡ X
   denominator = div-mul_cancel (gcd x y) (gcd_greatest x y).right
 
   denominator_positive : 0 < y / g
-  denominator_positive = pos_of_ne-zero (λ e. zero-denominator e)
+  denominator_positive = pos_of_ne-zero (λ e. zero_denominator e)
     where
-      zero-denominator : y / g ≡ 0 → ⊥
-      zero-denominator e = let z : y ≡ 0 = sym denominator ∙ ap (λ (n : ℕ). n * g) e ∙ zero-mul g in omega arith
+      zero_denominator : y / g ≡ 0 → ⊥
+      zero_denominator e = let z : y ≡ 0 = sym denominator ∙ ap (λ (n : ℕ). n * g) e ∙ zero-mul g in omega arith
 
   equal : x / g * Y ≡ X * (y / g)
   equal =

@@ -71,8 +71,8 @@ module _ (x : Input) (w : List ℕ) where
     abbrev Answered : Checked → Type 0
     Answered y = R.answer ≡ y
 
-    pub reading-refused : (z : Refusal) → Answered (Refused z) → read_file x area ≡ refused R.part z
-    reading-refused z q = go (outcome x area)
+    pub reading_refused_lem : (z : Refusal) → Answered (Refused z) → read_file x area ≡ refused R.part z
+    reading_refused_lem z q = go (outcome x area)
       where
         go : Outcome x area → read_file x area ≡ refused R.part z
         go (outcome_refused v y a b) =
@@ -86,8 +86,8 @@ module _ (x : Input) (w : List ℕ) where
       never v y a = fine_refused (sym q ∙ ap (λ (z : Reading). z.answer) (r ∙ a))
 
       -- the places and counts of the program part
-      pub reading-sizes : ProgramSizes R.contents.program
-      reading-sizes = go (outcome x area)
+      pub reading_sizes : ProgramSizes R.contents.program
+      reading_sizes = go (outcome x area)
         where
           go : Outcome x area → ProgramSizes R.contents.program
           go (outcome_refused v y a b) = absurd (never v y a)
@@ -95,9 +95,9 @@ module _ (x : Input) (w : List ℕ) where
           go (outcome_run L) = rw (r ∙ reading_steps x area L) (part_sizes x.alone g 0 L.fine refl)
 
       -- claims 1 and 2
-      pub reading-run : (R.contents.claim ≡ 0 → ⊥)
+      pub reading_run : (R.contents.claim ≡ 0 → ⊥)
           → read_file x area ≡ run_read R.contents.claim (program_of g R.contents.program) (targets_of g R.contents.program) R.contents.memory (steps_of f R.contents.evidence.at R.contents.evidence.count)
-      reading-run c = go (outcome x area)
+      reading_run c = go (outcome x area)
         where
           go : Outcome x area
               → read_file x area ≡ run_read R.contents.claim (program_of g R.contents.program) (targets_of g R.contents.program) R.contents.memory (steps_of f R.contents.evidence.at R.contents.evidence.count)
@@ -118,8 +118,8 @@ module _ (x : Input) (w : List ℕ) where
 
       -- claim 0
       module _ (work : List ℕ) (e : work ≡ area_read (parts_of x area) w) (c : R.contents.claim ≡ 0) where
-        as-list : ListParts x area
-        as-list = go (outcome x area)
+        as_list : ListParts x area
+        as_list = go (outcome x area)
           where
             go : Outcome x area → ListParts x area
             go (outcome_refused v y a b) = absurd (never v y a)
@@ -127,25 +127,25 @@ module _ (x : Input) (w : List ℕ) where
             go (outcome_list L) = L
 
         left : drop 16384 work ≡ wrote_from 0 (listed x area).offsets (drop 16384 w)
-        left = ap (drop 16384) e ∙ list_part_lem as-list
+        left = ap (drop 16384) e ∙ list_part_lem as_list
 
         handed : R ≡ reading_with (program_from x.alone g 0).program 0 no_memory (evidence_at x (program_from x.alone g 0).program + 2) (length (listed x area).offsets)
-        handed = r ∙ reading_with_lem x area as-list
+        handed = r ∙ reading_with_lem x area as_list
 
-        pub reading-list : read_file x area ≡ list (program_of g R.contents.program) (targets_of g R.contents.program) (entries_of f (drop 16384 work) R.contents.evidence.count)
-        reading-list =
+        pub reading_list : read_file x area ≡ list (program_of g R.contents.program) (targets_of g R.contents.program) (entries_of f (drop 16384 work) R.contents.evidence.count)
+        reading_list =
             rw (left, handed)
-            (file_list x area as-list
-            ∙ ap (list (program_of g (program_from x.alone g 0).program) (targets_of g (program_from x.alone g 0).program)) (again x area as-list (drop 16384 w) (length-drop 16384 w)))
+            (file_list x area as_list
+            ∙ ap (list (program_of g (program_from x.alone g 0).program) (targets_of g (program_from x.alone g 0).program)) (again x area as_list (drop 16384 w) (length-drop 16384 w)))
 
-        pub reading-count : R.contents.evidence.count ≤ entries_allowed area
-        reading-count = rw handed (count_allowed x area as-list (drop 16384 w) (length-drop 16384 w))
+        pub reading_count : R.contents.evidence.count ≤ entries_allowed area
+        reading_count = rw handed (count_allowed x area as_list (drop 16384 w) (length-drop 16384 w))
 
         -- the offset of entry k is the place of its 10
-        pub reading-offset : (k : ℕ) → k < R.contents.evidence.count
+        pub reading_offset : (k : ℕ) → k < R.contents.evidence.count
             → (is_kind f (offset_at (drop 16384 work) k) 16 ≡ true) × (offset_at (drop 16384 work) k + 8 < length f)
-        reading-offset = rw (left, handed) (λ k i. let o = offsets x area as-list (drop 16384 w) (length-drop 16384 w) k i in (o.1, o.2))
+        reading_offset = rw (left, handed) (λ k i. let o = offsets x area as_list (drop 16384 w) (length-drop 16384 w) k i in (o.1, o.2))
 
         -- entry k, as the code loads it
-        pub reading-cube : (k : ℕ) → k < R.contents.evidence.count → CubeRange (cube_at f (drop 16384 work) k)
-        reading-cube = rw (left, handed) (cubes x area as-list (drop 16384 w) (length-drop 16384 w))
+        pub reading_cube : (k : ℕ) → k < R.contents.evidence.count → CubeRange (cube_at f (drop 16384 work) k)
+        reading_cube = rw (left, handed) (cubes x area as_list (drop 16384 w) (length-drop 16384 w))

@@ -43,16 +43,16 @@ module _ (f g h : List ℕ) (c : ℕ) (same : (k : ℕ) → byte f (c + k) ≡ b
   abbrev SaidAlike : Evidence → Evidence → Type 0
   SaidAlike d e = evidence_read (combined f) p d ≡ moved_read c (evidence_read (pair g h) p e)
 
-  claim-alike : (d e : Evidence) → SaidAlike d e → (x : Checked) → SaidAlike (claim_then (moved_check c x) (λ _. d)) (claim_then x (λ _. e))
-  claim-alike d e s Fine = s
-  claim-alike d e s (Refused r) = refl
+  claim_alike : (d e : Evidence) → SaidAlike d e → (x : Checked) → SaidAlike (claim_then (moved_check c x) (λ _. d)) (claim_then x (λ _. e))
+  claim_alike d e s Fine = s
+  claim_alike d e s (Refused r) = refl
 
-  choose-alike : (a b d e : Evidence) → SaidAlike a b → SaidAlike d e → (t : Bool) → SaidAlike (choose t (λ _. a) (λ _. d)) (choose t (λ _. b) (λ _. e))
-  choose-alike a b d e s r true = s
-  choose-alike a b d e s r false = r
+  choose_alike : (a b d e : Evidence) → SaidAlike a b → SaidAlike d e → (t : Bool) → SaidAlike (choose t (λ _. a) (λ _. d)) (choose t (λ _. b) (λ _. e))
+  choose_alike a b d e s r true = s
+  choose_alike a b d e s r false = r
 
-  list-alike : (a b : EntriesRead) → MovedEntries c a b → SaidAlike (entries a) (entries b)
-  list-alike a b m = ap (λ (x : Checked). list_read (combined f) p x a) m.answer ∙ go b.answer
+  list_alike : (a b : EntriesRead) → MovedEntries c a b → SaidAlike (entries a) (entries b)
+  list_alike a b m = ap (λ (x : Checked). list_read (combined f) p x a) m.answer ∙ go b.answer
     where
       go : (x : Checked) → list_read (combined f) p (moved_check c x) a ≡ moved_read c (list_read (pair g h) p x b)
       go Fine =
@@ -67,39 +67,39 @@ module _ (f g h : List ℕ) (c : ℕ) (same : (k : ℕ) → byte f (c + k) ≡ b
       ap₂ (λ P ts. run_read claim P ts m (steps_of f (p.claim + 2 + 5) n)) (sym sameProgram) (sym sameTargets)
       ∙ ap (run_read claim (program_of g p) (targets_of g p) m) e ∙ run_kept c claim (program_of g p) (targets_of g p) m (steps_of h 7 n)
 
-  run-alike : (claim : ℕ) → SaidAlike (run_evidence f claim (c + 2) p) (run_evidence h claim 2 p)
+  run_alike : (claim : ℕ) → SaidAlike (run_evidence f claim (c + 2) p) (run_evidence h claim 2 p)
   unfolding run_evidence
-  run-alike claim =
+  run_alike claim =
       let a : c + 2 + 5 ≡ c + 7 = omega arith in
       let n = steps_from p.shape p.transitions.count f (c + 2 + 5) in
       let k = steps_from p.shape p.transitions.count h 7 in
       let e : n ≡ moved_count c k = ap (steps_from p.shape p.transitions.count f) a ∙ steps_moved f h c same long p.shape p.transitions.count 7 in
       ap (λ (x : Checked). evidence_read (combined f) p (claim_then x (λ _. steps claim (memory_at f (c + 2)) n))) (start_moved f h c same long p.shape 2)
-      ∙ claim-alike (steps claim (memory_at f (c + 2)) n) (steps claim (memory_at h 2) k)
+      ∙ claim_alike (steps claim (memory_at f (c + 2)) n) (steps claim (memory_at h 2) k)
       (ap₂ (λ m n. evidence_read (combined f) p (steps claim m n)) (memory_moved f h c same long 2) e ∙ steps_alike claim (memory_at h 2) k)
       (unless_end h 2 (checked (start_number p.shape h 2) 2))
 
   module _ (area : ℕ) where
     -- from the place after the claim on
-    abbrev afterClaim : List ℕ → ℕ → ℕ → Evidence
-    afterClaim l claim at =
+    abbrev after_claim : List ℕ → ℕ → ℕ → Evidence
+    after_claim l claim at =
         choose (eqb claim 0) (λ _. entries (entries_from (entries_allowed area) p.shape p.states l at [] [])) (λ _. run_evidence l claim at p)
 
-    after_alike : (claim : ℕ) → SaidAlike (afterClaim f claim (c + 2)) (afterClaim h claim 2)
+    after_alike : (claim : ℕ) → SaidAlike (after_claim f claim (c + 2)) (after_claim h claim 2)
     after_alike claim =
-        choose-alike (entries (entries_from (entries_allowed area) p.shape p.states f (c + 2) [] [])) (entries (entries_from (entries_allowed area) p.shape p.states h 2 [] []))
+        choose_alike (entries (entries_from (entries_allowed area) p.shape p.states f (c + 2) [] [])) (entries (entries_from (entries_allowed area) p.shape p.states h 2 [] []))
         (run_evidence f claim (c + 2) p) (run_evidence h claim 2 p)
-        (list-alike _ _ (entries_moved f h c same long p.shape p.states (entries_allowed area) 2 [] [] [])) (run-alike claim) (eqb claim 0)
+        (list_alike _ _ (entries_moved f h c same long p.shape p.states (entries_allowed area) 2 [] [] [])) (run_alike claim) (eqb claim 0)
 
-    evidence-alike : SaidAlike (evidence_from f p.claim p area) (evidence_from h 0 p area)
+    evidence_alike : SaidAlike (evidence_from f p.claim p area) (evidence_from h 0 p area)
     unfolding evidence_from
-    evidence-alike =
+    evidence_alike =
         let z : p.claim ≡ c + 0 = omega arith in
         let a : c + 0 + 2 ≡ c + 2 = omega arith in
-        ap (λ (at : ℕ). evidence_read (combined f) p (claim_then (unless_end f at (checked (claim_number f at) at)) (λ _. afterClaim f (byte f (at + 1)) (at + 2)))) z
-        ∙ ap (λ (x : Checked). evidence_read (combined f) p (claim_then x (λ _. afterClaim f (byte f (c + 0 + 1)) (c + 0 + 2)))) (claim_moved f h c same long 0)
-        ∙ claim-alike (afterClaim f (byte f (c + 0 + 1)) (c + 0 + 2)) (afterClaim h (byte h 1) 2)
-        (ap₂ (λ claim at. evidence_read (combined f) p (afterClaim f claim at)) (claim_byte f h c same long 0) a ∙ after_alike (byte h 1))
+        ap (λ (at : ℕ). evidence_read (combined f) p (claim_then (unless_end f at (checked (claim_number f at) at)) (λ _. after_claim f (byte f (at + 1)) (at + 2)))) z
+        ∙ ap (λ (x : Checked). evidence_read (combined f) p (claim_then x (λ _. after_claim f (byte f (c + 0 + 1)) (c + 0 + 2)))) (claim_moved f h c same long 0)
+        ∙ claim_alike (after_claim f (byte f (c + 0 + 1)) (c + 0 + 2)) (after_claim h (byte h 1) 2)
+        (ap₂ (λ claim at. evidence_read (combined f) p (after_claim f claim at)) (claim_byte f h c same long 0) a ∙ after_alike (byte h 1))
         (unless_end h 0 (checked (claim_number h 0) 0))
 
 -- ---- the record that is handed back
@@ -170,20 +170,20 @@ module _ (f : List ℕ) (c area : ℕ) (C : ClaimAt f c) where
   cut_program = program_cut f g c (λ k l. get_or-take c f k 0 l) (length-take-le c f inside) inside C.fine C.place
 
   module _ (l : 65536 ≤ area) where
-    one-read : read_file (combined f) area ≡ evidence_read (combined f) p (evidence_from f p.claim p area)
+    one_read : read_file (combined f) area ≡ evidence_read (combined f) p (evidence_from f p.claim p area)
     unfolding read_file
-    one-read = ap (parts_read (combined f)) (parts_both (combined f) area l C.fine)
+    one_read = ap (parts_read (combined f)) (parts_both (combined f) area l C.fine)
 
-    two-read : read_file (pair g h) area ≡ evidence_read (pair g h) p (evidence_from h 0 p area)
+    two_read : read_file (pair g h) area ≡ evidence_read (pair g h) p (evidence_from h 0 p area)
     unfolding read_file
-    two-read =
+    two_read =
         ap (parts_read (pair g h)) (parts_both (pair g h) area l cut_program.fine)
         ∙ ap (λ (q : Program). evidence_read (pair g h) q (evidence_from h 0 q area)) cut_program.same
 
     read_alike : read_file (combined f) area ≡ moved_read c (evidence_read (pair g h) p (evidence_from h 0 p area))
     read_alike =
         let long : length f ≡ c + length h = omega (arith, length-drop c f, inside) in
-        one-read ∙ evidence-alike f g h c (λ k. sym (get_or-drop c f k 0)) long p C.place cut_program.program cut_program.targets area
+        one_read ∙ evidence_alike f g h c (λ k. sym (get_or-drop c f k 0)) long p C.place cut_program.program cut_program.targets area
 
 -- document 02, N6
 pub cut_at_claim : CutAtClaim
@@ -194,9 +194,9 @@ cut_at_claim f c area C = elim (dec_lt area 65536) [
   )
   | no m ↦
       let l : 65536 ≤ area = omega arith in (
-        read_alike f c area C l ∙ sym (ap (moved_read c) (two-read f c area C l)),
+        read_alike f c area C l ∙ sym (ap (moved_read c) (two_read f c area C l)),
         ap (λ (r : FileRead). (offending (combined f) r).bytes) (read_alike f c area C l)
             ∙ handed_alike f (take c f) c (p f c area C) (evidence_from (drop c f) 0 (p f c area C) area)
-            ∙ sym (ap (λ (r : FileRead). (offending (pair (take c f) (drop c f)) r).bytes) (two-read f c area C l)),
+            ∙ sym (ap (λ (r : FileRead). (offending (pair (take c f) (drop c f)) r).bytes) (two_read f c area C l)),
       )
 ]

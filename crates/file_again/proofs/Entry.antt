@@ -30,11 +30,11 @@ use Rattle.base.proofs.ByteLaws.{byte_past}
 use Rattle.file_records.proofs.RecordLaws.{Good, good, entry_fine}
 use Rattle.base.proofs.ByteLaws.{cut_fits}
 use Rattle.file_records.proofs.ProgramLaws.{and_true}
-use Rattle.file_contents.proofs.CubeLaws.{load-message, load-waiting, load-ends}
+use Rattle.file_contents.proofs.CubeLaws.{load_message, load_waiting, load_ends}
 use Rattle.file_again.specs.Contents.{EntryRange, CubeRange}
 use Rattle.file_again.proofs.Tables.{of_four}
 use Rattle.file_again.proofs.Names.{or_cases, states_of_lem, pointer_absent, message_in, waiting_in}
-use Rattle.file_again.proofs.Loading.{Stands, stands_begin, stands_message, stands-waiting, total, total_more, total_most}
+use Rattle.file_again.proofs.Loading.{Stands, stands_begin, stands_message, stands_waiting, total, total_more, total_most}
 
 pub whole_inverse : {e d : Configuration} {m n : ℕ} → whole e m ≡ whole d n → (e ≡ d) × (m ≡ n)
 whole_inverse q = (cc, cc)
@@ -135,7 +135,7 @@ module _ (s : Shape) (few : s.processes ≤ 4) (small : s.variables ≤ 4) (f : 
             few_messages = W.few_messages;
             few_waiting = λ q u. put_queue_each e.queue p v xs (λ q u ys. length ys ≤ 8) q u (omega (arith, length-append (e.queue p v) (byte f (at + 3) ∷ []))) (λ d. W.few_waiting q u);
             near = omega (arith, W.near, total_more e.queue (byte f (at + 3)) p v a b);
-            stands = stands-waiting f at l e W.stands a b k;
+            stands = stands_waiting f at l e W.stands a b k;
           }
 
   -- ---- one record more, and the loading goes with it
@@ -167,7 +167,7 @@ module _ (s : Shape) (few : s.processes ≤ 4) (small : s.variables ≤ 4) (f : 
     onward (message_body k r n) =
         record {
           next = more_message f at l;
-          loads = rw k (load-message f at l bytes (message_loads k (omega (arith, W.stands.count))));
+          loads = rw k (load_message f at l bytes (message_loads k (omega (arith, W.stands.count))));
           partway = rw k (more_message_lem at e l W r n);
         }
     onward (waiting_body k j r n) =
@@ -176,7 +176,7 @@ module _ (s : Shape) (few : s.processes ≤ 4) (small : s.variables ≤ 4) (f : 
         let y : leb 8 (length (e.queue (byte f (at + 1)) (byte f (at + 2)))) ≡ false = rw x at r in
         record {
           next = more_waiting f at l;
-          loads = rw k (load-waiting f at l bytes (message_not k) (waiting_loads j (omega (arith, w.0)) (omega (arith, w.1))));
+          loads = rw k (load_waiting f at l bytes (message_not k) (waiting_loads j (omega (arith, w.0)) (omega (arith, w.1))));
           partway = rw k (more_waiting_lem at e l W (leb-false 8 (length (e.queue (byte f (at + 1)) (byte f (at + 2)))) y) n);
         }
 
@@ -194,7 +194,7 @@ module _ (s : Shape) (few : s.processes ≤ 4) (small : s.variables ≤ 4) (f : 
   unfolding loads_message loads_waiting
   ends_loading bytes at l b =
       let no : (kind : ℕ) → 16 < kind → is_kind f at kind ≡ false = λ kind k. kind_not at kind (λ d. ⊎_elim (λ c. omega arith) (λ c. omega arith) (at_end at b)) in
-      load-ends f at l bytes (rw (no 17 (omega arith))) (rw (no 18 (omega arith)))
+      load_ends f at l bytes (rw (no 17 (omega arith))) (rw (no 18 (omega arith)))
 
   -- ---- all of it
 

@@ -126,8 +126,8 @@ module _ (f : List ℕ) (at : ℕ) (l : Loaded) (e : Configuration) (D : Stands 
     fewer : q.count < 8
     fewer = omega (arith, k, ap length same, waiting_length q (D.sized (4 * p + v) here))
 
-    pub stands-waiting : Stands (more_waiting f at l) (with_waiting f at e)
-    stands-waiting =
+    pub stands_waiting : Stands (more_waiting f at l) (with_waiting f at e)
+    stands_waiting =
         record {
           count = D.count;
           room = D.room;

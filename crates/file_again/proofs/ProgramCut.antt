@@ -20,7 +20,7 @@ use Rattle.file_records.specs.declared.program.Counted.TheVariants.{Records}
 use Rattle.base.specs.Bytes.{byte, cut}
 use Rattle.file_records.specs.Records.{checked, is_kind, shape_at, shape_number, states_number, transition_at, transition_number, transition_names, target_number, state_names, state_at}
 use Rattle.file_records.specs.ProgramPart.{unless_end, states_from, of_process, of_processes, row_from, transitions_from, at_end, targets_from, rows_from, rest_from, program_with, program_from, table_from, program_of, targets_of}
-use Rattle.file_records.proofs.RecordLaws.{unless_fine, unless_not, row_ends, row_next, transition-fine, target-fine}
+use Rattle.file_records.proofs.RecordLaws.{unless_fine, unless_not, row_ends, row_next, transition_fine, target_fine}
 use Rattle.base.proofs.ByteLaws.{cut_fits}
 use Rattle.file_records.proofs.ProgramLaws.{transitions_most, targets_most}
 use Rattle.file_contents.proofs.ReadingLaws.{ProgramFine, program_fine}
@@ -92,7 +92,7 @@ module _ (s : Shape) (states : List ℕ) (f : List ℕ) (at m : ℕ) (q : target
   targets_inside : at + 5 * m ≤ length f
   targets_inside =
       let some = targets_least Plain s states f at false m q in
-      let g = target-fine f (at + 5 * (m - 1)) Plain s states (0 + (m - 1)) (target_checked (m - 1) (omega arith)) in
+      let g = target_fine f (at + 5 * (m - 1)) Plain s states (0 + (m - 1)) (target_checked (m - 1) (omega arith)) in
       omega (arith, cut_fits f (at + 5 * (m - 1)) 4 g.whole)
 
 -- the file goes on to its claim
@@ -192,9 +192,9 @@ module _ (f g : List ℕ) (c : ℕ) (same : (k : ℕ) → k < c → byte g k ≡
 
   module _ (s : Shape) (states : List ℕ) (at n m : ℕ) (end : at + 8 * n + 5 * m ≡ c) (r : transitions_from Plain s states f at ≡ Records n)
       (q : targets_from Plain false s states f (at + 8 * n) ≡ Records m) where
-    transition-checked : (i : ℕ) → i < n → checked (transition_number Plain s states f (at + 8 * i) (0 + i)) (at + 8 * i) ≡ Fine
+    transition_checked : (i : ℕ) → i < n → checked (transition_number Plain s states f (at + 8 * i) (0 + i)) (at + 8 * i) ≡ Fine
     unfolding transitions_from
-    transition-checked i l =
+    transition_checked i l =
         let e = row_each (λ k n. not (is_kind f k 3)) (λ k n. checked (transition_number Plain s states f k n) k) (λ k. 8) 256 at 0 n r i (omega arith) in
         rw (place_eight at i) at e
 
@@ -204,24 +204,24 @@ module _ (f g : List ℕ) (c : ℕ) (same : (k : ℕ) → k < c → byte g k ≡
         let some = targets_least Plain s states f (at + 8 * n) false m q in
         let z : at + 8 * n + 5 * 0 ≡ at + 8 * n = omega arith in
         let d = rw z at (target_checked s states f (at + 8 * n) m q 0 some) in
-        let k = (target-fine f (at + 8 * n) Plain s states (0 + 0) d).allowed in
+        let k = (target_fine f (at + 8 * n) Plain s states (0 + 0) d).allowed in
         ap not (kind_same (at + 8 * n) 3 (omega arith) ∙ four_three f (at + 8 * n) (not-false _ k))
 
-    transitions-same : transitions_from Plain s states g at ≡ Records n
+    transitions_same : transitions_from Plain s states g at ≡ Records n
     unfolding transitions_from
-    transitions-same =
+    transitions_same =
         let some = targets_least Plain s states f (at + 8 * n) false m q in
         let z : 0 + n ≡ n = omega arith in
         row_counts (λ k n. not (is_kind g k 3)) (λ k n. checked (transition_number Plain s states g k n) k) (λ k. 8) 256 n at 0 (transitions_most Plain s states f at n r)
-        (λ i l. rw (place_eight at i) (ap not (kind_same (at + 8 * i) 3 (omega arith)) ∙ (transition-fine f (at + 8 * i) Plain s states (0 + i) (transition-checked i l)).allowed))
+        (λ i l. rw (place_eight at i) (ap not (kind_same (at + 8 * i) 3 (omega arith)) ∙ (transition_fine f (at + 8 * i) Plain s states (0 + i) (transition_checked i l)).allowed))
         (λ i l. rw (place_eight at i)
-        (ap (λ (x : ℕ). checked x (at + 8 * i)) (transition_number_lem s states (at + 8 * i) (0 + i) (omega arith)) ∙ transition-checked i l))
+        (ap (λ (x : ℕ). checked x (at + 8 * i)) (transition_number_lem s states (at + 8 * i) (0 + i) (omega arith)) ∙ transition_checked i l))
         (rw (place_eight at n) row_shut)
         ∙ ap Records z
 
     rows_same : (initial : List ℕ) → rows_from Plain true g at s states initial ≡ fine_with s states initial at n m
     unfolding rows_from
-    rows_same initial = rw (transitions-same, targets_same s states (at + 8 * n) m end q)
+    rows_same initial = rw (transitions_same, targets_same s states (at + 8 * n) m end q)
 
   -- ---- the whole part
 
@@ -252,15 +252,15 @@ module _ (f g : List ℕ) (c : ℕ) (same : (k : ℕ) → k < c → byte g k ≡
     abbrev p : Program
     p = (fine_with s (of_processes f (at + 7) 1 s.processes) (of_processes f (at + 7) 2 s.processes) (at + 7 + 3 * s.processes) F.transitions F.targets).program
 
-    transitions-again : program_of g p ≡ program_of f p
-    transitions-again =
+    transitions_again : program_of g p ≡ program_of f p
+    transitions_again =
         let some = targets_least Plain s p.states f p.targets.at false F.targets F.aims in
         let e = table_same (λ i. transition_at g (p.transitions.at + 8 * i)) (λ i. transition_at f (p.transitions.at + 8 * i)) F.transitions pws.no_transition
         (λ k l. transition_same (p.transitions.at + 8 * (0 + k)) (omega arith)) in
         ap {A = List Transition} (λ ts. record { shape = (program_of f p).shape; states = (program_of f p).states; initial = (program_of f p).initial; transitions = ts }) e
 
-    targets-again : targets_of g p ≡ targets_of f p
-    targets-again =
+    targets_again : targets_of g p ≡ targets_of f p
+    targets_again =
         table_same (λ i. state_at g (p.targets.at + 5 * i)) (λ i. state_at f (p.targets.at + 5 * i)) F.targets (λ q. 0)
         (λ k l. state_same (p.targets.at + 5 * (0 + k)) (omega arith))
 
@@ -271,6 +271,6 @@ module _ (f g : List ℕ) (c : ℕ) (same : (k : ℕ) → k < c → byte g k ≡
       record {
         fine = ap (λ (r : ProgramRead). r.answer) (part_same 0 F end);
         same = ap (λ (r : ProgramRead). r.program) (part_same 0 F end) ∙ sym F.same;
-        program = subst (λ (p : Program). program_of g p ≡ program_of f p) (sym F.same) (transitions-again 0 F end);
-        targets = subst (λ (p : Program). targets_of g p ≡ targets_of f p) (sym F.same) (targets-again 0 F end);
+        program = subst (λ (p : Program). program_of g p ≡ program_of f p) (sym F.same) (transitions_again 0 F end);
+        targets = subst (λ (p : Program). targets_of g p ≡ targets_of f p) (sym F.same) (targets_again 0 F end);
       }

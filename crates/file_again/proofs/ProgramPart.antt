@@ -22,7 +22,7 @@ use Rattle.base.specs.Bytes.{byte}
 use Rattle.file_records.specs.Format.{transition_kind, least_values, most_targets}
 use Rattle.file_records.specs.Records.{checked, in_range, is_kind, shape_at, value_count, count_in_range, counts_in_range, count_if_absent, counts_if_absent, shape_number, transition_at, transition_number, transition_names, target_number, state_names, state_at}
 use Rattle.file_records.specs.ProgramPart.{unless_end, states_from, of_process, of_processes, at_end, transitions_from, targets_from, program_from, shape_of, program_of, targets_of}
-use Rattle.file_records.proofs.RecordLaws.{good, unless_fine, states_fine, transition-fine, target-fine}
+use Rattle.file_records.proofs.RecordLaws.{good, unless_fine, states_fine, transition_fine, target_fine}
 use Rattle.file_records.proofs.ProgramLaws.{and_true, some_target_lem, transitions_most, targets_most}
 use Rattle.file_contents.proofs.ReadingLaws.{ProgramFine, program_fine}
 use Rattle.file_again.specs.Contents.{ProgramPartRead, ProgramSizes}
@@ -118,7 +118,7 @@ module _ (k : Format) (s : Shape) (states : List ℕ) (f : List ℕ) (at : ℕ) 
   unfolding transitions_from
   transition_named n i q l =
       let e = row_each (λ j n. not (is_kind f j (transition_kind k))) (λ j n. checked (transition_number k s states f j n) j) (λ j. 8) 256 at 0 n q i (omega arith) in
-      let a = transition-fine f (at + 8 * i) k s states (0 + i) (rw (place_eight at i) at e) in
+      let a = transition_fine f (at + 8 * i) k s states (0 + i) (rw (place_eight at i) at e) in
       not-false _ a.names
 
   pub target_named : (alone : Bool) (n i : ℕ) → targets_from k alone s states f at ≡ Records n → i < n → state_names s states f (at + 5 * i) ≡ true
@@ -126,7 +126,7 @@ module _ (k : Format) (s : Shape) (states : List ℕ) (f : List ℕ) (at : ℕ) 
   target_named alone n i q l =
       let e = row_each (at_end alone f) (λ j n. unless_end f j (checked (target_number k s states f j n) j)) (λ j. 5) (most_targets k) at 0 n q i (omega arith) in
       let d = (unless_fine f (at + 5 * i) _ (rw (place_five at i) at e)).1 in
-      not-false _ (target-fine f (at + 5 * i) k s states (0 + i) d).names
+      not-false _ (target_fine f (at + 5 * i) k s states (0 + i) d).names
 
   pub targets_least : (alone : Bool) (n : ℕ) → targets_from k alone s states f at ≡ Records n → 1 ≤ n
   unfolding targets_from at_end

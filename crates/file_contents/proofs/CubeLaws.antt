@@ -38,18 +38,18 @@ module _ (f : List ℕ) (at : ℕ) where
       (kind_inside f at 18 r.0 (omega arith), ltb-true (byte f (at + 1)) 4 s.0, ltb-true (byte f (at + 2)) 4 s.1)
 
   module _ (l : Loaded) where
-    pub load-message : (bytes : ℕ) → loads_message f at l.count ≡ true → load_from (suc bytes) f at l ≡ load_from bytes f (at + 7) (more_message f at l)
+    pub load_message : (bytes : ℕ) → loads_message f at l.count ≡ true → load_from (suc bytes) f at l ≡ load_from bytes f (at + 7) (more_message f at l)
     unfolding load_from
-    load-message bytes e = rw e
+    load_message bytes e = rw e
 
-    pub load-waiting : (bytes : ℕ) → loads_message f at l.count ≡ false → loads_waiting f at ≡ true → load_from (suc bytes) f at l ≡ load_from bytes f (at + 4) (more_waiting f at l)
+    pub load_waiting : (bytes : ℕ) → loads_message f at l.count ≡ false → loads_waiting f at ≡ true → load_from (suc bytes) f at l ≡ load_from bytes f (at + 4) (more_waiting f at l)
     unfolding load_from
-    load-waiting bytes e d = rw (e, d)
+    load_waiting bytes e d = rw (e, d)
 
-    pub load-ends : (bytes : ℕ) → loads_message f at l.count ≡ false → loads_waiting f at ≡ false → load_from bytes f at l ≡ l
+    pub load_ends : (bytes : ℕ) → loads_message f at l.count ≡ false → loads_waiting f at ≡ false → load_from bytes f at l ≡ l
     unfolding load_from
-    load-ends zero e d = refl
-    load-ends (suc bytes) e d = rw (e, d)
+    load_ends zero e d = refl
+    load_ends (suc bytes) e d = rw (e, d)
 
 -- ---- what the loop knows
 
@@ -75,7 +75,7 @@ module _ {f : List ℕ} {at : ℕ} {l : Loaded} {k : ℕ} (L : Loading f at l k)
       let b = some (message_loads f k l.count e).0 in
       record {
         bytes = L.bytes - 1;
-        reads = sym (load-message f k l (L.bytes - 1) e) ∙ ap (λ (n : ℕ). load_from n f k l) (sym b) ∙ L.reads;
+        reads = sym (load_message f k l (L.bytes - 1) e) ∙ ap (λ (n : ℕ). load_from n f k l) (sym b) ∙ L.reads;
         enough = omega (arith, L.enough);
       }
 
@@ -84,9 +84,9 @@ module _ {f : List ℕ} {at : ℕ} {l : Loaded} {k : ℕ} (L : Loading f at l k)
       let b = some (waiting_loads f k d).0 in
       record {
         bytes = L.bytes - 1;
-        reads = sym (load-waiting f k l (L.bytes - 1) e d) ∙ ap (λ (n : ℕ). load_from n f k l) (sym b) ∙ L.reads;
+        reads = sym (load_waiting f k l (L.bytes - 1) e d) ∙ ap (λ (n : ℕ). load_from n f k l) (sym b) ∙ L.reads;
         enough = omega (arith, L.enough);
       }
 
   pub loading_ends : loads_message f k l.count ≡ false → loads_waiting f k ≡ false → loaded f at ≡ l
-  loading_ends e d = sym L.reads ∙ load-ends f k l L.bytes e d
+  loading_ends e d = sym L.reads ∙ load_ends f k l L.bytes e d

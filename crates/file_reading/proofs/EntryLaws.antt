@@ -152,9 +152,9 @@ module _ (s : Shape) (few : s.processes ≤ 4) (small : s.variables ≤ 4) (f : 
         }
 
     -- the counts with the record are those of the entry with it
-    pub tallies-next : Tallies (tallied f at t) (extended f at e)
+    pub tallies_next : Tallies (tallied f at t) (extended f at e)
     unfolding tallied extended
-    tallies-next = more (is_kind f at 17) refl
+    tallies_next = more (is_kind f at 17) refl
 
 -- ---- what the loop knows
 
@@ -224,22 +224,22 @@ module _ (s : Shape) (few : s.processes ≤ 4) (small : s.variables ≤ 4) (f : 
     fine : checked (body_number s f k F.entry) k ≡ Fine
     fine = ap (λ (n : ℕ). checked n k) (sym number_is) ∙ d
 
-    pub sofar-room : TallyRoom f k t
-    sofar-room = room s few small f k t F.entry F.tallies fine
+    pub sofar_room : TallyRoom f k t
+    sofar_room = room s few small f k t F.entry F.tallies fine
 
-    pub sofar-fits : (k + body_size f k ≤ length f) × (4 ≤ body_size f k)
-    sofar-fits = body_fits s f k F.entry fine
+    pub sofar_fits : (k + body_size f k ≤ length f) × (4 ≤ body_size f k)
+    sofar_fits = body_fits s f k F.entry fine
 
-    pub sofar-next : Sofar s f start (tallied f k t) (k + body_size f k)
-    sofar-next =
+    pub sofar_next : Sofar s f start (tallied f k t) (k + body_size f k)
+    sofar_next =
         record {
           entry = extended f k F.entry;
           bytes = F.bytes - 1;
-          tallies = tallies-next s few small f k t F.entry F.tallies fine;
+          tallies = tallies_next s few small f k t F.entry F.tallies fine;
           pointers = extended_pointers f k F.entry ∙ F.pointers;
           reads = sym (entry_next s f start k F.entry (F.bytes - 1) b fine) ∙ ap (λ (n : ℕ). entry_from n s f start k F.entry) (sym (some_bytes b)) ∙ F.reads;
-          enough = omega (arith, some_bytes b, F.enough, sofar-fits.1);
-          upto = sofar-fits.0;
+          enough = omega (arith, some_bytes b, F.enough, sofar_fits.1);
+          upto = sofar_fits.0;
         }
 
   pub sofar_stops : (r : Refusal) → at_boundary f k ≡ false → checked (number_by s f k t) k ≡ Refused r → entry_read s f start ≡ bad r

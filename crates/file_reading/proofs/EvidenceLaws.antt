@@ -38,22 +38,22 @@ module _ (f : List ℕ) (at : ℕ) (p : Program) (w : List ℕ) (x y : Checked) 
       )
 
   module _ (c : y ≡ Fine) (said : ℕ) (d : said ≡ byte f (at + 1)) where
-    abbrev entriesIn : ℕ → EntriesRead
-    entriesIn m = entries_from m p.shape p.states f (at + 2) [] []
+    abbrev entries_in : ℕ → EntriesRead
+    entries_in m = entries_from m p.shape p.states f (at + 2) [] []
 
-    pub entries-returned : said ≡ 0 → 65536 ≤ length w → (m : ℕ) → m ≡ entries_allowed (length w) → (n : Counted) → n ≡ count_of (entriesIn m) → (last : List ℕ)
-        → last ≡ wrote_from 0 (entriesIn m).offsets (take (length w - 16384) (drop 16384 w)) → (R : Reading) → R ≡ count_reading p 0 no_memory (at + 2) n
+    pub entries_returned : said ≡ 0 → 65536 ≤ length w → (m : ℕ) → m ≡ entries_allowed (length w) → (n : Counted) → n ≡ count_of (entries_in m) → (last : List ℕ)
+        → last ≡ wrote_from 0 (entries_in m).offsets (take (length w - 16384) (drop 16384 w)) → (R : Reading) → R ≡ count_reading p 0 no_memory (at + 2) n
         → Returned R (put_mid 16384 (length w - 16384) w last)
-    entries-returned s l m q n j last k R h =
+    entries_returned s l m q n j last k R h =
         let e = evidence_entries f at p (length w) (claims c) (sym d ∙ s) in (
-          h ∙ ap (count_reading p 0 no_memory (at + 2)) (j ∙ ap (λ (m : ℕ). count_of (entriesIn m)) q) ∙ sym (ap (evidence_reading at p) e),
-          upper 16384 w last (wrote_from 0 (entriesIn (entries_allowed (length w))).offsets) (omega arith)
-              (k ∙ ap (λ (m : ℕ). wrote_from 0 (entriesIn m).offsets (take (length w - 16384) (drop 16384 w))) q)
+          h ∙ ap (count_reading p 0 no_memory (at + 2)) (j ∙ ap (λ (m : ℕ). count_of (entries_in m)) q) ∙ sym (ap (evidence_reading at p) e),
+          upper 16384 w last (wrote_from 0 (entries_in (entries_allowed (length w))).offsets) (omega arith)
+              (k ∙ ap (λ (m : ℕ). wrote_from 0 (entries_in m).offsets (take (length w - 16384) (drop 16384 w))) q)
               ∙ sym (ap (λ (v : Evidence). evidence_area v w) e),
         )
 
-    pub run-returned : (said ≡ 0 → ⊥) → (R : Reading) → ((k : ℕ) → at + 2 ≡ k + 2 → R ≡ evidence_reading k p (run_evidence f said (at + 2) p)) → Returned R w
-    run-returned s R h =
+    pub run_returned : (said ≡ 0 → ⊥) → (R : Reading) → ((k : ℕ) → at + 2 ≡ k + 2 → R ≡ evidence_reading k p (run_evidence f said (at + 2) p)) → Returned R w
+    run_returned s R h =
         let e = evidence_run f at p (length w) (claims c) (λ z. s (d ∙ z)) in (
           h at refl ∙ ap (λ (k : ℕ). evidence_reading at p (run_evidence f k (at + 2) p)) d ∙ sym (ap (evidence_reading at p) e),
           run_area f p w (byte f (at + 1)) (at + 2) ∙ sym (ap (λ (v : Evidence). evidence_area v w) e),

@@ -70,9 +70,9 @@ module _ (s : Shape) (states : List ℕ) (f : List ℕ) (k : ℕ) (offsets : Lis
   list_ends (suc left) l = rw (le-leb (length f) k l)
 
   module _ (allowed n : ℕ) (inside : k < length f) where
-    pub head-stops : (r : Refusal) → checked (entry_number s states f k (leb allowed n)) k ≡ Refused r → entries_from (allowed - n) s states f k offsets es ≡ stop_at offsets es r
+    pub head_stops : (r : Refusal) → checked (entry_number s states f k (leb allowed n)) k ≡ Refused r → entries_from (allowed - n) s states f k offsets es ≡ stop_at offsets es r
     unfolding entries_from
-    head-stops r q = elim (dec_lt n allowed) [
+    head_stops r q = elim (dec_lt n allowed) [
       | yes l ↦
           let a : allowed - n ≡ suc (allowed - suc n) = omega arith in
           let q' : checked (entry_number s states f k false) k ≡ Refused r = rw (lt-leb allowed n l) at q in
@@ -84,23 +84,23 @@ module _ (s : Shape) (states : List ℕ) (f : List ℕ) (k : ℕ) (offsets : Lis
     ]
 
     module _ (q : checked (entry_number s states f k (leb allowed n)) k ≡ Fine) where
-      pub head-room : n < allowed
-      head-room = leb-false allowed n (entry_fine f k s states (leb allowed n) q).room
+      pub head_room : n < allowed
+      head_room = leb-false allowed n (entry_fine f k s states (leb allowed n) q).room
 
       fine : checked (entry_number s states f k false) k ≡ Fine
-      fine = rw (lt-leb allowed n head-room) at q
+      fine = rw (lt-leb allowed n head_room) at q
 
       left_one : allowed - n ≡ suc (allowed - (n + 1))
-      left_one = omega (arith, head-room)
+      left_one = omega (arith, head_room)
 
       pub entry_refused : (r : Refusal) → entry_read s f k ≡ bad r → entries_from (allowed - n) s states f k offsets es ≡ stop_at offsets es r
       unfolding entries_from
       entry_refused r d = rw (left_one, lt-leb (length f) k inside, fine, d)
 
-      pub entry-accepted : (e : Configuration) (next : ℕ) → entry_read s f k ≡ whole e next
+      pub entry_accepted : (e : Configuration) (next : ℕ) → entry_read s f k ≡ whole e next
           → entries_from (allowed - n) s states f k offsets es ≡ entries_from (allowed - (n + 1)) s states f next (offsets ++ (k ∷ [])) (es ++ (e ∷ []))
       unfolding entries_from
-      entry-accepted e next d = rw (left_one, lt-leb (length f) k inside, fine, d)
+      entry_accepted e next d = rw (left_one, lt-leb (length f) k inside, fine, d)
 
 -- ---- offsets
 
@@ -141,8 +141,8 @@ listed_next {s} {states} {f} {at} {allowed} {list₀} {list} {list'} {k} {n} {ne
     record {
       offsets = L.offsets ++ (k ∷ []);
       entries = L.entries ++ (e ∷ []);
-      reads = sym (entry-accepted s states f k L.offsets L.entries allowed n l q e next d) ∙ L.reads;
+      reads = sym (entry_accepted s states f k L.offsets L.entries allowed n l q e next d) ∙ L.reads;
       count = ap (λ (m : ℕ). m + 1) L.count ∙ sym (length-append L.offsets (k ∷ []));
-      most = omega (arith, head-room s states f k L.offsets L.entries allowed n l q);
+      most = omega (arith, head_room s states f k L.offsets L.entries allowed n l q);
       wrote = w ∙ ap₂ (λ (x : List ℕ) (p : ℕ). put32 x p k) L.wrote h ∙ wrote_next L.offsets k n list₀ L.count;
     }

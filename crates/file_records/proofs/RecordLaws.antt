@@ -135,15 +135,15 @@ module _ (f : List ℕ) (at : ℕ) where
   states_stop n p r l e = let a : n - p ≡ suc (n - (p + 1)) = omega arith in rw (a, e)
 
   module _ (k : Format) (s : Shape) (states : List ℕ) (n : ℕ) where
-    pub transition-fine : checked (transition_number k s states f at n) at ≡ Fine
+    pub transition_fine : checked (transition_number k s states f at n) at ≡ Fine
         → Good (not (is_kind f at (transition_kind k))) (cut f at 7) (leb 256 n) false (not (transition_names k s states f at))
     unfolding transition_number
-    transition-fine e = good at e
+    transition_fine e = good at e
 
-    pub target-fine : checked (target_number k s states f at n) at ≡ Fine
+    pub target_fine : checked (target_number k s states f at n) at ≡ Fine
         → Good (not (is_kind f at 4)) (cut f at 4) (leb (most_targets k) n) false (not (state_names s states f at))
     unfolding target_number
-    target-fine e = good at e
+    target_fine e = good at e
 
   -- ---- and of the evidence part
 

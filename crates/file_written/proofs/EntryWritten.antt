@@ -29,7 +29,7 @@ use Rattle.file_written.specs.Standing.{Stands}
 use Rattle.file_written.proofs.Standing.{stands_moved, stands_left, stands_right, stands_first, stands_kind, not_cut}
 use Rattle.file_written.proofs.Fine.{number_fine, both, not_so}
 use Rattle.file_written.specs.ProgramPart.{shape_for}
-use Rattle.file_written.proofs.ProgramWritten.{states-there}
+use Rattle.file_written.proofs.ProgramWritten.{states_there}
 use Rattle.file_written.proofs.RunWritten.{kind_is}
 
 -- ---- one record
@@ -74,76 +74,76 @@ module _ (S : pws.Shape) (range : pws.ShapeInRange S) (counts : (v : ℕ) → va
   value_out v x l e = rw (le-ltb v S.variables l) (eq-eqb x 0 e)
 
   module _ (m : Message) (w : MessageIn (Val S) S m) where
-    snapshot-in : (v : ℕ) → value_name s v (get_or m.snapshot v 0) ≡ true
-    snapshot-in v = elim (dec_lt v S.variables) [
+    snapshot_in : (v : ℕ) → value_name s v (get_or m.snapshot v 0) ≡ true
+    snapshot_in v = elim (dec_lt v S.variables) [
       | yes l ↦ value_in v (get_or m.snapshot v 0) l (w.values v l)
       | no l ↦ value_out v (get_or m.snapshot v 0) (omega arith) (w.absent v (omega arith))
     ]
 
     module _ (f : List ℕ) (at : ℕ) (T : Stands f at (record_bytes (message_record m))) where
-      pub message-names : message_names s f at ≡ true
+      pub message_names_lem : message_names s f at ≡ true
       unfolding message_names value_names
-      message-names =
+      message_names_lem =
           rw (T.same 1 (omega arith), T.same 2 (omega arith), T.same 3 (omega arith), T.same 4 (omega arith), T.same 5 (omega arith), T.same 6 (omega arith))
           (both (both (lt-ltb m.process S.processes w.process) (lt-ltb m.variable S.variables w.variable))
-          (both (snapshot-in 0) (both (snapshot-in 1) (both (snapshot-in 2) (snapshot-in 3)))))
+          (both (snapshot_in 0) (both (snapshot_in 1) (both (snapshot_in 2) (snapshot_in 3)))))
 
-      message-read : message_at f at ≡ m
-      message-read =
+      message_read : message_at f at ≡ m
+      message_read =
           let four : List ℕ = get_or m.snapshot 0 0 ∷ get_or m.snapshot 1 0 ∷ get_or m.snapshot 2 0 ∷ get_or m.snapshot 3 0 ∷ [] in
           let e : four ≡ m.snapshot =
           ext_get_or 0 four m.snapshot (omega (arith, w.room, range.room)) (λ k l. of_four (λ (k : ℕ). get_or four k 0 ≡ get_or m.snapshot k 0) refl refl refl refl k l) in
           rw (T.same 1 (omega arith), T.same 2 (omega arith), T.same 3 (omega arith), T.same 4 (omega arith), T.same 5 (omega arith), T.same 6 (omega arith))
           (λ i. record { process = m.process; variable = m.variable; snapshot = e i })
 
-      message-passes : (n : ℕ) → n < 16 → checked (message_number s f at n) at ≡ Fine
+      message_passes : (n : ℕ) → n < 16 → checked (message_number s f at n) at ≡ Fine
       unfolding message_number
-      message-passes n l =
-          number_fine at (record { allowed = refl; whole = not_cut f at 6 T.fits; room = lt-leb 16 n l; range = refl; names = not_so message-names })
+      message_passes n l =
+          number_fine at (record { allowed = refl; whole = not_cut f at 6 T.fits; room = lt-leb 16 n l; range = refl; names = not_so message_names_lem })
 
   module _ (p v x : ℕ) (a : p < S.processes) (b : v < S.variables) (w : Val S v x) (f : List ℕ) (at : ℕ) (T : Stands f at (record_bytes (waiting_record p v x))) where
-    pub waiting-names : waiting_names s f at ≡ true
+    pub waiting_names_lem : waiting_names s f at ≡ true
     unfolding waiting_names
-    waiting-names =
+    waiting_names_lem =
         rw (T.same 1 (omega arith), T.same 2 (omega arith), T.same 3 (omega arith))
         (both (both (lt-ltb p S.processes a) (lt-ltb v S.variables b)) (value_in v x b w))
 
-    waiting-passes : (n : ℕ) → n < 8 → checked (waiting_number s f at n) at ≡ Fine
+    waiting_passes : (n : ℕ) → n < 8 → checked (waiting_number s f at n) at ≡ Fine
     unfolding waiting_number
-    waiting-passes n l =
+    waiting_passes n l =
         let full : (exists s (byte f (at + 1)) (byte f (at + 2)) && leb 8 n) ≡ false = rw (lt-leb 8 n l) (none (exists s (byte f (at + 1)) (byte f (at + 2)))) in
-        number_fine at (record { allowed = refl; whole = not_cut f at 3 T.fits; room = full; range = refl; names = not_so waiting-names })
+        number_fine at (record { allowed = refl; whole = not_cut f at 3 T.fits; room = full; range = refl; names = not_so waiting_names_lem })
       where
         none : (b : Bool) → (b && false) ≡ false
         none true = refl
         none false = refl
 
   module _ (f : List ℕ) (at : ℕ) (e : Configuration) where
-    pub record-passes : (r : EntryRecord) → RecordIn S r → Room e r → Stands f at (record_bytes r) → checked (body_number s f at e) at ≡ Fine
+    pub record_passes : (r : EntryRecord) → RecordIn S r → Room e r → Stands f at (record_bytes r) → checked (body_number s f at e) at ≡ Fine
     unfolding body_number
-    record-passes (message_record m) w l T = rw (kind_is f at 17 17 (stands_first 17 _ T)) (message-passes m w f at T (length e.memory.channel) l)
-    record-passes (waiting_record p v x) w l T =
+    record_passes (message_record m) w l T = rw (kind_is f at 17 17 (stands_first 17 _ T)) (message_passes m w f at T (length e.memory.channel) l)
+    record_passes (waiting_record p v x) w l T =
         let k = stands_first 18 _ T in
         rw (kind_is f at 18 17 k, kind_is f at 18 18 k)
-        (waiting-passes p v x w.0 w.1 w.2 f at T (length (e.queue (byte f (at + 1)) (byte f (at + 2)))) (rw (T.same 1 (omega arith), T.same 2 (omega arith)) l))
+        (waiting_passes p v x w.0 w.1 w.2 f at T (length (e.queue (byte f (at + 1)) (byte f (at + 2)))) (rw (T.same 1 (omega arith), T.same 2 (omega arith)) l))
 
     pub record_size : (r : EntryRecord) → Stands f at (record_bytes r) → body_size f at ≡ length (record_bytes r)
     unfolding body_size
     record_size (message_record m) T = rw (kind_is f at 17 17 (stands_first 17 _ T))
     record_size (waiting_record p v x) T = rw (kind_is f at 18 17 (stands_first 18 _ T))
 
-    pub record-read : (r : EntryRecord) → RecordIn S r → Stands f at (record_bytes r) → extended f at e ≡ added e r
+    pub record_read : (r : EntryRecord) → RecordIn S r → Stands f at (record_bytes r) → extended f at e ≡ added e r
     unfolding extended
-    record-read (message_record m) w T =
+    record_read (message_record m) w T =
         rw (kind_is f at 17 17 (stands_first 17 _ T))
-        (ap (λ (m : Message). record { state = e.state; queue = e.queue; memory = record { channel = m ∷ e.memory.channel; pointer = e.memory.pointer } }) (message-read m w f at T))
-    record-read (waiting_record p v x) w T =
+        (ap (λ (m : Message). record { state = e.state; queue = e.queue; memory = record { channel = m ∷ e.memory.channel; pointer = e.memory.pointer } }) (message_read m w f at T))
+    record_read (waiting_record p v x) w T =
         rw (kind_is f at 18 17 (stands_first 18 _ T), T.same 1 (omega arith), T.same 2 (omega arith), T.same 3 (omega arith))
 
-    pub record-inside : (r : EntryRecord) → Stands f at (record_bytes r) → at_boundary f at ≡ false
+    pub record_inside : (r : EntryRecord) → Stands f at (record_bytes r) → at_boundary f at ≡ false
     unfolding at_boundary
-    record-inside (message_record m) T = rw (lt-leb (length f) at (omega (arith, T.fits)), kind_is f at 17 16 (stands_first 17 _ T))
-    record-inside (waiting_record p v x) T = rw (lt-leb (length f) at (omega (arith, T.fits)), kind_is f at 18 16 (stands_first 18 _ T))
+    record_inside (message_record m) T = rw (lt-leb (length f) at (omega (arith, T.fits)), kind_is f at 17 16 (stands_first 17 _ T))
+    record_inside (waiting_record p v x) T = rw (lt-leb (length f) at (omega (arith, T.fits)), kind_is f at 18 16 (stands_first 18 _ T))
 
 -- ---- the records after the 10
 
@@ -230,8 +230,8 @@ module _ (S : pws.Shape) (range : pws.ShapeInRange S) (counts : (v : ℕ) → va
       let n = length-append (record_bytes r) (joined record_bytes rs) in
       let z : at + length (record_bytes r) + length (joined record_bytes rs) ≡ at + length (record_bytes r ++ joined record_bytes rs) = omega arith in
       let room = room_for e r (now_few (added e r) rs few low) (now_low (added e r) rs few low) in
-      entry_goes bytes at e (record-inside S range counts f at e r H) (record-passes S range counts f at e r w.0 room H)
-      ∙ ap₂ (λ (k : ℕ) (d : Configuration). entry_from bytes (shape_for S) f start (at + k) d) (record_size S range counts f at e r H) (record-read S range counts f at e r w.0 H)
+      entry_goes bytes at e (record_inside S range counts f at e r H) (record_passes S range counts f at e r w.0 room H)
+      ∙ ap₂ (λ (k : ℕ) (d : Configuration). entry_from bytes (shape_for S) f start (at + k) d) (record_size S range counts f at e r H) (record_read S range counts f at e r w.0 H)
       ∙ body_read rs w.1 bytes (at + length (record_bytes r)) (added e r) few low (omega arith) (stands_right (record_bytes r) (joined record_bytes rs) T) (ap (at_boundary f) z ∙ b)
       ∙ ap (λ (k : ℕ). finished (shape_for S) start k (added_all (added e r) rs)) z
 
@@ -317,17 +317,17 @@ module _ (P : pws.Program) (range : pws.ShapeInRange P.shape) (counts : (v : ℕ
     | no l ↦ rw (le-ltb p S.processes (omega arith))
   ]
 
-  pointers-fit : pointers_fit (shape_for S) (length read.memory.channel) r.pointer ≡ true
+  pointers_fit_lem : pointers_fit (shape_for S) (length read.memory.channel) r.pointer ≡ true
   unfolding pointers_fit
-  pointers-fit = both (pointer_fits 0) (both (pointer_fits 1) (both (pointer_fits 2) (pointer_fits 3)))
+  pointers_fit_lem = both (pointer_fits 0) (both (pointer_fits 1) (both (pointer_fits 2) (pointer_fits 3)))
 
   first_there : (q : ℕ) → q < S.processes → r.pointer q ≡ 1 → points_first (shape_for S) q (r.pointer q) ≡ true
   unfolding points_first
   first_there q l e = both (lt-ltb q S.processes l) (eq-eqb (r.pointer q) 1 e)
 
-  some-there : first_some (shape_for S) r.pointer ≡ true
+  some_there : first_some (shape_for S) r.pointer ≡ true
   unfolding first_some
-  some-there =
+  some_there =
       let F : ℕ → Bool = λ q. points_first (shape_for S) q (r.pointer q) in
       of_four (λ (q : ℕ). q < S.processes → r.pointer q ≡ 1 → (F 0 || (F 1 || (F 2 || F 3))) ≡ true)
       (λ l e. or_left (F 0) (F 1 || (F 2 || F 3)) (first_there 0 l e))
@@ -335,18 +335,18 @@ module _ (P : pws.Program) (range : pws.ShapeInRange P.shape) (counts : (v : ℕ
       (λ l e. or_right (F 0) (F 1 || (F 2 || F 3)) (or_right (F 1) (F 2 || F 3) (or_left (F 2) (F 3) (first_there 2 l e))))
       (λ l e. or_right (F 0) (F 1 || (F 2 || F 3)) (or_right (F 1) (F 2 || F 3) (or_right (F 2) (F 3) (first_there 3 l e)))) E.first.0 (omega (arith, E.first.1, range.processes)) E.first.1 E.first.2
 
-  all-complete : complete (shape_for S) (length read.memory.channel) r.pointer ≡ true
+  all_complete : complete (shape_for S) (length read.memory.channel) r.pointer ≡ true
   unfolding complete
-  all-complete = both (le-leb 1 (length read.memory.channel) E.of.fits.memory.some) (both pointers-fit some-there)
+  all_complete = both (le-leb 1 (length read.memory.channel) E.of.fits.memory.some) (both pointers_fit_lem some_there)
 
   all_in : RecordsIn S r.body
   all_in =
       records_in S [] r.body (channel_all (MessageIn (Val S) S) (channel_of [] r.body) E.of.fits.memory.messages)
       (queues_wait S (waiting_of r.body) E.of.fits.queues.values E.of.fits.queues.absent)
 
-  pointer-named : (p : ℕ) → pointer_name (shape_for S) p (r.pointer p) ≡ true
+  pointer_named : (p : ℕ) → pointer_name (shape_for S) p (r.pointer p) ≡ true
   unfolding pointer_name
-  pointer-named p = elim (dec_lt p S.processes) [
+  pointer_named p = elim (dec_lt p S.processes) [
     | yes l ↦ or_left (ltb p S.processes) (eqb (r.pointer p) 0) (lt-ltb p S.processes l)
     | no l ↦ or_right (ltb p S.processes) (eqb (r.pointer p) 0) (eq-eqb (r.pointer p) 0 (E.of.fits.memory.absent p (omega arith)))
   ]
@@ -358,22 +358,22 @@ module _ (P : pws.Program) (range : pws.ShapeInRange P.shape) (counts : (v : ℕ
     B : Stands f (at + 9) (joined record_bytes r.body)
     B = stands_right (head_bytes r) (joined record_bytes r.body) T
 
-    pointers-named : pointer_names (shape_for S) f at ≡ true
+    pointers_named : pointer_names (shape_for S) f at ≡ true
     unfolding pointer_names
-    pointers-named =
+    pointers_named =
         rw (H.same 5 (omega arith), H.same 6 (omega arith), H.same 7 (omega arith), H.same 8 (omega arith))
-        (both (pointer-named 0) (both (pointer-named 1) (both (pointer-named 2) (pointer-named 3))))
+        (both (pointer_named 0) (both (pointer_named 1) (both (pointer_named 2) (pointer_named 3))))
 
-    pub head-passes : checked (entry_number (shape_for S) states f at false) at ≡ Fine
+    pub head_passes : checked (entry_number (shape_for S) states f at false) at ≡ Fine
     unfolding entry_number
-    head-passes =
+    head_passes =
         number_fine at (record {
           allowed = not_so (stands_kind 16 _ H);
           whole = not_cut f at 8 H.fits;
           room = refl;
           range = refl;
-          names = not_so (both (states-there (shape_for S) states P refl stated r.state E.of.states f at (H.same 1 (omega arith)) (H.same 2 (omega arith)) (H.same 3 (omega arith))
-              (H.same 4 (omega arith))) pointers-named);
+          names = not_so (both (states_there (shape_for S) states P refl stated r.state E.of.states f at (H.same 1 (omega arith)) (H.same 2 (omega arith)) (H.same 3 (omega arith))
+              (H.same 4 (omega arith))) pointers_named);
         })
 
     state_read : state_at f at ≡ r.state
@@ -390,8 +390,8 @@ module _ (P : pws.Program) (range : pws.ShapeInRange P.shape) (counts : (v : ℕ
     abbrev empty : Configuration
     empty = record { state = r.state; queue = λ p v. []; memory = record { channel = []; pointer = r.pointer } }
 
-    begins-so : beginning f at ≡ empty
-    begins-so =
+    begins_so : beginning f at ≡ empty
+    begins_so =
         let a = state_read in
         let b = pointer_read in
         λ i. record { state = a i; queue = λ p v. []; memory = record { channel = []; pointer = b i } }
@@ -403,26 +403,26 @@ module _ (P : pws.Program) (range : pws.ShapeInRange P.shape) (counts : (v : ℕ
         let c = all_pointer empty r.body in
         λ i. record { state = a i; queue = λ p v. all_queue empty r.body p v i; memory = record { channel = b i; pointer = c i } }
 
-    record-least : (x : EntryRecord) → 1 ≤ length (record_bytes x)
-    record-least (message_record m) = omega arith
-    record-least (waiting_record p v x) = omega arith
+    record_least : (x : EntryRecord) → 1 ≤ length (record_bytes x)
+    record_least (message_record m) = omega arith
+    record_least (waiting_record p v x) = omega arith
 
-    records-least : (rs : List EntryRecord) → length rs ≤ length (joined record_bytes rs)
-    records-least [] = omega arith
-    records-least (x ∷ rs) = omega (arith, record-least x, records-least rs, length-append (record_bytes x) (joined record_bytes rs))
+    records_least : (rs : List EntryRecord) → length rs ≤ length (joined record_bytes rs)
+    records_least [] = omega arith
+    records_least (x ∷ rs) = omega (arith, record_least x, records_least rs, length-append (record_bytes x) (joined record_bytes rs))
 
-    finished-so : finished (shape_for S) at (at + 9 + length (joined record_bytes r.body)) read ≡ whole read (at + 9 + length (joined record_bytes r.body))
+    finished_so : finished (shape_for S) at (at + 9 + length (joined record_bytes r.body)) read ≡ whole read (at + 9 + length (joined record_bytes r.body))
     unfolding finished
-    finished-so = rw all-complete
+    finished_so = rw all_complete
 
-    pub entry-written : at_boundary f (at + length (entry_bytes r)) ≡ true → entry_read (shape_for S) f at ≡ whole read (at + length (entry_bytes r))
+    pub entry_written : at_boundary f (at + length (entry_bytes r)) ≡ true → entry_read (shape_for S) f at ≡ whole read (at + length (entry_bytes r))
     unfolding entry_read
-    entry-written b =
+    entry_written b =
         let n = length-append (head_bytes r) (joined record_bytes r.body) in
         let z : at + 9 + length (joined record_bytes r.body) ≡ at + length (entry_bytes r) = omega arith in
-        ap (entry_from (length f) (shape_for S) f at (at + 9)) begins-so
+        ap (entry_from (length f) (shape_for S) f at (at + 9)) begins_so
         ∙ body_read S range counts f at r.body all_in (length f) (at + 9) empty
         (subst (λ (e : Configuration). length e.memory.channel ≤ 16) (sym ends_so) E.messages)
         (λ p v. subst (λ (e : Configuration). length (e.queue p v) ≤ 8) (sym ends_so) (E.waiting p v))
-        (omega (arith, B.fits, records-least r.body)) B (ap (at_boundary f) z ∙ b)
-        ∙ ap (finished (shape_for S) at (at + 9 + length (joined record_bytes r.body))) ends_so ∙ finished-so ∙ ap (whole read) z
+        (omega (arith, B.fits, records_least r.body)) B (ap (at_boundary f) z ∙ b)
+        ∙ ap (finished (shape_for S) at (at + 9 + length (joined record_bytes r.body))) ends_so ∙ finished_so ∙ ap (whole read) z

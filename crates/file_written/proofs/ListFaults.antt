@@ -33,7 +33,7 @@ use Rattle.file_written.proofs.Fine.{both, not_so}
 use Rattle.file_written.specs.ProgramPart.{shape_for}
 use Rattle.file_written.proofs.Standing.{stands_moved, stands_join, stands_record}
 use Rattle.file_written.proofs.ProgramWritten.{value_same}
-use Rattle.file_written.proofs.EntryWritten.{message-names, waiting-names, or_left, or_right, added_all}
+use Rattle.file_written.proofs.EntryWritten.{message_names_lem, waiting_names_lem, or_left, or_right, added_all}
 use Rattle.file_written.proofs.ListRead.{Back, record_back, says_entry}
 use Rattle.file_records.specs.Records.{state_at, pointer_at}
 use Rattle.file_written.specs.Faults.{ShapeBegun}
@@ -51,7 +51,7 @@ module _ (P : pws.Program) (range : pws.ShapeInRange P.shape) (counts : (v : ℕ
         room = λ d l. omega (arith, leb-false 16 n d);
         range = λ d. tt;
         unrange = λ u. refl;
-        names = λ h. not_so (message-names P.shape range counts h.0 h.1 f at h.2);
+        names = λ h. not_so (message_names_lem P.shape range counts h.0 h.1 f at h.2);
       }) q
 
   waiting_fault : (queue : ℕ → ℕ → List ℕ) → byte f at ≡ 18 → checked (waiting_number (shape_for P.shape) f at (length (queue (byte f (at + 1)) (byte f (at + 2))))) at ≡ Refused r
@@ -76,7 +76,7 @@ module _ (P : pws.Program) (range : pws.ShapeInRange P.shape) (counts : (v : ℕ
     where
       named : (w : EntryRecord) → Waits P w → Stands f at (record_bytes w) → not (waiting_names (shape_for P.shape) f at) ≡ false
       named (message_record m) w T = absurd w
-      named (waiting_record p v x) w T = not_so (waiting-names P.shape range counts p v x w.0 w.1 w.2 f at T)
+      named (waiting_record p v x) w T = not_so (waiting_names_lem P.shape range counts p v x w.0 w.1 w.2 f at T)
 
 -- ---- number 7
 

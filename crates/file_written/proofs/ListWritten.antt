@@ -26,7 +26,7 @@ use Rattle.file_written.specs.ProgramPart.{shape_for}
 use Rattle.file_written.proofs.ProgramWritten.{four, four_each, value_same, placed}
 use Rattle.file_written.proofs.Placed.{Placed, placed_one, placed_two, placed_read}
 use Rattle.file_written.proofs.RunWritten.{claim_passes}
-use Rattle.file_written.proofs.EntryWritten.{head-passes, entry-written}
+use Rattle.file_written.proofs.EntryWritten.{head_passes, entry_written}
 
 pub entries_length : (rs : List EntryRecords) → length (entries_of rs) ≡ length rs
 entries_length [] = refl
@@ -44,10 +44,10 @@ module _ (P : pws.Program) (range : pws.ShapeInRange P.shape) (counts : (v : ℕ
       any true = refl
       any false = refl
 
-  ends-here : (left at : ℕ) (os : List ℕ) (es : List Configuration) → length f ≤ at → entries_from left (shape_for P.shape) states f at os es ≡ record { offsets = os; entries = es; answer = Fine }
+  ends_here : (left at : ℕ) (os : List ℕ) (es : List Configuration) → length f ≤ at → entries_from left (shape_for P.shape) states f at os es ≡ record { offsets = os; entries = es; answer = Fine }
   unfolding entries_from
-  ends-here zero at os es l = rw (le-leb (length f) at l)
-  ends-here (suc left) at os es l = rw (le-leb (length f) at l)
+  ends_here zero at os es l = rw (le-leb (length f) at l)
+  ends_here (suc left) at os es l = rw (le-leb (length f) at l)
 
   goes_on : (left at next : ℕ) (os : List ℕ) (es : List Configuration) (e : Configuration) → at < length f → checked (entry_number (shape_for P.shape) states f at false) at ≡ Fine
       → entry_read (shape_for P.shape) f at ≡ whole e next
@@ -65,7 +65,7 @@ module _ (P : pws.Program) (range : pws.ShapeInRange P.shape) (counts : (v : ℕ
   list_read [] left at os es w l T e =
       record {
         offsets = os;
-        reads = ends-here left at os es (omega arith) ∙ ap (λ (es : List Configuration). record { offsets = os; entries = es; answer = Fine }) (sym (append-nil es));
+        reads = ends_here left at os es (omega arith) ∙ ap (λ (es : List Configuration). record { offsets = os; entries = es; answer = Fine }) (sym (append-nil es));
       }
   list_read (r ∷ rs) zero at os es w l T e = absurd (omega arith)
   list_read (r ∷ rs) (suc left) at os es w l T e =
@@ -79,16 +79,16 @@ module _ (P : pws.Program) (range : pws.ShapeInRange P.shape) (counts : (v : ℕ
       record {
         offsets = M.offsets;
         reads =
-            goes_on left at next os es (entry_of r) (omega (arith, H.fits, length-append (head_bytes r) (joined record_bytes r.body))) (head-passes P range counts states stated r E f at H)
-            (entry-written P range counts states stated r E f at H (edge next rs R end))
+            goes_on left at next os es (entry_of r) (omega (arith, H.fits, length-append (head_bytes r) (joined record_bytes r.body))) (head_passes P range counts states stated r E f at H)
+            (entry_written P range counts states stated r E f at H (edge next rs R end))
             ∙ M.reads
             ∙ ap (λ (es : List Configuration). record { offsets = M.offsets; entries = es; answer = Fine }) (append_assoc es (entry_of r ∷ []) (entries_of rs));
       }
 
 module _ (P : pws.Program) (ts : List (ℕ → ℕ)) (rs : List EntryRecords) (area : ℕ) (K : ProgramContents P ts) (W : ListRead P ts (entries_of rs) area) (large : 65536 ≤ area)
     (x : Input) (L : Placed x P ts (list_bytes rs)) where
-  pub list-placed : read_file x area ≡ list P ts (entries_of rs)
-  list-placed =
+  pub list_placed : read_file x area ≡ list P ts (entries_of rs)
+  list_placed =
       let f = x.file in
       let at = L.at in
       let C = stands_left (claim_bytes 0) (joined entry_bytes rs) L.stands in
@@ -108,6 +108,6 @@ module _ (P : pws.Program) (ts : List (ℕ → ℕ)) (rs : List EntryRecords) (a
 pub records_written_is_read : RecordsWrittenIsRead
 records_written_is_read P ts rs area K W l =
     record {
-      one = list-placed P ts rs area K W l _ (placed_one P ts K (0 ∷ joined entry_bytes rs));
-      two = list-placed P ts rs area K W l _ (placed_two P ts K (0 ∷ joined entry_bytes rs));
+      one = list_placed P ts rs area K W l _ (placed_one P ts K (0 ∷ joined entry_bytes rs));
+      two = list_placed P ts rs area K W l _ (placed_two P ts K (0 ∷ joined entry_bytes rs));
     }

@@ -18,7 +18,7 @@ use Rattle.file_written.specs.Written.{program_bytes}
 use Rattle.file_written.specs.ProgramPart.{ProgramContents}
 use Rattle.file_written.specs.Standing.{Stands}
 use Rattle.file_written.proofs.Standing.{stands_whole, stands_moved, stands_left, stands_right, stands_kind}
-use Rattle.file_written.proofs.ProgramWritten.{placed, program_length, part_placed, program-same, targets_same}
+use Rattle.file_written.proofs.ProgramWritten.{placed, program_length, part_placed, program_same, targets_same}
 
 pub record Placed (x : Input) (P : pws.Program) (ts : List (ℕ → ℕ)) (evidence : List ℕ) : Type 0 where
   pub at : ℕ
@@ -47,7 +47,7 @@ module _ (P : pws.Program) (ts : List (ℕ → ℕ)) (K : ProgramContents P ts) 
       record {
         at = (placed P ts 0).claim;
         part = part_placed P ts K false f 0 T shut;
-        program = program-same P ts K false f 0 T shut;
+        program = program_same P ts K false f 0 T shut;
         targets = targets_same P ts K false f 0 T shut;
         begins = refl;
         stands = E;
@@ -61,7 +61,7 @@ module _ (P : pws.Program) (ts : List (ℕ → ℕ)) (K : ProgramContents P ts) 
       record {
         at = 0;
         part = part_placed P ts K true bs 0 T shut;
-        program = program-same P ts K true bs 0 T shut;
+        program = program_same P ts K true bs 0 T shut;
         targets = targets_same P ts K true bs 0 T shut;
         begins = refl;
         stands = stands_whole (15 ∷ rest);

@@ -22,7 +22,7 @@ use Rattle.file_records.specs.declared.program.Counted.TheVariants.{Records, Sto
 use Rattle.base.specs.Bytes.{byte, choose, cut}
 use Rattle.file_records.specs.Records.{first_number, checked, is_kind, in_range, shape_at, shape_number, value_count, count_in_range, counts_in_range, count_if_absent, counts_if_absent, states_number, transition_at, transition_number, transition_names, state_at, state_names, target_number}
 use Rattle.file_records.specs.ProgramPart.{unless_end, row_from, states_from, of_process, of_processes, transitions_from, at_end, targets_from, rows_from, rest_from, program_with, program_from, shape_of, table_from}
-use Rattle.file_records.proofs.RecordLaws.{fine_refused, refused_same, unless_fine, transition-fine, target-fine}
+use Rattle.file_records.proofs.RecordLaws.{fine_refused, refused_same, unless_fine, transition_fine, target_fine}
 use Rattle.base.proofs.ByteLaws.{byte_past}
 use Rattle.file_records.proofs.ProgramLaws.{and_true, transitions_most, targets_most}
 use Rattle.file_again.specs.Again.{place_of}
@@ -35,8 +35,8 @@ use Rattle.file_written.specs.Written.{joined, numbers, shape_bytes, states_byte
 use Rattle.file_written.specs.Faults.{Fault, ShapeNumbers, AbsentCounts, ShapeFault, StatesFault, TransitionFault, TargetFault, ShapeBegun, StatesBegun, RowsBegun, states_begun_bytes, ProgramFault, in_shape, in_states, in_transitions, in_targets, ends_before, ends_in_states, ends_in_rows, ProgramRefused}
 use Rattle.file_written.proofs.Standing.{stands_moved, stands_all, stands_join, joined_length, joined_stands}
 use Rattle.file_written.proofs.Fine.{both, not_so, range_in}
-use Rattle.file_written.proofs.ProgramWritten.{transition-names, states-there, program_length}
-use Rattle.file_written.proofs.ProgramRead.{shape_stands, states_stand, transition-stands, target_stands, row_shut}
+use Rattle.file_written.proofs.ProgramWritten.{transition_names_lem, states_there, program_length}
+use Rattle.file_written.proofs.ProgramRead.{shape_stands, states_stand, transition_stands, target_stands, row_shut}
 use Rattle.file_written.proofs.Faults.{Told, fault_of, kind_told, kind_tells, false_true, unless_refused, Stop, row_stopped, StatesStop, states_stopped}
 
 -- ---- 01
@@ -133,9 +133,9 @@ module _ (f : List ℕ) (at : ℕ) where
 
 module _ (P : pws.Program) (s : Shape) (states : List ℕ) (processes : s.processes ≡ P.shape.processes) (variables : s.variables ≡ P.shape.variables)
     (counts : (v : ℕ) → value_count s v ≡ P.shape.values v) (stated : (p : ℕ) → get_or states p 0 ≡ P.states p) (f : List ℕ) (at : ℕ) (r : Refusal) where
-  transition-fault : (n : ℕ) → n ≡ length P.transitions → checked (transition_number Plain s states f at n) at ≡ Refused r → (r.place ≡ at) × TransitionFault P f at r.number
+  transition_fault : (n : ℕ) → n ≡ length P.transitions → checked (transition_number Plain s states f at n) at ≡ Refused r → (r.place ≡ at) × TransitionFault P f at r.number
   unfolding transition_number
-  transition-fault n e q =
+  transition_fault n e q =
       fault_of f at 7 (byte f at ≡ 3) (256 ≤ length P.transitions) Unit ((t : Transition) × pws.TransitionOf P t × Stands f at (transition_bytes t)) r
       (record {
         kind = kind_told f at 3;
@@ -144,12 +144,12 @@ module _ (P : pws.Program) (s : Shape) (states : List ℕ) (processes : s.proces
         room = λ d l. omega (arith, leb-false 256 n d);
         range = λ d. tt;
         unrange = λ u. refl;
-        names = λ h. not_so (transition-names f at h.0 h.2 s states P processes variables counts stated h.1);
+        names = λ h. not_so (transition_names_lem f at h.0 h.2 s states P processes variables counts stated h.1);
       }) q
 
-  target-fault : (ts : List (ℕ → ℕ)) (n : ℕ) → n ≡ length ts → checked (target_number Plain s states f at n) at ≡ Refused r → (r.place ≡ at) × TargetFault P ts f at r.number
+  target_fault : (ts : List (ℕ → ℕ)) (n : ℕ) → n ≡ length ts → checked (target_number Plain s states f at n) at ≡ Refused r → (r.place ≡ at) × TargetFault P ts f at r.number
   unfolding target_number
-  target-fault ts n e q =
+  target_fault ts n e q =
       fault_of f at 4 (byte f at ≡ 4) (4096 ≤ length ts) Unit ((t : ℕ → ℕ) × StatesOf P t × Stands f at (target_bytes t)) r
       (record {
         kind = kind_told f at 4;
@@ -158,7 +158,7 @@ module _ (P : pws.Program) (s : Shape) (states : List ℕ) (processes : s.proces
         room = λ d l. omega (arith, leb-false 4096 n d);
         range = λ d. tt;
         unrange = λ u. refl;
-        names = λ h. not_so (states-there s states P processes stated h.0 h.1 f at (h.2.same 1 (omega arith)) (h.2.same 2 (omega arith)) (h.2.same 3 (omega arith)) (h.2.same 4 (omega arith)));
+        names = λ h. not_so (states_there s states P processes stated h.0 h.1 f at (h.2.same 1 (omega arith)) (h.2.same 2 (omega arith)) (h.2.same 3 (omega arith)) (h.2.same 4 (omega arith)));
       }) q
 
 -- ---- beginnings
@@ -198,30 +198,30 @@ module _ (f : List ℕ) (first_Fine : unless_end f 0 (checked (shape_number Plai
 
   -- the first k processes
   module _ (k : ℕ) (l : k ≤ shaped.processes) (q : states_from f 7 k ≡ Fine) (ts : List Transition) where
-    abbrev begunWith : pws.Program
-    begunWith = record { shape = shape_of shaped; states = λ p. get_or (of_processes f 7 1 k) p 0; initial = λ p. get_or (of_processes f 7 2 k) p 0; transitions = ts }
+    abbrev begun_with : pws.Program
+    begun_with = record { shape = shape_of shaped; states = λ p. get_or (of_processes f 7 1 k) p 0; initial = λ p. get_or (of_processes f 7 2 k) p 0; transitions = ts }
 
     few : k ≤ 4
     few = omega (arith, range.processes.1)
 
-    states-begun : StatesBegun begunWith k
-    states-begun = record { begun = shape_begun; few = λ p i. states_most f 7 k few q p i; initial = λ p i. initial_below f 7 k few q p i }
+    states_begun : StatesBegun begun_with k
+    states_begun = record { begun = shape_begun; few = λ p i. states_most f 7 k few q p i; initial = λ p i. initial_below f 7 k few q p i }
 
-    second-stands : Stands f 7 (joined (states_bytes begunWith) (numbers k))
-    second-stands =
+    second_stands : Stands f 7 (joined (states_bytes begun_with) (numbers k))
+    second_stands =
         let m = table_length (λ i. i) 0 k in
-        joined_stands (states_bytes begunWith) 3 (λ p. refl) 7 (numbers k) 0 (shape_stands f 0 first_Fine).fits (λ p j.
+        joined_stands (states_bytes begun_with) 3 (λ p. refl) 7 (numbers k) 0 (shape_stands f 0 first_Fine).fits (λ p j.
         let i : p < k = omega arith in
-        subst (λ (q : ℕ). Stands f (7 + 3 * p) (states_bytes begunWith q)) (sym (table_number (λ i. i) k p 0 i)) (states_stand f 7 k few q begunWith (λ p l. refl) (λ p l. refl) p i))
+        subst (λ (q : ℕ). Stands f (7 + 3 * p) (states_bytes begun_with q)) (sym (table_number (λ i. i) k p 0 i)) (states_stand f 7 k few q begun_with (λ p l. refl) (λ p l. refl) p i))
 
-    second-length : length (joined (states_bytes begunWith) (numbers k)) ≡ 3 * k
-    second-length = joined_length (states_bytes begunWith) 3 (λ p. refl) (numbers k) ∙ ap (λ (i : ℕ). 3 * i) (table_length (λ i. i) 0 k)
+    second_length : length (joined (states_bytes begun_with) (numbers k)) ≡ 3 * k
+    second_length = joined_length (states_bytes begun_with) 3 (λ p. refl) (numbers k) ∙ ap (λ (i : ℕ). 3 * i) (table_length (λ i. i) 0 k)
 
-    begun-stands : Stands f 0 (states_begun_bytes begunWith k)
-    begun-stands = stands_join (shape_bytes (shape_of shaped)) (joined (states_bytes begunWith) (numbers k)) (shape_stands f 0 first_Fine) second-stands
+    begun_stands : Stands f 0 (states_begun_bytes begun_with k)
+    begun_stands = stands_join (shape_bytes (shape_of shaped)) (joined (states_bytes begun_with) (numbers k)) (shape_stands f 0 first_Fine) second_stands
 
-    begun-length : length (states_begun_bytes begunWith k) ≡ 7 + 3 * k
-    begun-length = omega (arith, second-length, length-append (shape_bytes (shape_of shaped)) (joined (states_bytes begunWith) (numbers k)))
+    begun_length : length (states_begun_bytes begun_with k) ≡ 7 + 3 * k
+    begun_length = omega (arith, second_length, length-append (shape_bytes (shape_of shaped)) (joined (states_bytes begun_with) (numbers k)))
 
   -- and n transitions and m targets
   module _ (q : states_from f 7 shaped.processes ≡ Fine) (n m : ℕ) (fewer : n ≤ 256) (fewest : m ≤ 4096) where
@@ -235,7 +235,7 @@ module _ (f : List ℕ) (first_Fine : unless_end f 0 (checked (shape_number Plai
     second = first + 8 * n
 
     abbrev P : pws.Program
-    P = begunWith shaped.processes (omega arith) q (table_from (λ i. transition_at f (first + 8 * i)) 0 n)
+    P = begun_with shaped.processes (omega arith) q (table_from (λ i. transition_at f (first + 8 * i)) 0 n)
 
     abbrev ts : List (ℕ → ℕ)
     ts = table_from (λ i. state_at f (second + 5 * i)) 0 m
@@ -246,37 +246,37 @@ module _ (f : List ℕ) (first_Fine : unless_end f 0 (checked (shape_number Plai
     count₂ : length ts ≡ m
     count₂ = table_length (λ i. state_at f (second + 5 * i)) 0 m
 
-    rows-length : length (program_bytes P ts) ≡ second + 5 * m
-    rows-length = omega (arith, program_length P ts, count₁, count₂)
+    rows_length : length (program_bytes P ts) ≡ second + 5 * m
+    rows_length = omega (arith, program_length P ts, count₁, count₂)
 
     module _ (taken : (i : ℕ) → i < n → checked (transition_number Plain shaped states f (first + 8 * i) (0 + i)) (first + 8 * i) ≡ Fine)
         (aimed : (i : ℕ) → i < m → checked (target_number Plain shaped states f (second + 5 * i) (0 + i)) (second + 5 * i) ≡ Fine) where
-      rows-begun : RowsBegun P ts
-      rows-begun =
+      rows_begun : RowsBegun P ts
+      rows_begun =
           record {
-            begun = states-begun shaped.processes (omega arith) q (table_from (λ i. transition_at f (first + 8 * i)) 0 n);
+            begun = states_begun shaped.processes (omega arith) q (table_from (λ i. transition_at f (first + 8 * i)) 0 n);
             transitions = λ k l.
                 let i : k < n = omega (arith, count₁) in
                 subst (pws.TransitionOf P) (sym (table_number (λ i. transition_at f (first + 8 * i)) n k pws.no_transition i))
-                (transition_of shaped states P.initial P.transitions f (first + 8 * k) (not-false _ (transition-fine f (first + 8 * k) Plain shaped states (0 + k) (taken k i)).names));
+                (transition_of shaped states P.initial P.transitions f (first + 8 * k) (not-false _ (transition_fine f (first + 8 * k) Plain shaped states (0 + k) (taken k i)).names));
             few_transitions = omega (arith, count₁);
             targets = λ k l.
                 let i : k < m = omega (arith, count₂) in
                 subst (StatesOf P) (sym (table_number (λ i. state_at f (second + 5 * i)) m k (λ p. 0) i))
                 (states_of_lem shaped states P.initial P.transitions f (second + 5 * k) range.processes.1
-                (not-false _ (target-fine f (second + 5 * k) Plain shaped states (0 + k) (aimed k i)).names));
+                (not-false _ (target_fine f (second + 5 * k) Plain shaped states (0 + k) (aimed k i)).names));
             few_targets = omega (arith, count₂);
           }
 
-      rows-stand : Stands f 0 (program_bytes P ts)
-      rows-stand =
-          let S₂ = second-stands shaped.processes (omega arith) q P.transitions in
-          let e₂ = second-length shaped.processes (omega arith) q P.transitions in
+      rows_stand : Stands f 0 (program_bytes P ts)
+      rows_stand =
+          let S₂ = second_stands shaped.processes (omega arith) q P.transitions in
+          let e₂ = second_length shaped.processes (omega arith) q P.transitions in
           let S₃ : Stands f first (joined transition_bytes P.transitions) =
           joined_stands transition_bytes 8 (λ t. refl) first P.transitions pws.no_transition (omega (arith, S₂.fits, e₂)) (λ k l.
           let i : k < n = omega (arith, count₁) in
           subst (λ (t : Transition). Stands f (first + 8 * k) (transition_bytes t)) (sym (table_number (λ i. transition_at f (first + 8 * i)) n k pws.no_transition i))
-          (transition-stands f (first + 8 * k) shaped states (0 + k) (taken k i))) in
+          (transition_stands f (first + 8 * k) shaped states (0 + k) (taken k i))) in
           let e₃ : length (joined transition_bytes P.transitions) ≡ 8 * n = joined_length transition_bytes 8 (λ t. refl) P.transitions ∙ ap (λ (k : ℕ). 8 * k) count₁ in
           let S₄ : Stands f second (joined target_bytes ts) =
           joined_stands target_bytes 5 (λ t. refl) second ts (λ p. 0) (omega (arith, S₃.fits, e₃)) (λ k l.
@@ -303,14 +303,14 @@ module _ (alone : Bool) (f : List ℕ) (r : Refusal) where
       (λ a. let w = shape_fault f 0 r a.1 in in_shape a.0 w.0 w.1) (unless_refused f 0 _ r q)
 
   module _ (A : unless_end f 0 (checked (shape_number Plain f 0) 0) ≡ Fine) where
-    by-states : states_from f 7 (shape_at f 0).processes ≡ Refused r → ProgramFault alone f r
-    by-states q =
+    by_states : states_from f 7 (shape_at f 0).processes ≡ Refused r → ProgramFault alone f r
+    by_states q =
         let S = states_stopped f 7 (shape_at f 0).processes r q in
         let k = S.count in
         let l : k ≤ (shape_at f 0).processes = omega (arith, S.less) in
-        let T = begun-stands f A k l S.before [] in
-        let n = begun-length f A k l S.before [] in
-        let B = states-begun f A k l S.before [] in
+        let T = begun_stands f A k l S.before [] in
+        let n = begun_length f A k l S.before [] in
+        let B = states_begun f A k l S.before [] in
         ⊎_elim
         (λ a. ends_in_states _ k B S.less a.1 a.2 (stands_all f _ T (omega (arith, a.0, T.fits))))
         (λ a.
@@ -328,9 +328,9 @@ module _ (alone : Bool) (f : List ℕ) (r : Refusal) where
       abbrev begins : ℕ
       begins = 7 + 3 * sh.processes
 
-      by-transitions : transitions_from Plain sh st f begins ≡ Stopped r → ProgramFault alone f r
+      by_transitions : transitions_from Plain sh st f begins ≡ Stopped r → ProgramFault alone f r
       unfolding transitions_from
-      by-transitions q =
+      by_transitions q =
           let S = row_stopped (λ k n. not (is_kind f k 3)) (λ k n. checked (transition_number Plain sh st f k n) k) (λ k. 8) r 256 begins 0 q in
           let n = S.count in
           let taken : (i : ℕ) → i < n → checked (transition_number Plain sh st f (begins + 8 * i) (0 + i)) (begins + 8 * i) ≡ Fine = λ i l. rw (place_eight begins i) at (S.before i l) in
@@ -339,11 +339,11 @@ module _ (alone : Bool) (f : List ℕ) (r : Refusal) where
           let stops = rw (place_eight begins n) at S.stops in
           let c = count₁ f A Q n 0 S.most (omega arith) in
           let z : 0 + n ≡ length (P f A Q n 0 S.most (omega arith)).transitions = omega (arith, c) in
-          let w = transition-fault (P f A Q n 0 S.most (omega arith)) sh st refl refl (λ v. refl) (λ p. refl) f (begins + 8 * n) r (0 + n) z stops in
+          let w = transition_fault (P f A Q n 0 S.most (omega arith)) sh st refl refl (λ v. refl) (λ p. refl) f (begins + 8 * n) r (0 + n) z stops in
           let three = kind_told f (begins + 8 * n) 3 goes in
           let place = w.0 in
-          in_transitions (P f A Q n 0 S.most (omega arith)) (rows-begun f A Q n 0 S.most (omega arith) taken none) (rows-stand f A Q n 0 S.most (omega arith) taken none)
-          (omega (arith, rows-length f A Q n 0 S.most (omega arith))) (omega (arith, inside f (begins + 8 * n) 2 three)) (ap (byte f) place ∙ three)
+          in_transitions (P f A Q n 0 S.most (omega arith)) (rows_begun f A Q n 0 S.most (omega arith) taken none) (rows_stand f A Q n 0 S.most (omega arith) taken none)
+          (omega (arith, rows_length f A Q n 0 S.most (omega arith))) (omega (arith, inside f (begins + 8 * n) 2 three)) (ap (byte f) place ∙ three)
           (subst (λ (i : ℕ). TransitionFault (P f A Q n 0 S.most (omega arith)) f i r.number) (sym place) w.1)
 
       module _ (n : ℕ) (reads : transitions_from Plain sh st f begins ≡ Records n) where
@@ -357,11 +357,11 @@ module _ (alone : Bool) (f : List ℕ) (r : Refusal) where
             rw (place_eight begins i) at e
 
         -- no 03 stands after the row
-        no-three : byte f (begins + 8 * n) ≡ 3 → ⊥
+        no_three : byte f (begins + 8 * n) ≡ 3 → ⊥
         unfolding transitions_from
-        no-three b =
+        no_three b =
             let e = (row_shut (λ k n. not (is_kind f k 3)) (λ k n. checked (transition_number Plain sh st f k n) k) (λ k. 8) 256 begins 0 n
-            (λ k c. no_true (sym (transition-fine f k Plain sh st 256 c).room)) reads).1 in
+            (λ k c. no_true (sym (transition_fine f k Plain sh st 256 c).room)) reads).1 in
             let z : n - 0 ≡ n = omega arith in
             let d : not (is_kind f (begins + 8 * n) 3) ≡ true = rw (z, place_eight begins n) at e in
             no_true (sym (kind_tells f (begins + 8 * n) 3 b) ∙ d)
@@ -369,9 +369,9 @@ module _ (alone : Bool) (f : List ℕ) (r : Refusal) where
         abbrev ends : ℕ
         ends = begins + 8 * n
 
-        not-ended : (b : Bool) (at j : ℕ) → (cond b (leb (length f) at) (is_kind f at 15) && leb 1 j) ≡ false → (b ≡ true → length f ≤ at → j ≡ 0) × (b ≡ false → 1 ≤ j → byte f at ≡ 15 → ⊥)
+        not_ended : (b : Bool) (at j : ℕ) → (cond b (leb (length f) at) (is_kind f at 15) && leb 1 j) ≡ false → (b ≡ true → length f ≤ at → j ≡ 0) × (b ≡ false → 1 ≤ j → byte f at ≡ 15 → ⊥)
         unfolding is_kind
-        not-ended b at j e = (
+        not_ended b at j e = (
           (λ c l. elim (dec_lt j 1) [
             | yes i ↦ omega arith
             | no i ↦
@@ -393,21 +393,21 @@ module _ (alone : Bool) (f : List ℕ) (r : Refusal) where
             λ i l. (unless_fine f (ends + 5 * i) _ (rw (place_five ends i) at (S.before i l))).1 in
             let goes : at_end alone f place (0 + m) ≡ false = rw (place_five ends m) at S.goes in
             let stops : unless_end f place (checked (target_number Plain sh st f place (0 + m)) place) ≡ Refused r = rw (place_five ends m) at S.stops in
-            let N = not-ended alone place (0 + m) goes in
+            let N = not_ended alone place (0 + m) goes in
             let PP = P f A Q n m most S.most in
             let us = ts f A Q n m most S.most in
             let c : length us ≡ m = count₂ f A Q n m most S.most in
-            let size : length (program_bytes PP us) ≡ place = rows-length f A Q n m most S.most in
-            let B = rows-begun f A Q n m most S.most taken aimed in
-            let T = rows-stand f A Q n m most S.most taken aimed in
+            let size : length (program_bytes PP us) ≡ place = rows_length f A Q n m most S.most in
+            let B = rows_begun f A Q n m most S.most taken aimed in
+            let T = rows_stand f A Q n m most S.most taken aimed in
             ⊎_elim
             (λ a. ends_in_rows PP us B (λ e. omega (arith, N.0 e a.0, c)) a.1 a.2 (stands_all f (program_bytes PP us) T (omega (arith, a.0, T.fits, size))))
             (λ a.
             let z : 0 + m ≡ length us = omega arith in
-            let w = target-fault PP sh st refl refl (λ v. refl) (λ p. refl) f place r us (0 + m) z a.1 in
+            let w = target_fault PP sh st refl refl (λ v. refl) (λ p. refl) f place r us (0 + m) z a.1 in
             let at : r.place ≡ place = w.0 in
             in_targets PP us B T (at ∙ sym size) (omega (arith, a.0))
-            (λ e b. let y : place ≡ ends = omega arith in no-three (ap (byte f) (sym (at ∙ y)) ∙ b))
+            (λ e b. let y : place ≡ ends = omega arith in no_three (ap (byte f) (sym (at ∙ y)) ∙ b))
             (λ e l b. N.1 e (omega arith) (ap (byte f) (sym at) ∙ b))
             (subst (λ (i : ℕ). TargetFault PP us f i r.number) (sym at) w.1))
             (unless_refused f place _ r stops)
@@ -421,8 +421,8 @@ module _ (alone : Bool) (f : List ℕ) (r : Refusal) where
       → transitions_from Plain (shape_at f 0) (of_processes f 7 1 (shape_at f 0).processes) f (7 + 3 * (shape_at f 0).processes) ≡ n → ProgramFault alone f r
   unfolding program_with rest_from rows_from
   by_parts q (Refused p) y n a b c = by_shape (a ∙ (sym (rw a) ∙ q))
-  by_parts q Fine (Refused p) n a b c = by-states a (b ∙ (sym (rw (a, b)) ∙ q))
-  by_parts q Fine Fine (Stopped p) a b c = by-transitions a b (c ∙ ap Stopped (refused_same (sym (rw (a, b, c)) ∙ q)))
+  by_parts q Fine (Refused p) n a b c = by_states a (b ∙ (sym (rw (a, b)) ∙ q))
+  by_parts q Fine Fine (Stopped p) a b c = by_transitions a b (c ∙ ap Stopped (refused_same (sym (rw (a, b, c)) ∙ q)))
   by_parts q Fine Fine (Records n) a b c = go (targets_from Plain alone (shape_at f 0) (of_processes f 7 1 (shape_at f 0).processes) f (7 + 3 * (shape_at f 0).processes + 8 * n)) refl
     where
       go : (m : Counted) → targets_from Plain alone (shape_at f 0) (of_processes f 7 1 (shape_at f 0).processes) f (7 + 3 * (shape_at f 0).processes + 8 * n) ≡ m → ProgramFault alone f r

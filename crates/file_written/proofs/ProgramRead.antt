@@ -22,7 +22,7 @@ use Rattle.base.specs.Bytes.{byte, choose}
 use Rattle.file_records.specs.Records.{checked, is_kind, shape_at, shape_number, value_count, value_exists, all_zero, names_of, operation_names, operation_of, transition_at, transition_number, state_at, target_number}
 use Rattle.file_records.specs.ProgramPart.{unless_end, count_then, row_from, states_from, of_process, of_processes, transitions_from, at_end, targets_from, program_from, shape_of, table_from, program_of, targets_of}
 use Rattle.base.proofs.ByteLaws.{byte_past, cut_fits}
-use Rattle.file_records.proofs.RecordLaws.{good, unless_fine, states_fine, transition-fine, target-fine}
+use Rattle.file_records.proofs.RecordLaws.{good, unless_fine, states_fine, transition_fine, target_fine}
 use Rattle.file_records.proofs.ProgramLaws.{and_true}
 use Rattle.file_contents.proofs.ReadingLaws.{ProgramFine, program_fine}
 use Rattle.file_again.specs.Again.{place_of}
@@ -140,16 +140,16 @@ module _ (f : List ℕ) (at : ℕ) where
       stands_record f at 1 6 (not-false _ g.allowed) (omega (arith, cut_fits f at 6 g.whole))
 
   module _ (s : Shape) (states : List ℕ) (n : ℕ) where
-    pub transition-stands : checked (transition_number Plain s states f at n) at ≡ Fine → Stands f at (transition_bytes (transition_at f at))
-    transition-stands e =
-        let g = transition-fine f at Plain s states n e in
+    pub transition_stands : checked (transition_number Plain s states f at n) at ≡ Fine → Stands f at (transition_bytes (transition_at f at))
+    transition_stands e =
+        let g = transition_fine f at Plain s states n e in
         let S = stands_record f at 3 7 (not-false _ g.allowed) (omega (arith, cut_fits f at 7 g.whole)) in
         let o = operation_back s (byte f (at + 4)) (byte f (at + 5)) (byte f (at + 6)) (byte f (at + 3)) (parts_named Plain s states f at (not-false _ g.names)).operation in
         subst (Stands f at) (λ i. 3 ∷ byte f (at + 1) ∷ byte f (at + 2) ∷ sym o.operation i ∷ sym o.variable i ∷ sym o.value i ∷ sym o.new_value i ∷ byte f (at + 7) ∷ []) S
 
     pub target_stands : checked (target_number Plain s states f at n) at ≡ Fine → Stands f at (target_bytes (state_at f at))
     target_stands e =
-        let g = target-fine f at Plain s states n e in
+        let g = target_fine f at Plain s states n e in
         stands_record f at 4 4 (not-false _ g.allowed) (omega (arith, cut_fits f at 4 g.whole))
 
 pub states_stand : (f : List ℕ) (at n : ℕ) → n ≤ 4 → states_from f at n ≡ Fine → (P : pws.Program) → ((p : ℕ) → p < n → P.states p ≡ get_or (of_processes f at 1 n) p 0)
@@ -235,7 +235,7 @@ module _ (alone : Bool) (f : List ℕ) (at : ℕ) (F : ProgramFine Plain alone f
       joined_stands transition_bytes 8 (λ t. refl) first P.transitions pws.no_transition (omega (arith, S₂.fits, B_length)) (λ k l.
       let i : k < F.transitions = omega (arith, count₁) in
       subst (λ (t : Transition). Stands f (first + 8 * k) (transition_bytes t)) (sym (table_number (λ i. transition_at f (first + 8 * i)) F.transitions k pws.no_transition i))
-      (transition-stands f (first + 8 * k) s states (0 + k) (taken k i)))
+      (transition_stands f (first + 8 * k) s states (0 + k) (taken k i)))
 
   C_length : length C ≡ 8 * F.transitions
   C_length = joined_length transition_bytes 8 (λ t. refl) P.transitions ∙ ap (λ (k : ℕ). 8 * k) count₁
@@ -269,7 +269,7 @@ module _ (alone : Bool) (f : List ℕ) (at : ℕ) (F : ProgramFine Plain alone f
   part_length = omega (arith, program_length P ts, count₁, count₂)
 
   not_full : (k : ℕ) → unless_end f k (checked (target_number Plain s states f k (0 + 4096)) k) ≡ Fine → ⊥
-  not_full k e = no_true (sym (target-fine f k Plain s states 4096 (unless_fine f k _ e).1).room)
+  not_full k e = no_true (sym (target_fine f k Plain s states 4096 (unless_fine f k _ e).1).room)
 
   pub part_shut : cond alone (leb (length f) p.claim) (is_kind f p.claim 15) ≡ true
   unfolding targets_from at_end

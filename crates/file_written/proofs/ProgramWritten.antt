@@ -79,25 +79,25 @@ module _ (S : pws.Shape) (range : pws.ShapeInRange S) (absent : (v : ℕ) → S.
   counts_out = both (count_out 0) (both (count_out 1) (both (count_out 2) (count_out 3)))
 
   module _ (f : List ℕ) (at : ℕ) (T : Stands f at (shape_bytes S)) where
-    pub shape-read : shape_at f at ≡ s
-    shape-read =
+    pub shape_read : shape_at f at ≡ s
+    shape_read =
         rw (T.same 1 (omega arith), T.same 2 (omega arith), T.same 3 (omega arith), T.same 4 (omega arith), T.same 5 (omega arith), T.same 6 (omega arith))
 
     in_range_lem : (in_range (byte f (at + 1)) 4 && (in_range (byte f (at + 2)) 4 && counts_in_range Plain (shape_at f at))) ≡ true
     in_range_lem =
-        rw (shape-read, T.same 1 (omega arith), T.same 2 (omega arith))
+        rw (shape_read, T.same 1 (omega arith), T.same 2 (omega arith))
         (both (range_in S.processes 4 range.well_formed.some_process range.processes)
         (both (range_in S.variables 4 range.well_formed.some_variable range.variables) counts_in))
 
-    none-absent : counts_if_absent (shape_at f at) ≡ true
-    none-absent = rw shape-read counts_out
+    none_absent : counts_if_absent (shape_at f at) ≡ true
+    none_absent = rw shape_read counts_out
 
-    pub shape-passes : unless_end f at (checked (shape_number Plain f at) at) ≡ Fine
+    pub shape_passes : unless_end f at (checked (shape_number Plain f at) at) ≡ Fine
     unfolding shape_number
-    shape-passes =
+    shape_passes =
         unless_not f at _ (omega (arith, T.fits))
         ∙ number_fine at
-        (record { allowed = not_so (stands_kind 1 _ T); whole = not_cut f at 6 T.fits; room = refl; range = not_so in_range_lem; names = not_so none-absent })
+        (record { allowed = not_so (stands_kind 1 _ T); whole = not_cut f at 6 T.fits; room = refl; range = not_so in_range_lem; names = not_so none_absent })
 
 -- ---- the 02s
 
@@ -163,19 +163,19 @@ module _ (f : List ℕ) (at : ℕ) (t : Transition) (T : Stands f at (transition
 
   module _ (s : Shape) (states : List ℕ) (P : pws.Program) (processes : s.processes ≡ P.shape.processes) (variables : s.variables ≡ P.shape.variables)
       (counts : (v : ℕ) → value_count s v ≡ P.shape.values v) (stated : (p : ℕ) → get_or states p 0 ≡ P.states p) (w : pws.TransitionOf P t) where
-    pub transition-names : transition_names Plain s states f at ≡ true
+    pub transition_names_lem : transition_names Plain s states f at ≡ true
     unfolding transition_names
-    transition-names =
+    transition_names_lem =
         rw (T.same 1 (omega arith), T.same 2 (omega arith), T.same 3 (omega arith), T.same 4 (omega arith), T.same 5 (omega arith), T.same 6 (omega arith), T.same 7 (omega arith), stated t.process)
         (both (lt-ltb t.process s.processes (omega (arith, w.process)))
         (both (lt-ltb t.from (P.states t.process) w.from)
         (both (lt-ltb t.to (P.states t.process) w.to) (operation_there s P.shape variables counts t.operation w.operation))))
 
-    pub transition-passes : (n : ℕ) → n < 256 → checked (transition_number Plain s states f at n) at ≡ Fine
+    pub transition_passes : (n : ℕ) → n < 256 → checked (transition_number Plain s states f at n) at ≡ Fine
     unfolding transition_number
-    transition-passes n l =
+    transition_passes n l =
         number_fine at
-        (record { allowed = not_so (stands_kind 3 _ T); whole = not_cut f at 7 T.fits; room = lt-leb 256 n l; range = refl; names = not_so transition-names })
+        (record { allowed = not_so (stands_kind 3 _ T); whole = not_cut f at 7 T.fits; room = lt-leb 256 n l; range = refl; names = not_so transition_names_lem })
 
 -- ---- the 04s
 
@@ -192,16 +192,16 @@ module _ (f : List ℕ) (at : ℕ) (t : ℕ → ℕ) (T : Stands f at (target_by
 
 module _ (s : Shape) (states : List ℕ) (P : pws.Program) (processes : s.processes ≡ P.shape.processes) (stated : (p : ℕ) → get_or states p 0 ≡ P.states p)
     (t : ℕ → ℕ) (w : StatesOf P t) where
-  state-there : (p : ℕ) → state_name s states p (t p) ≡ true
+  state_there : (p : ℕ) → state_name s states p (t p) ≡ true
   unfolding state_name
-  state-there p = elim (dec_lt p P.shape.processes) [
+  state_there p = elim (dec_lt p P.shape.processes) [
     | yes l ↦ rw (processes, lt-ltb p P.shape.processes l, stated p) (lt-ltb (t p) (P.states p) (w.exist p l))
     | no l ↦ rw (processes, le-ltb p P.shape.processes (omega arith)) (eq-eqb (t p) 0 (w.absent p (omega arith)))
   ]
 
-  pub states-there : (f : List ℕ) (at : ℕ) → byte f (at + 1) ≡ t 0 → byte f (at + 2) ≡ t 1 → byte f (at + 3) ≡ t 2 → byte f (at + 4) ≡ t 3 → state_names s states f at ≡ true
+  pub states_there : (f : List ℕ) (at : ℕ) → byte f (at + 1) ≡ t 0 → byte f (at + 2) ≡ t 1 → byte f (at + 3) ≡ t 2 → byte f (at + 4) ≡ t 3 → state_names s states f at ≡ true
   unfolding state_names
-  states-there f at a b c d = rw (a, b, c, d) (both (state-there 0) (both (state-there 1) (both (state-there 2) (state-there 3))))
+  states_there f at a b c d = rw (a, b, c, d) (both (state_there 0) (both (state_there 1) (both (state_there 2) (state_there 3))))
 
   pub target_passes : (f : List ℕ) (at n : ℕ) → Stands f at (target_bytes t) → n < 4096 → unless_end f at (checked (target_number Plain s states f at n) at) ≡ Fine
   unfolding target_number
@@ -212,7 +212,7 @@ module _ (s : Shape) (states : List ℕ) (P : pws.Program) (processes : s.proces
         whole = not_cut f at 4 T.fits;
         room = lt-leb 4096 n l;
         range = refl;
-        names = not_so (states-there f at (T.same 1 (omega arith)) (T.same 2 (omega arith)) (T.same 3 (omega arith)) (T.same 4 (omega arith)));
+        names = not_so (states_there f at (T.same 1 (omega arith)) (T.same 2 (omega arith)) (T.same 3 (omega arith)) (T.same 4 (omega arith)));
       })
 
 -- ---- the whole part
@@ -263,33 +263,33 @@ module _ (P : pws.Program) (ts : List (ℕ → ℕ)) (K : ProgramContents P ts) 
   abbrev shaped : Shape
   shaped = shape_for P.shape
 
-  after-shape : Stands f (at + 7) (B ++ (C ++ D))
-  after-shape = stands_right (shape_bytes P.shape) (B ++ (C ++ D)) T
+  after_shape : Stands f (at + 7) (B ++ (C ++ D))
+  after_shape = stands_right (shape_bytes P.shape) (B ++ (C ++ D)) T
 
   second : Stands f (at + 7) B
-  second = stands_left B (C ++ D) after-shape
+  second = stands_left B (C ++ D) after_shape
 
-  after-states : Stands f (at + 7 + 3 * n) (C ++ D)
-  after-states =
+  after_states : Stands f (at + 7 + 3 * n) (C ++ D)
+  after_states =
       let e = joined_length (states_bytes P) 3 (λ p. refl) (numbers n) in
       let m = table_length (λ i. i) 0 n in
       let z : at + 7 + length B ≡ at + 7 + 3 * n = omega arith in
-      stands_moved z (stands_right B (C ++ D) after-shape)
+      stands_moved z (stands_right B (C ++ D) after_shape)
 
   pub third : Stands f (at + 7 + 3 * n) C
-  third = stands_left C D after-states
+  third = stands_left C D after_states
 
   pub fourth : Stands f (at + 7 + 3 * n + 8 * length P.transitions) D
   fourth =
       let e = joined_length transition_bytes 8 (λ t. refl) P.transitions in
       let z : at + 7 + 3 * n + length C ≡ at + 7 + 3 * n + 8 * length P.transitions = omega arith in
-      stands_moved z (stands_right C D after-states)
+      stands_moved z (stands_right C D after_states)
 
   states_each : (p : ℕ) → get_or (four P.states) p 0 ≡ P.states p
   states_each = four_each P.states (λ p l. K.states p (omega (arith, range.processes)))
 
-  initial-each : (p : ℕ) → get_or (four P.initial) p 0 ≡ P.initial p
-  initial-each = four_each P.initial (λ p l. K.initial p (omega (arith, range.processes)))
+  initial_each : (p : ℕ) → get_or (four P.initial) p 0 ≡ P.initial p
+  initial_each = four_each P.initial (λ p l. K.initial p (omega (arith, range.processes)))
 
   states_fine : states_from f (at + 7) n ≡ Fine
   states_fine =
@@ -317,7 +317,7 @@ module _ (P : pws.Program) (ts : List (ℕ → ℕ)) (K : ProgramContents P ts) 
       let z : here + length C ≡ here + 8 * length P.transitions = omega arith in
       let y : 0 + length P.transitions ≡ length P.transitions = omega arith in
       row_written transition_bytes (pws.TransitionOf P) pws.no_transition f (λ i n. not (is_kind f i 3)) (λ i n. checked (transition_number Plain shaped (four P.states) f i n) i) (λ i. 8) 256
-      (λ t w k i l S. (not_so (stands_kind 3 _ S), transition-passes f k t S shaped (four P.states) P refl refl counts states_each w i l, refl))
+      (λ t w k i l S. (not_so (stands_kind 3 _ S), transition_passes f k t S shaped (four P.states) P refl refl counts states_each w i l, refl))
       P.transitions K.part.program.well_formed.transitions 256 here 0 (omega arith) K.part.transitions third
       (ap (λ (k : ℕ). not (is_kind f k 3)) z ∙ ap not first_target)
       ∙ ap Records y
@@ -327,9 +327,9 @@ module _ (P : pws.Program) (ts : List (ℕ → ℕ)) (K : ProgramContents P ts) 
   goes_on true k t S = lt-leb (length f) k (omega (arith, S.fits))
   goes_on false k t S = let b = stands_first 4 _ S in ne_eqb (byte f k) 15 (λ e. omega arith)
 
-  ends-not : (k i : ℕ) (t : ℕ → ℕ) → Stands f k (target_bytes t) → at_end alone f k i ≡ false
+  ends_not : (k i : ℕ) (t : ℕ → ℕ) → Stands f k (target_bytes t) → at_end alone f k i ≡ false
   unfolding at_end
-  ends-not k i t S = rw (goes_on alone k t S)
+  ends_not k i t S = rw (goes_on alone k t S)
 
   targets_read : targets_from Plain alone shaped (four P.states) f (at + 7 + 3 * n + 8 * length P.transitions) ≡ Records (length ts)
   unfolding targets_from at_end
@@ -339,7 +339,7 @@ module _ (P : pws.Program) (ts : List (ℕ → ℕ)) (K : ProgramContents P ts) 
       let z : here + length D ≡ here + 5 * length ts = omega arith in
       let y : 0 + length ts ≡ length ts = omega arith in
       row_written target_bytes (StatesOf P) (λ p. 0) f (at_end alone f) (λ i n. unless_end f i (checked (target_number Plain shaped (four P.states) f i n) i)) (λ i. 5) 4096
-      (λ t w k i l S. (ends-not k i t S, target_passes shaped (four P.states) P refl states_each t w f k i S l, refl))
+      (λ t w k i l S. (ends_not k i t S, target_passes shaped (four P.states) P refl states_each t w f k i S l, refl))
       ts K.part.targets 4096 here 0 (omega arith) K.part.few_targets fourth
       (ap (λ (k : ℕ). at_end alone f k (0 + length ts)) z ∙ both shut (le-leb 1 (0 + length ts) (omega (arith, K.part.some_target))))
       ∙ ap Records y
@@ -360,19 +360,19 @@ module _ (P : pws.Program) (ts : List (ℕ → ℕ)) (K : ProgramContents P ts) 
   unfolding program_with
   part_placed =
       let S = stands_left (shape_bytes P.shape) (B ++ (C ++ D)) T in
-      rw (shape-passes P.shape range K.values f at S) (ap (rest_from Plain alone f (at + 7)) (shape-read P.shape range K.values f at S) ∙ rest_read)
+      rw (shape_passes P.shape range K.values f at S) (ap (rest_from Plain alone f (at + 7)) (shape_read P.shape range K.values f at S) ∙ rest_read)
 
-  transitions-same : table_from (λ i. transition_at f (at + 7 + 3 * n + 8 * i)) 0 (length P.transitions) ≡ P.transitions
-  transitions-same =
+  transitions_same : table_from (λ i. transition_at f (at + 7 + 3 * n + 8 * i)) 0 (length P.transitions) ≡ P.transitions
+  transitions_same =
       sym (table_of (λ i. transition_at f (at + 7 + 3 * n + 8 * i)) 0 (length P.transitions) P.transitions pws.no_transition refl (λ k l.
       let z : at + 7 + 3 * n + 8 * k ≡ at + 7 + 3 * n + 8 * (0 + k) = omega arith in
       sym (transition_read f (at + 7 + 3 * n + 8 * (0 + k)) (pws.transition P k) (stands_moved z (joined_at transition_bytes 8 (λ t. refl) (at + 7 + 3 * n) P.transitions pws.no_transition third k l)))))
 
-  pub program-same : program_of f (placed P ts at) ≡ P
-  program-same =
+  pub program_same : program_of f (placed P ts at) ≡ P
+  program_same =
       let a = shape_same P.shape range K.values in
-      let b = transitions-same in
-      λ i. record { shape = a i; states = λ p. states_each p i; initial = λ p. initial-each p i; transitions = b i }
+      let b = transitions_same in
+      λ i. record { shape = a i; states = λ p. states_each p i; initial = λ p. initial_each p i; transitions = b i }
 
   pub targets_same : targets_of f (placed P ts at) ≡ ts
   targets_same =
@@ -394,7 +394,7 @@ module _ (P : pws.Program) (ts : List (ℕ → ℕ)) (K : ProgramContents P ts) 
       let q = part_placed P ts K alone f 0 T shut' in
       record {
         fine = ap (λ (r : ProgramRead). r.answer) q;
-        program = ap (λ (r : ProgramRead). program_of f r.program) q ∙ program-same P ts K alone f 0 T shut';
+        program = ap (λ (r : ProgramRead). program_of f r.program) q ∙ program_same P ts K alone f 0 T shut';
         targets = ap (λ (r : ProgramRead). targets_of f r.program) q ∙ targets_same P ts K alone f 0 T shut';
       }
 

@@ -42,7 +42,7 @@ use Rattle.file_written.specs.Faults.{Fault}
 use Rattle.file_written.specs.RunFaults.{ClaimFault, MemoryFault, StepFault, RunFault, ends_before_claim, in_claim, ends_before_memory, in_memory, in_steps, EvidenceRefusal, RunRefused, ProgramPartRefused}
 use Rattle.file_written.proofs.Standing.{stands_moved, stands_join, stands_first, stands_record}
 use Rattle.file_written.proofs.Fine.{both, not_so}
-use Rattle.file_written.proofs.RunWritten.{kind_is, starts-there}
+use Rattle.file_written.proofs.RunWritten.{kind_is, starts_there}
 use Rattle.file_written.proofs.RunRead.{step_back, start_stands}
 use Rattle.file_written.proofs.ProgramRead.{part_written}
 use Rattle.file_written.proofs.ProgramFaults.{program_refused}
@@ -75,7 +75,7 @@ memory_fault P s variables counts f at r q =
       room = λ e x. x;
       range = λ d. tt;
       unrange = λ u. refl;
-      names = λ h. not_so (starts-there s P.shape variables counts h.0 h.1 f at h.2);
+      names = λ h. not_so (starts_there s P.shape variables counts h.0 h.1 f at h.2);
     }) q
 
 -- ---- steps
@@ -182,8 +182,8 @@ module _ (x : Input) (area : ℕ) (r : Refusal) (fine : (program_from x.alone x.
   count = sym (table_length (λ i. transition_at x.code (p.transitions.at + 8 * i)) 0 p.transitions.count)
 
   module _ (c : ℕ) (some : 1 ≤ c) (most : c ≤ 2) (C : Stands f at (claim_bytes c)) where
-    by-memory : unless_end f (at + 2) (checked (start_number p.shape f (at + 2)) (at + 2)) ≡ Refused r → Told'
-    by-memory q = ⊎_elim
+    by_memory : unless_end f (at + 2) (checked (start_number p.shape f (at + 2)) (at + 2)) ≡ Refused r → Told'
+    by_memory q = ⊎_elim
         (λ a. inl (ends_before_memory c some most C (omega (arith, a.0, C.fits)) a.1 a.2))
         (λ a.
         let w = memory_fault P p.shape refl (λ v. refl) f (at + 2) r a.1 in
@@ -226,7 +226,7 @@ module _ (x : Input) (area : ℕ) (r : Refusal) (fine : (program_from x.alone x.
 
     by_start : (y : Checked) → unless_end f (at + 2) (checked (start_number p.shape f (at + 2)) (at + 2)) ≡ y → evidence_read x p (run_evidence f c (at + 2) p) ≡ refused InEvidence r → Told'
     by_start Fine d h = by_count d _ refl (ap (evidence_read x p) (sym (run_steps f c (at + 2) p d)) ∙ h)
-    by_start (Refused q) d h = by-memory (d ∙ ap Refused (refused_is (ap (evidence_read x p) (sym (start_refused f c (at + 2) p q d)) ∙ h)))
+    by_start (Refused q) d h = by_memory (d ∙ ap Refused (refused_is (ap (evidence_read x p) (sym (start_refused f c (at + 2) p q d)) ∙ h)))
 
   by_claim : (y : Checked) → unless_end f at (checked (claim_number f at) at) ≡ y → evidence_read x p (evidence_from f at p area) ≡ refused InEvidence r → Told'
   unfolding claim_number

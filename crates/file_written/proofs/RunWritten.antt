@@ -56,9 +56,9 @@ module _ (s : Shape) (S : pws.Shape) (variables : s.variables ≡ S.variables) (
   ]
 
   module _ (f : List ℕ) (at : ℕ) (T : Stands f at (memory_bytes m)) where
-    pub starts-there : start_names s f at ≡ true
+    pub starts_there : start_names s f at ≡ true
     unfolding start_names
-    starts-there =
+    starts_there =
         rw (T.same 1 (omega arith), T.same 2 (omega arith), T.same 3 (omega arith), T.same 4 (omega arith))
         (both (start_there 0) (both (start_there 1) (both (start_there 2) (start_there 3))))
 
@@ -66,10 +66,10 @@ module _ (s : Shape) (S : pws.Shape) (variables : s.variables ≡ S.variables) (
     unfolding start_number
     start_passes =
         unless_not f at _ (omega (arith, T.fits))
-        ∙ number_fine at (record { allowed = not_so (stands_kind 31 _ T); whole = not_cut f at 4 T.fits; room = refl; range = refl; names = not_so starts-there })
+        ∙ number_fine at (record { allowed = not_so (stands_kind 31 _ T); whole = not_cut f at 4 T.fits; room = refl; range = refl; names = not_so starts_there })
 
-    pub memory-read : S.room ≡ 4 → memory_at f at ≡ m
-    memory-read r =
+    pub memory_read : S.room ≡ 4 → memory_at f at ≡ m
+    memory_read r =
         rw (T.same 1 (omega arith), T.same 2 (omega arith), T.same 3 (omega arith), T.same 4 (omega arith))
         (ext_get_or 0 (get_or m 0 0 ∷ get_or m 1 0 ∷ get_or m 2 0 ∷ get_or m 3 0 ∷ []) m (omega (arith, w.room)) (λ k l.
         of_four (λ (k : ℕ). get_or (get_or m 0 0 ∷ get_or m 1 0 ∷ get_or m 2 0 ∷ get_or m 3 0 ∷ []) k 0 ≡ get_or m k 0) refl refl refl refl k l))
@@ -182,10 +182,10 @@ module _ (P : pws.Program) (ts : List (ℕ → ℕ)) (m : List ℕ) (ss : List S
       let c : byte f (at + 1) ≡ claim = C.same 1 (omega arith) in
       evidence_run f at (placed P ts 0) area (claim_passes f at claim C most) (λ z. omega arith)
       ∙ run_steps f (byte f (at + 1)) (at + 2) (placed P ts 0) (start_passes (shape_for P.shape) P.shape refl counts m R.permitted f (at + 2) M)
-      ∙ rw (c, memory-read (shape_for P.shape) P.shape refl counts m R.permitted f (at + 2) M K.part.program.shape.room, steps_pass P f (at + 2 + 5) ss J R.steps R.count end)
+      ∙ rw (c, memory_read (shape_for P.shape) P.shape refl counts m R.permitted f (at + 2) M K.part.program.shape.room, steps_pass P f (at + 2 + 5) ss J R.steps R.count end)
 
-  pub run-placed : read_file x area ≡ run_read claim P ts m ss
-  run-placed =
+  pub run_placed : read_file x area ≡ run_read claim P ts m ss
+  run_placed =
       let e = ap (λ (k : ℕ). steps_of f (k + 2 + 5) (length ss)) L.begins ∙ steps_read f (at + 2 + 5) ss J in
       let p = L.program in
       let t = L.targets in
@@ -194,11 +194,11 @@ module _ (P : pws.Program) (ts : List (ℕ → ℕ)) (m : List ℕ) (ss : List S
 pub run_written_is_read : RunWrittenIsRead
 run_written_is_read P ts m ss area K R l = (
   record {
-    one = run-placed P ts m ss K R 1 (omega arith) (omega arith) _ (placed_one P ts K (1 ∷ (memory_bytes m ++ joined step_bytes ss))) area l;
-    two = run-placed P ts m ss K R 1 (omega arith) (omega arith) _ (placed_two P ts K (1 ∷ (memory_bytes m ++ joined step_bytes ss))) area l;
+    one = run_placed P ts m ss K R 1 (omega arith) (omega arith) _ (placed_one P ts K (1 ∷ (memory_bytes m ++ joined step_bytes ss))) area l;
+    two = run_placed P ts m ss K R 1 (omega arith) (omega arith) _ (placed_two P ts K (1 ∷ (memory_bytes m ++ joined step_bytes ss))) area l;
   },
   record {
-    one = run-placed P ts m ss K R 2 (omega arith) (omega arith) _ (placed_one P ts K (2 ∷ (memory_bytes m ++ joined step_bytes ss))) area l;
-    two = run-placed P ts m ss K R 2 (omega arith) (omega arith) _ (placed_two P ts K (2 ∷ (memory_bytes m ++ joined step_bytes ss))) area l;
+    one = run_placed P ts m ss K R 2 (omega arith) (omega arith) _ (placed_one P ts K (2 ∷ (memory_bytes m ++ joined step_bytes ss))) area l;
+    two = run_placed P ts m ss K R 2 (omega arith) (omega arith) _ (placed_two P ts K (2 ∷ (memory_bytes m ++ joined step_bytes ss))) area l;
   },
 )

@@ -29,7 +29,7 @@ use Rattle.file_again.proofs.OffendingLaws.{of_other}
 use Rattle.file_again.proofs.Tables.{table_length}
 use Rattle.file_again.proofs.Rows.{steps_length}
 use Rattle.file_again.proofs.Contents.{list_read, run_read_lem, pso_run_read}
-use Rattle.file_again.proofs.Again.{reading-refused, reading-sizes, reading-run, reading-list, reading-count, reading-cube}
+use Rattle.file_again.proofs.Again.{reading_refused_lem, reading_sizes, reading_run, reading_list, reading_count, reading_cube}
 use Rattle.run_replay.specs.Answers.{run_answer}
 use Rattle.pso_replay.specs.Answers.{pso_steps, pso_run_answer}
 use Rattle.verdict.specs.declared.answer.Answer.{Answer}
@@ -156,15 +156,15 @@ module _ (x : Input) (w : List ℕ) (R : Reading) (r : R ≡ reading.reading_of 
     same = e ∙ ap refusal_of q
 
     pub unread_said : verdict_in (Unread R.part z) ≡ judged x (length w)
-    unread_said = ap (λ (z : Refusal). refused z.number z.place) same ∙ judged_of (reading.refused R.part y) (reading-refused x w R r y q)
+    unread_said = ap (λ (z : Refusal). refused z.number z.place) same ∙ judged_of (reading.refused R.part y) (reading_refused_lem x w R r y q)
 
-    pub unread-offending : offending_in x (Unread R.part z) ≡ offending x (reading.read_file x (length w))
-    unread-offending =
-        ap (λ (z : Refusal). offending_by x.code x.file R.part z.number z.place) same ∙ sym (ap (offending x) (reading-refused x w R r y q))
+    pub unread_offending : offending_in x (Unread R.part z) ≡ offending x (reading.read_file x (length w))
+    unread_offending =
+        ap (λ (z : Refusal). offending_by x.code x.file R.part z.number z.place) same ∙ sym (ap (offending x) (reading_refused_lem x w R r y q))
 
     -- what is returned then, and what the reading left in the area
-    pub unread-returned : (work : List ℕ) → work ≡ reading.area_read (reading.parts_of x (length w)) w → 65536 ≤ length w → Said (Unread R.part z) work
-    unread-returned work e l = (unread_said, (unread-offending, left work e l))
+    pub unread_returned : (work : List ℕ) → work ≡ reading.area_read (reading.parts_of x (length w)) w → 65536 ≤ length w → Said (Unread R.part z) work
+    unread_returned work e l = (unread_said, (unread_offending, left work e l))
 
   module _ (q : R.answer ≡ Fine) where
     module _ (work : List ℕ) (e : work ≡ reading.area_read (reading.parts_of x (length w)) w) (c : R.contents.claim ≡ 0) where
@@ -173,19 +173,19 @@ module _ (x : Input) (w : List ℕ) (R : Reading) (r : R ≡ reading.reading_of 
 
       listed : Listed g f (drop 16384 work) n p
       listed =
-          let L = list_read x (length w) (reading-list x w R r q work e c) in
+          let L = list_read x (length w) (reading_list x w R r q work e c) in
           record {
-            sizes = reading-sizes x w R r q;
+            sizes = reading_sizes x w R r q;
             part = L.part;
-            count = omega (arith, reading-count x w R r q work e c, few (entries_allowed (length w)) (length w) refl);
+            count = omega (arith, reading_count x w R r q work e c, few (entries_allowed (length w)) (length w) refl);
             entries = λ k l. L.entries k (omega (arith, entries_length));
-            cubes = reading-cube x w R r q work e c;
+            cubes = reading_cube x w R r q work e c;
           }
 
       -- there is room for the offsets of the entries allowed, and for their slots behind them
       module _ (list : List ℕ) (d : list ≡ drop 16384 work) (at : ℕ) (a : at ≡ 4 * entries_allowed (length w)) (large : 65536 ≤ length w) (same : length work ≡ length w) where
         many : n ≤ entries_allowed (length w)
-        many = reading-count x w R r q work e c
+        many = reading_count x w R r q work e c
 
         pub ready : ListReady g f list at n p
         unfolding entries_allowed
@@ -202,17 +202,17 @@ module _ (x : Input) (w : List ℕ) (R : Reading) (r : R ≡ reading.reading_of 
         abbrev es : List Configuration
         es = entries_of f (drop 16384 work) n
 
-        pub list-handed : (a : Answer) → verdict_in a ≡ judged x (length w) → offending_in x a ≡ offending x (reading.read_file x (length w))
-        list-handed a h = list_offending x (length w) a (program_of g p) (targets_of g p) es (reading-list x w R r q work e c) h
+        pub list_handed : (a : Answer) → verdict_in a ≡ judged x (length w) → offending_in x a ≡ offending x (reading.read_file x (length w))
+        list_handed a h = list_offending x (length w) a (program_of g p) (targets_of g p) es (reading_list x w R r q work e c) h
 
         pub list_said_lem : (v : Verdict) → v ≡ list_said g f (take at list) n p → v ≡ judged x (length w)
         list_said_lem v h =
-            h ∙ ap (λ (l : List ℕ). list_said g f (take at l) n p) d ∙ said_taken g f (drop 16384 work) at n p (omega (arith, many)) ∙ judged_of _ (reading-list x w R r q work e c)
+            h ∙ ap (λ (l : List ℕ). list_said g f (take at l) n p) d ∙ said_taken g f (drop 16384 work) at n p (omega (arith, many)) ∙ judged_of _ (reading_list x w R r q work e c)
 
         -- past the bytes that belong to the judgement all is as the reading left it
-        pub list-area : {last : List ℕ} → last ≡ summarised f p.shape at n (slots_cleared list at n) → drop (used_of (length w)) work ≡ drop (used_of (length w)) w
+        pub list_area : {last : List ℕ} → last ≡ summarised f p.shape at n (slots_cleared list at n) → drop (used_of (length w)) work ≡ drop (used_of (length w)) w
             → drop (used_of (length w)) (take 16384 work ++ (last ++ drop (length work - 16384) (drop 16384 work))) ≡ drop (used_of (length w)) w
-        list-area {last} x y =
+        list_area {last} x y =
             let none : drop (length work - 16384) (drop 16384 work) ≡ [] = drop_of_length-le (drop 16384 work) {i = length work - 16384} (omega (arith, length-drop 16384 work)) in
             let k : drop (12 * entries_allowed (length w)) last ≡ drop (12 * entries_allowed (length w)) (drop 16384 work) =
             ap (drop (12 * entries_allowed (length w))) x ∙ done_kept g f list at n p ready (12 * entries_allowed (length w)) (omega (arith, many)) ∙ ap (drop (12 * entries_allowed (length w))) d in
@@ -227,36 +227,36 @@ module _ (x : Input) (w : List ℕ) (R : Reading) (r : R ≡ reading.reading_of 
         placed : at ≡ 4 * entries_allowed (length w)
         placed = a ∙ ap (λ (m : ℕ). 4 * entries_allowed m) kept
 
-        pub upper-ready : ListReady g f upper at n p
-        upper-ready = ready upper (upper_part 16384 work) at placed large kept
+        pub upper_ready : ListReady g f upper at n p
+        upper_ready = ready upper (upper_part 16384 work) at placed large kept
 
         pub list_returned : (v : Answer) (last : List ℕ) → verdict_in v ≡ list_said g f (take at upper) n p → last ≡ summarised f p.shape at n (slots_cleared upper at n)
             → Said v (take 16384 work ++ (last ++ drop (length work - 16384) (drop 16384 work)))
         list_returned v last h y =
             let d = upper_part 16384 work in
             let said : verdict_in v ≡ judged x (length w) = list_said_lem upper d at placed large kept (verdict_in v) h in
-            (said, (list-handed upper d at placed large kept v said, list-area upper d at placed large kept y (left work e large)))
+            (said, (list_handed upper d at placed large kept v said, list_area upper d at placed large kept y (left work e large)))
 
     pub run_said : (R.contents.claim ≡ 0 → ⊥) → (v : Verdict) (lower : ℕ) → lower ≡ 16384
         → (pws.ProgramInRange (program_of g p) → n ≤ 1024 → lower ≡ 16384
         → v ≡ of_file (reading.run_read R.contents.claim (program_of g p) (targets_of g p) R.contents.memory (steps_of f R.contents.evidence.at n)))
         → v ≡ judged x (length w)
     run_said c v lower l h =
-        let s = reading-run x w R r q c in
+        let s = reading_run x w R r q c in
         let L : RunRead (program_of g p) (targets_of g p) R.contents.memory (steps_of f R.contents.evidence.at n) =
         either_read x (length w) (eqb R.contents.claim 1) s in
         h L.part.program (omega (arith, L.count, steps_length f R.contents.evidence.at n)) l ∙ judged_of _ s
 
-    pub run-handed : (R.contents.claim ≡ 0 → ⊥) → (a : Answer) → verdict_in a ≡ judged x (length w) → offending_in x a ≡ offending x (reading.read_file x (length w))
-    run-handed c a h =
+    pub run_handed : (R.contents.claim ≡ 0 → ⊥) → (a : Answer) → verdict_in a ≡ judged x (length w) → offending_in x a ≡ offending x (reading.read_file x (length w))
+    run_handed c a h =
         run_offending x (length w) a R.contents.claim (program_of g p) (targets_of g p) R.contents.memory (steps_of f R.contents.evidence.at n)
-        (reading-run x w R r q c) h
+        (reading_run x w R r q c) h
 
-    pub run-returned : (R.contents.claim ≡ 0 → ⊥) → (work : List ℕ) → work ≡ reading.area_read (reading.parts_of x (length w)) w → 65536 ≤ length w → length work ≡ length w
+    pub run_returned : (R.contents.claim ≡ 0 → ⊥) → (work : List ℕ) → work ≡ reading.area_read (reading.parts_of x (length w)) w → 65536 ≤ length w → length work ≡ length w
         → (v : Answer) (last : List ℕ) → last ≡ replicate (length (take 16384 work)) 0
         → (pws.ProgramInRange (program_of g p) → n ≤ 1024 → length (take 16384 work) ≡ 16384
         → verdict_in v ≡ of_file (reading.run_read R.contents.claim (program_of g p) (targets_of g p) R.contents.memory (steps_of f R.contents.evidence.at n)))
         → Said v (last ++ drop 16384 work)
-    run-returned c work e large kept v last y h =
+    run_returned c work e large kept v last y h =
         let said : verdict_in v ≡ judged x (length w) = run_said c (verdict_in v) (length (take 16384 work)) (length-take-le 16384 work (omega arith)) h in
-        (said, (run-handed c v said, replay_kept (length w) work w last (left work e large) (omega arith) y))
+        (said, (run_handed c v said, replay_kept (length w) work w last (left work e large) (omega arith) y))

@@ -206,14 +206,14 @@ module _ (g f u : List ℕ) (at n : ℕ) (p : Program) (L : ListReady g f u at n
       ∙ drop-drop (k - (at + 8 * n)) (at + 8 * n) u ∙ ap (λ (i : ℕ). drop i u) (sym j)
 
   module _ {first last : List ℕ} (a : first ≡ slots_cleared u at n) (b : last ≡ summarised f p.shape at n first) where
-    pub judged-is : last ≡ summarised f p.shape at n (slots_cleared u at n)
-    judged-is = b ∙ ap (summarised f p.shape at n) a
+    pub judged_is : last ≡ summarised f p.shape at n (slots_cleared u at n)
+    judged_is = b ∙ ap (summarised f p.shape at n) a
 
-    pub judged-ready : (at ≤ length last) × Ready g f (take at last) (drop at last) n p
-    judged-ready = rw judged-is (done_room, done_ready)
+    pub judged_ready : (at ≤ length last) × Ready g f (take at last) (drop at last) n p
+    judged_ready = rw judged_is (done_room, done_ready)
 
     pub judged_said : list_said g f (take at last) n p ≡ list_said g f (take at u) n p
-    judged_said = ap (λ (l : List ℕ). list_said g f (take at l) n p) judged-is ∙ done_said
+    judged_said = ap (λ (l : List ℕ). list_said g f (take at l) n p) judged_is ∙ done_said
 
 -- the part that was lent came back cleared
 pub slots_cleared_lem : (u x : List ℕ) (at n k : ℕ) → k ≡ 8 * n → at + 8 * n ≤ length u → x ≡ replicate (length (take k (drop at u))) 0

@@ -23,7 +23,7 @@ use Rattle.file_contents.specs.Cube.{configuration_of}
 use Rattle.list_key.specs.Relation.{relation}
 use Rattle.list_key.specs.Tags.{mask, lowest_pointer}
 use Rattle.list_key.specs.Match.{channel_matches}
-use Rattle.list_key.proofs.TagLaws.{mask-alike, roles_test}
+use Rattle.list_key.proofs.TagLaws.{mask_alike, roles_test}
 use Rattle.list_key.proofs.ChannelLaws.{tag, up_to, up_none, up_some}
 
 -- a process points at i and another than j, or at j and another than i
@@ -42,7 +42,7 @@ cannot_stand exact s few narrow e c i j h t =
     (subst₂ (λ (k l : ℕ). T (message_matches (relation exact) (get_or e.messages k no_message) (get_or c.messages l no_message))) x y w.1)) in
     let m = eqb-true (mask s.processes s.variables (configuration_of e).memory (suc i)) (mask s.processes s.variables (configuration_of c).memory (suc j))
     (sym (roles_test (shape_of s) narrow (configuration_of e).memory (suc i) (configuration_of c).memory (suc j) (omega arith) (omega arith)) ∙ T_true (pairwise (pairwise same) (tag s e (suc i)).roles (tag s c (suc j)).roles) w.0) in
-    o.2 ((mask-alike (shape_of s) (configuration_of e).memory (suc i) (configuration_of c).memory (suc j) narrow (omega arith) (omega arith) m).pointers o.0 (omega (arith, o.1)))
+    o.2 ((mask_alike (shape_of s) (configuration_of e).memory (suc i) (configuration_of c).memory (suc j) narrow (omega arith) (omega arith) m).pointers o.0 (omega (arith, o.1)))
 
 module _ (s : Shape) (few : s.processes ≤ 4) (exact : Bool) (e c : Cube) (low : lowest_pointer s e.pointers ≡ 1) where
   abbrev R : Tagged → Tagged → Bool

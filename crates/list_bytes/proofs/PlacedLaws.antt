@@ -29,7 +29,7 @@ use Rattle.list_key.proofs.MarkLaws.{tags_at}
 use Rattle.list_key.specs.Cue.{Cue}
 use Rattle.list_bytes.specs.Same.{Kinds, Stands, PointsWithin, one_of, pointed_by, Pointing}
 use Rattle.list_bytes.specs.Against.{Against}
-use Rattle.list_bytes.proofs.TracedLaws.{mask_in, Traced, traced-matches}
+use Rattle.list_bytes.proofs.TracedLaws.{mask_in, Traced, traced_matches}
 use Rattle.list_bytes.proofs.LeftLaws.{PointsOther, cannot_stand, Left, left_begin, left_keep, left_skip, left_over}
 
 -- ---- tests
@@ -74,32 +74,32 @@ module _ (exact : Bool) (f : List ℕ) (k : ℕ) {cue label rest : ℕ} (m : Mes
     low : label < 65536
     low = omega (arith, lw.is, lw.first, lw.second)
 
-    their-low : K.label < 65536
-    their-low = omega (arith, K.labels.is, K.labels.first, K.labels.second)
+    their_low : K.label < 65536
+    their_low = omega (arith, K.labels.is, K.labels.first, K.labels.second)
 
-    pub cue-same : label + 65536 * rest ≡ cue / 2 → true ≡ message_matches (relation exact) (message_at f k) m
-    cue-same e =
-        let a = same_bytes lw K.labels (omega (arith, half, low, their-low)) in
-        let b = same_bytes rw K.snapshot (omega (arith, half, low, their-low)) in
+    pub cue_same : label + 65536 * rest ≡ cue / 2 → true ≡ message_matches (relation exact) (message_at f k) m
+    cue_same e =
+        let a = same_bytes lw K.labels (omega (arith, half, low, their_low)) in
+        let b = same_bytes rw K.snapshot (omega (arith, half, low, their_low)) in
         label_same (relation exact) (message_at f k) m a.first a.second (same_four exact (message_at f k).snapshot m.snapshot refl K.four b)
 
-    pub cue-other : (label ≡ cue / 2 % 65536 → ⊥) → false ≡ message_matches (relation exact) (message_at f k) m
-    cue-other e = at (message_matches (relation exact) (message_at f k) m) refl
+    pub cue_other : (label ≡ cue / 2 % 65536 → ⊥) → false ≡ message_matches (relation exact) (message_at f k) m
+    cue_other e = at (message_matches (relation exact) (message_at f k) m) refl
       where
         at : (b : Bool) → message_matches (relation exact) (message_at f k) m ≡ b → false ≡ b
         at false q = refl
         at true q =
             let M = met (relation exact) (message_at f k) m q in
-            absurd (e (omega (arith, half, lw.is, K.labels.is, M.process, M.variable, their-low, low)))
+            absurd (e (omega (arith, half, lw.is, K.labels.is, M.process, M.variable, their_low, low)))
 
-    pub cue-values : {own : List ℕ} {r : Bool} → label ≡ cue / 2 % 65536 → own ≡ cue / 2 / 65536 % 256 ∷ cue / 2 / 65536 / 256 % 256 ∷ cue / 2 / 65536 / 65536 % 256 ∷ cue / 2 / 65536 / 16777216 % 256 ∷ []
+    pub cue_values : {own : List ℕ} {r : Bool} → label ≡ cue / 2 % 65536 → own ≡ cue / 2 / 65536 % 256 ∷ cue / 2 / 65536 / 256 % 256 ∷ cue / 2 / 65536 / 65536 % 256 ∷ cue / 2 / 65536 / 16777216 % 256 ∷ []
         → r ≡ pairwise (relation exact) (message_at f k).snapshot own → r ≡ message_matches (relation exact) (message_at f k) m
-    cue-values {own} {r} e o h =
-        let a = same_bytes lw K.labels (omega (arith, half, low, their-low)) in
+    cue_values {own} {r} e o h =
+        let a = same_bytes lw K.labels (omega (arith, half, low, their_low)) in
         label_same (relation exact) (message_at f k) m a.first a.second (h ∙ ap (pairwise (relation exact) (message_at f k).snapshot) (o ∙ bytes ∙ sym (four m.snapshot K.four)))
       where
         v : cue / 2 / 65536 ≡ K.rest
-        v = omega (arith, half, their-low)
+        v = omega (arith, half, their_low)
 
         cons : {a b c d e g h i : ℕ} → a ≡ e → b ≡ g → c ≡ h → d ≡ i → a ∷ b ∷ c ∷ d ∷ [] ≡ e ∷ g ∷ h ∷ i ∷ []
         cons p q r s = ap₂ ◌∷◌ p (ap₂ ◌∷◌ q (ap₂ ◌∷◌ r (ap (λ (x : ℕ). x ∷ []) s)))
@@ -154,14 +154,14 @@ table_begin zs {who} n e =
       most = omega arith;
       room = ap length e;
       next = refl;
-      small = λ i. omega (arith, ap (λ (ws : List ℕ). get_or ws i 0) e, none-at 22 i);
-      each = λ i l. ap (λ (ws : List ℕ). get_or ws i 0) e ∙ none-at 22 i;
+      small = λ i. omega (arith, ap (λ (ws : List ℕ). get_or ws i 0) e, none_at 22 i);
+      each = λ i l. ap (λ (ws : List ℕ). get_or ws i 0) e ∙ none_at 22 i;
     }
   where
-    none-at : (k i : ℕ) → ◌≡◌ {A = ℕ} (get_or (replicate k 0) i 0) 0
-    none-at zero i = refl
-    none-at (suc k) zero = refl
-    none-at (suc k) (suc i) = none-at k i
+    none_at : (k i : ℕ) → ◌≡◌ {A = ℕ} (get_or (replicate k 0) i 0) 0
+    none_at zero i = refl
+    none_at (suc k) zero = refl
+    none_at (suc k) (suc i) = none_at k i
 
 -- a pointer behind the last message counts there
 pub table_next : {zs who : List ℕ} {n one p z k : ℕ} → Table zs who n one p → p < n → z ≡ get_or zs p 0 → k ≡ min z 21 → Table zs (set who k (get_or who k 0 + one)) n (one + one) (p + 1)
@@ -448,11 +448,11 @@ module _ {exact : Bool} {f : List ℕ} {at back m : ℕ} {s : Shape} {c : Cube} 
         let y = one_lowest (min s.processes 4) e.pointers (omega (arith, low)) in
         let u = points y.0 y.1 in
         let z : get_or e.pointers y.0 0 - 1 ≡ 0 = omega (arith, y.2) in
-        omega (arith, low_at (min s.processes 4) c.pointers y.0 y.1, u.2, ap (λ (d : ℕ). get_or kept d 0) z, zero-first x l, A.sized.messages, w.below x (omega arith) l)
+        omega (arith, low_at (min s.processes 4) c.pointers y.0 y.1, u.2, ap (λ (d : ℕ). get_or kept d 0) z, zero_first x l, A.sized.messages, w.below x (omega arith) l)
       where
-        zero-first : (x : ℕ) → x < m → get_or kept 0 0 ≤ get_or kept x 0
-        zero-first zero l = omega arith
-        zero-first (suc x) l = omega (arith, w.rises 0 (suc x) (omega arith) (omega arith) l)
+        zero_first : (x : ℕ) → x < m → get_or kept 0 0 ≤ get_or kept x 0
+        zero_first zero l = omega arith
+        zero_first (suc x) l = omega (arith, w.rises 0 (suc x) (omega arith) (omega arith) l)
 
     traced : Traced s e c (λ x. get_or kept x 0)
     traced =
@@ -471,7 +471,7 @@ module _ {exact : Bool} {f : List ℕ} {at back m : ℕ} {s : Shape} {c : Cube} 
           first = λ x l. first_kept x (omega arith);
         }
 
-    pub placed-yes : channel_matches s exact e c ≡ true
-    placed-yes =
-        traced-matches s A.sized.processes A.sized.variables e c k.most A.sized.messages (λ x. get_or kept x 0) traced exact
+    pub placed_yes : channel_matches s exact e c ≡ true
+    placed_yes =
+        traced_matches s A.sized.processes A.sized.variables e c k.most A.sized.messages (λ x. get_or kept x 0) traced exact
         (λ x l. (met_at x (omega arith)).values)

@@ -19,7 +19,7 @@ use Rattle.file_contents.specs.declared.entry.Queue.{Queue}
 use Rattle.file_contents.specs.declared.entry.Loaded.{Loaded}
 use Rattle.file_contents.specs.Tally.{queue_at}
 use Rattle.file_contents.specs.Cube.{no_queue, empty_queue, waiting_of, pushed, loads_message, loads_waiting, nothing_loaded, more_message, more_waiting, load_from, loaded, load_entry}
-use Rattle.file_contents.proofs.CubeLaws.{message_loads, load-message, load-waiting, load-ends, Loading, loading_begin, loading_message, loading_waiting, loading_ends}
+use Rattle.file_contents.proofs.CubeLaws.{message_loads, load_message, load_waiting, load_ends, Loading, loading_begin, loading_message, loading_waiting, loading_ends}
 use Rattle.list_theory.specs.Values.{pairwise}
 use Rattle.list_theory.specs.Matching.{subsequence, queue_matches}
 use Rattle.list_key.specs.Relation.{relation}
@@ -64,33 +64,33 @@ module _ (base : Loaded) (f : List ℕ) (back : ℕ) where
   sent_length n (suc m) = length-set (sent_on base f back m).messages (sent_on base f back m).count (message_at f (back + 7 + 7 * m)) ∙ sent_length n m
 
   module _ (none_yet : base.count ≡ 0) where
-    sent-count : (m : ℕ) → (sent_on base f back m).count ≡ m
-    sent-count zero = none_yet
-    sent-count (suc m) = omega (arith, sent-count m)
+    sent_count : (m : ℕ) → (sent_on base f back m).count ≡ m
+    sent_count zero = none_yet
+    sent_count (suc m) = omega (arith, sent_count m)
 
-    sent-message : length base.messages ≡ 20 → (m i : ℕ) → m ≤ 20 → i < m → get_or (sent_on base f back m).messages i no_message ≡ message_at f (back + 7 + 7 * i)
-    sent-message n zero i a l = absurd (omega arith)
-    sent-message n (suc m) i a l = elim (ℕ_discrete i m) [
+    sent_message : length base.messages ≡ 20 → (m i : ℕ) → m ≤ 20 → i < m → get_or (sent_on base f back m).messages i no_message ≡ message_at f (back + 7 + 7 * i)
+    sent_message n zero i a l = absurd (omega arith)
+    sent_message n (suc m) i a l = elim (ℕ_discrete i m) [
       | yes d ↦
-          let z : i ≡ (sent_on base f back m).count = omega (arith, sent-count m) in
+          let z : i ≡ (sent_on base f back m).count = omega (arith, sent_count m) in
           ap (λ (x : ℕ). get_or (set (sent_on base f back m).messages (sent_on base f back m).count (message_at f (back + 7 + 7 * m))) x no_message) z
-          ∙ get_or-set_same (sent_on base f back m).messages (sent_on base f back m).count (message_at f (back + 7 + 7 * m)) no_message (omega (arith, sent-count m, sent_length n m))
+          ∙ get_or-set_same (sent_on base f back m).messages (sent_on base f back m).count (message_at f (back + 7 + 7 * m)) no_message (omega (arith, sent_count m, sent_length n m))
           ∙ ap (λ (x : ℕ). message_at f (back + 7 + 7 * x)) (sym d)
       | no d ↦
-          get_or-set_other (sent_on base f back m).messages (sent_on base f back m).count i (message_at f (back + 7 + 7 * m)) no_message (λ q. omega (arith, sent-count m))
-          ∙ sent-message n m i (omega arith) (omega arith)
+          get_or-set_other (sent_on base f back m).messages (sent_on base f back m).count i (message_at f (back + 7 + 7 * m)) no_message (λ q. omega (arith, sent_count m))
+          ∙ sent_message n m i (omega arith) (omega arith)
     ]
 
-    sent-loading : {at : ℕ} → Loading f at base (back + 7) → (m : ℕ) → m ≤ 20 → Kinds f back m → Loading f at (sent_on base f back m) (back + 7 + 7 * m)
+    sent_loading : {at : ℕ} → Loading f at base (back + 7) → (m : ℕ) → m ≤ 20 → Kinds f back m → Loading f at (sent_on base f back m) (back + 7 + 7 * m)
     unfolding loads_message is_kind
-    sent-loading {at} L zero a h = subst (Loading f at base) {x = back + 7} {y = back + 7 + 7 * 0} (omega arith) L
-    sent-loading {at} L (suc m) a h =
+    sent_loading {at} L zero a h = subst (Loading f at base) {x = back + 7} {y = back + 7 + 7 * 0} (omega arith) L
+    sent_loading {at} L (suc m) a h =
         let z : back + 7 + 7 * m + 7 ≡ back + 7 + 7 * suc m = omega arith in
         subst (Loading f at (sent_on base f back (suc m))) z
-        (loading_message (sent-loading L m (omega arith) (λ i k. h i (omega arith))) yes-loads)
+        (loading_message (sent_loading L m (omega arith) (λ i k. h i (omega arith))) yes_loads)
       where
-        yes-loads : loads_message f (back + 7 + 7 * m) (sent_on base f back m).count ≡ true
-        yes-loads = ap₂ ◌&&◌ (eq-eqb (byte f (back + 7 + 7 * m)) 17 (h m (omega arith))) (lt-ltb (sent_on base f back m).count 20 (omega (arith, sent-count m)))
+        yes_loads : loads_message f (back + 7 + 7 * m) (sent_on base f back m).count ≡ true
+        yes_loads = ap₂ ◌&&◌ (eq-eqb (byte f (back + 7 + 7 * m)) 17 (h m (omega arith))) (lt-ltb (sent_on base f back m).count 20 (omega (arith, sent_count m)))
 
 -- ---- the 12s
 
@@ -132,12 +132,12 @@ pub record Waits (exact : Bool) (f : List ℕ) (start variables : ℕ) (queues :
   pub tested : waits ≡ all_below q (okay exact variables by queues)
 
 sixteen : (i : ℕ) → i < 16 → get_or (replicate 16 empty_queue) i no_queue ≡ empty_queue
-sixteen i l = replicate-at 16 i l
+sixteen i l = replicate_at 16 i l
   where
-    replicate-at : (n i : ℕ) → i < n → get_or (replicate n empty_queue) i no_queue ≡ empty_queue
-    replicate-at zero i l = absurd (omega arith)
-    replicate-at (suc n) zero l = refl
-    replicate-at (suc n) (suc i) l = replicate-at n i (omega arith)
+    replicate_at : (n i : ℕ) → i < n → get_or (replicate n empty_queue) i no_queue ≡ empty_queue
+    replicate_at zero i l = absurd (omega arith)
+    replicate_at (suc n) zero l = refl
+    replicate_at (suc n) (suc i) l = replicate_at n i (omega arith)
 
 pub waits_begin : (exact : Bool) (f : List ℕ) (start variables : ℕ) (queues : List Queue) → Waits exact f start variables queues start true 0
 waits_begin exact f start variables queues =
@@ -345,8 +345,8 @@ module _ {f : List ℕ} {at : ℕ} (back : ℕ) {m : ℕ} {qs : List Queue} {x :
       let z : at + 9 ≡ back + 7 = omega arith in
       let S = sent_on nothing_loaded f back m in
       let E = loads_no_more (record { queues = qs; messages = S.messages; count = S.count })
-      (took_loading S (sent_queues nothing_loaded f back m) (sent-loading nothing_loaded f back refl (subst (Loading f at nothing_loaded) z (loading_begin f at inside)) m few kinds) t) over ends in
-      (ap (λ (l : Loaded). l.count) E ∙ sent-count nothing_loaded f back refl m, ap (λ (l : Loaded). l.queues) E)
+      (took_loading S (sent_queues nothing_loaded f back m) (sent_loading nothing_loaded f back refl (subst (Loading f at nothing_loaded) z (loading_begin f at inside)) m few kinds) t) over ends in
+      (ap (λ (l : Loaded). l.count) E ∙ sent_count nothing_loaded f back refl m, ap (λ (l : Loaded). l.queues) E)
 
   -- 12s before the 11s
   pub waits_before : {n : ℕ} → Took f (at + 9) qs n → n ≡ back + 7 → x ≡ not (is_kind f (back + 7 + 7 * m) 17) && not (is_kind f (back + 7 + 7 * m) 18) → x ≡ true
@@ -354,8 +354,8 @@ module _ {f : List ℕ} {at : ℕ} (back : ℕ) {m : ℕ} {qs : List Queue} {x :
   unfolding load_entry
   waits_before {n} t d over ends =
       let B : Loaded = record { queues = qs; messages = nothing_loaded.messages; count = 0 } in
-      let E = loads_no_more (sent_on B f back m) (sent-loading B f back refl (subst (Loading f at B) d (took_loading nothing_loaded refl (loading_begin f at inside) t)) m few kinds) over ends in
-      (ap (λ (l : Loaded). l.count) E ∙ sent-count B f back refl m, ap (λ (l : Loaded). l.queues) E ∙ sent_queues B f back m)
+      let E = loads_no_more (sent_on B f back m) (sent_loading B f back refl (subst (Loading f at B) d (took_loading nothing_loaded refl (loading_begin f at inside) t)) m few kinds) over ends in
+      (ap (λ (l : Loaded). l.count) E ∙ sent_count B f back refl m, ap (λ (l : Loaded). l.queues) E ∙ sent_queues B f back m)
 
 pub queues_same : (s : Shape) (exact : Bool) {qs rs : List Queue} (queues : List Queue) {x y : Bool} → x ≡ y → y ≡ all_below (min s.processes 4) (queue_row s.variables exact qs queues) → rs ≡ qs
     → x ≡ all_below (min s.processes 4) (queue_row s.variables exact rs queues)
@@ -377,7 +377,7 @@ load_keeps (suc bytes) f at l r = go (load_keeps bytes) (loads_message f at l.co
         → Keeps l (load_from (suc bytes) f at l)
     go rec true e d x =
         let w = rec f (at + 7) (more_message f at l) (omega (arith, (message_loads f at l.count e).1)) in
-        subst (Keeps l) (sym (load-message f at l bytes e))
+        subst (Keeps l) (sym (load_message f at l bytes e))
         (record {
           least = omega (arith, w.least);
           most = w.most;
@@ -385,8 +385,8 @@ load_keeps (suc bytes) f at l r = go (load_keeps bytes) (loads_message f at l.co
         })
     go rec false e true x =
         let w = rec f (at + 4) (more_waiting f at l) r in
-        subst (Keeps l) (sym (load-waiting f at l bytes e x)) (record { least = w.least; most = w.most; same = w.same })
-    go rec false e false x = subst (Keeps l) (sym (load-ends f at l (suc bytes) e x)) (record { least = omega arith; most = r; same = λ j k. refl })
+        subst (Keeps l) (sym (load_waiting f at l bytes e x)) (record { least = w.least; most = w.most; same = w.same })
+    go rec false e false x = subst (Keeps l) (sym (load_ends f at l (suc bytes) e x)) (record { least = omega arith; most = r; same = λ j k. refl })
 
 -- what 12s alone load
 record Led (f : List ℕ) (at k : ℕ) : Type 0 where
@@ -405,14 +405,14 @@ pub entry_stands : (f : List ℕ) (at back m : ℕ) → at < length f → Leads 
 unfolding load_entry
 entry_stands f at back m l leads a h =
     let B = led l leads in
-    let L = sent-loading B.by f back B.none_yet B.loads m a h in
+    let L = sent_loading B.by f back B.none_yet B.loads m a h in
     let S = sent_on B.by f back m in
-    let n = sent-count B.by f back B.none_yet m in
+    let n = sent_count B.by f back B.none_yet m in
     let K = subst (Keeps S) L.reads (load_keeps L.bytes f (back + 7 + 7 * m) S (omega (arith, n))) in
     record {
       least = omega (arith, K.least, n);
       most = K.most;
-      message = λ i k. K.same i (omega (arith, n)) ∙ sent-message B.by f back B.none_yet B.room m i a k;
+      message = λ i k. K.same i (omega (arith, n)) ∙ sent_message B.by f back B.none_yet B.room m i a k;
       pointers = refl;
     }
 

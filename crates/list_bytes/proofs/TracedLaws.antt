@@ -25,7 +25,7 @@ use Rattle.list_theory.proofs.Matching.{leftmost}
 use Rattle.list_key.specs.Relation.{relation}
 use Rattle.list_key.specs.Tags.{mask, lowest_pointer}
 use Rattle.list_key.specs.Match.{channel_matches}
-use Rattle.list_key.proofs.TagLaws.{Alike, alike-mask, role_mask, roles_test}
+use Rattle.list_key.proofs.TagLaws.{Alike, alike_mask, role_mask, roles_test}
 use Rattle.list_key.proofs.ChannelLaws.{tag, up_to}
 use Rattle.list_bytes.proofs.LeftLaws.{none_sub, own_some, their_some}
 
@@ -91,22 +91,22 @@ module _ (s : Shape) (few : s.processes ≤ 4) (narrow : s.variables ≤ 4) (e c
     theirs = last_is cm.channel (cm.pointer p) p v
         (omega (arith, w.pointer p pe, w.inside (get_or e.pointers p 0 - 1) (omega (arith, w.from p pe, w.upto p pe)), channel_length c.messages c.count))
 
-    pub some-last : 1 ≤ last_write em p v
-    some-last = omega (arith, own.low, w.from p pe)
+    pub some_last : 1 ≤ last_write em p v
+    some_last = omega (arith, own.low, w.from p pe)
 
     pub last_most : last_write em p v ≤ e.count
     last_most = omega (arith, own.high, channel_length e.messages e.count)
 
     pub lasts : last_write cm p v ≡ K (last_write em p v)
     lasts = last_eq {ms = cm.channel} {z = cm.pointer p} {p = p} {v = v} {i = K (last_write em p v)} (record {
-      low = omega (arith, w.pointer p pe, mono (get_or e.pointers p 0 - 1) (last_write em p v - 1) (omega (arith, own.low)) (omega (arith, some-last, last_most)));
-      high = omega (arith, w.inside (last_write em p v - 1) (omega (arith, some-last, last_most)), channel_length c.messages c.count);
-      hit = ⊎_elim (λ d. inl (ap K d ∙ sym (w.pointer p pe))) (λ t. inr (subst T (labels (last_write em p v - 1) (omega (arith, some-last, last_most)) p v) (subst (λ (k : ℕ). T (labelled (message em.channel k) p v)) again t))) own.hit;
+      low = omega (arith, w.pointer p pe, mono (get_or e.pointers p 0 - 1) (last_write em p v - 1) (omega (arith, own.low)) (omega (arith, some_last, last_most)));
+      high = omega (arith, w.inside (last_write em p v - 1) (omega (arith, some_last, last_most)), channel_length c.messages c.count);
+      hit = ⊎_elim (λ d. inl (ap K d ∙ sym (w.pointer p pe))) (λ t. inr (subst T (labels (last_write em p v - 1) (omega (arith, some_last, last_most)) p v) (subst (λ (k : ℕ). T (labelled (message em.channel k) p v)) again t))) own.hit;
       free = after;
     })
       where
         again : last_write em p v ≡ suc (last_write em p v - 1)
-        again = omega (arith, some-last)
+        again = omega (arith, some_last)
 
         after : (j : ℕ) → K (last_write em p v) < j → j ≤ length cm.channel → T (labelled (message cm.channel j) p v) → ⊥
         after j x y t = elim (dec_lt (last_write cm p v) j) [
@@ -118,7 +118,7 @@ module _ (s : Shape) (few : s.processes ≤ 4) (narrow : s.variables ≤ 4) (e c
               (subst (λ (k : ℕ). 0 < mask_in s c k) (sym z) (role_mask S narrow cm (last_write cm p v) one (role_last S cm (last_write cm p v) p v pe ve refl))) in
               let u : suc (kept r.0) ≡ last_write cm p v = omega (arith, r.2) in
               ⊎_elim
-              (λ q. omega (arith, w.pointer p pe, mono (get_or e.pointers p 0 - 1) (last_write em p v - 1) (omega (arith, own.low)) (omega (arith, some-last, last_most))))
+              (λ q. omega (arith, w.pointer p pe, mono (get_or e.pointers p 0 - 1) (last_write em p v - 1) (omega (arith, own.low)) (omega (arith, some_last, last_most))))
               (λ q. own.free (suc r.0) (newer r.0 r.1 u x d) (omega (arith, r.1, channel_length e.messages e.count))
               (subst T (sym (labels r.0 r.1 p v)) (subst (λ (k : ℕ). T (labelled (message cm.channel k) p v)) (sym u) q)))
               theirs.hit
@@ -127,7 +127,7 @@ module _ (s : Shape) (few : s.processes ≤ 4) (narrow : s.variables ≤ 4) (e c
             newer : (i : ℕ) → i < e.count → suc (kept i) ≡ last_write cm p v → K (last_write em p v) < j → (last_write cm p v < j → ⊥) → last_write em p v < suc i
             newer i l u x d = elim (dec_lt (last_write em p v) (suc i)) [
               | yes f ↦ f
-              | no f ↦ absurd (omega (arith, mono i (last_write em p v - 1) (omega arith) (omega (arith, some-last, last_most))))
+              | no f ↦ absurd (omega (arith, mono i (last_write em p v - 1) (omega arith) (omega (arith, some_last, last_most))))
             ]
 
   -- ---- so roles are equal, and those of other messages differ
@@ -144,32 +144,32 @@ module _ (s : Shape) (few : s.processes ≤ 4) (narrow : s.variables ≤ 4) (e c
   alike i l =
       record {
         pointers = λ p pe. stands (em.pointer p) (cm.pointer p) i l (w.from p pe) (w.upto p pe) (w.pointer p pe);
-        last_writes = λ p v pe ve. stands (last_write em p v) (last_write cm p v) i l (some-last p v pe ve) (last_most p v pe ve) (lasts p v pe ve);
+        last_writes = λ p v pe ve. stands (last_write em p v) (last_write cm p v) i l (some_last p v pe ve) (last_most p v pe ve) (lasts p v pe ve);
       }
 
   masks : (i : ℕ) → i < e.count → mask_in s e (suc i) ≡ mask_in s c (suc (kept i))
-  masks i l = alike-mask S em (suc i) cm (suc (kept i)) narrow (omega arith) (omega arith) (alike i l)
+  masks i l = alike_mask S em (suc i) cm (suc (kept i)) narrow (omega arith) (omega arith) (alike i l)
 
   module _ (exact : Bool) where
     -- the values of message i
-    abbrev pub valuesMatch : ℕ → Bool
-    valuesMatch i = pairwise (relation exact) (get_or e.messages i no_message).snapshot (get_or c.messages (kept i) no_message).snapshot
+    abbrev pub values_match : ℕ → Bool
+    values_match i = pairwise (relation exact) (get_or e.messages i no_message).snapshot (get_or c.messages (kept i) no_message).snapshot
 
-    near : (i : ℕ) → i < e.count → tag_matches (relation exact) (tag s e (suc i)) (tag s c (suc (kept i))) ≡ valuesMatch i
+    near : (i : ℕ) → i < e.count → tag_matches (relation exact) (tag s e (suc i)) (tag s c (suc (kept i))) ≡ values_match i
     near i l =
         let y : suc i - 1 ≡ i = omega arith in
         let z : suc (kept i) - 1 ≡ kept i = omega arith in
         ap (λ (k : Bool). k && message_matches (relation exact) (get_or e.messages (suc i - 1) no_message) (get_or c.messages (suc (kept i) - 1) no_message))
         (roles_test S narrow em (suc i) cm (suc (kept i)) (omega arith) (omega arith) ∙ eq-eqb (mask_in s e (suc i)) (mask_in s c (suc (kept i))) (masks i l))
         ∙ ap₂ (λ (u v : ℕ). message_matches (relation exact) (get_or e.messages u no_message) (get_or c.messages v no_message)) y z
-        ∙ ap₂ (λ (u v : Bool). (u && v) && valuesMatch i)
+        ∙ ap₂ (λ (u v : Bool). (u && v) && values_match i)
         (eq-eqb (get_or e.messages i no_message).process (get_or c.messages (kept i) no_message).process (w.process i l))
         (eq-eqb (get_or e.messages i no_message).variable (get_or c.messages (kept i) no_message).variable (w.variable i l))
 
     -- ---- in their order
 
     -- the first i messages, in the first j of the cube, among which are those that they stand for
-    placed : (j i : ℕ) → i ≤ e.count → j ≤ c.count → ((k : ℕ) → k < i → kept k < j) → ((k : ℕ) → k < i → valuesMatch k ≡ true) → Subsequence (tag_matches (relation exact)) (up_to s e i) (up_to s c j)
+    placed : (j i : ℕ) → i ≤ e.count → j ≤ c.count → ((k : ℕ) → k < i → kept k < j) → ((k : ℕ) → k < i → values_match k ≡ true) → Subsequence (tag_matches (relation exact)) (up_to s e i) (up_to s c j)
     placed j zero l g h v = none_sub s few exact e c w.lowest (up_to s c j)
     placed zero (suc i) l g h v = absurd (omega (arith, h i (omega arith)))
     placed (suc j) (suc i) l g h v = elim (ℕ_discrete (kept i) j) [
@@ -182,8 +182,8 @@ module _ (s : Shape) (few : s.processes ≤ 4) (narrow : s.variables ≤ 4) (e c
           (skip (placed j (suc i) l (omega arith) (λ k f. omega (arith, h i (omega arith), mono k i (omega arith) (omega arith))) v))
     ]
 
-    pub traced-matches : ((i : ℕ) → i < e.count → valuesMatch i ≡ true) → channel_matches s exact e c ≡ true
+    pub traced_matches : ((i : ℕ) → i < e.count → values_match i ≡ true) → channel_matches s exact e c ≡ true
     unfolding channel_matches
-    traced-matches v =
+    traced_matches v =
         T_true (subsequence (tag_matches (relation exact)) (up_to s e e.count) (up_to s c c.count))
         ((leftmost (tag_matches (relation exact)) (up_to s e e.count) (up_to s c c.count)).1 (placed c.count e.count (omega arith) (omega arith) (λ k l. w.inside k l) v))

@@ -12,7 +12,7 @@ use Rattle.file_contents.specs.declared.entry.Cube.{Cube}
 use Rattle.file_contents.specs.Cube.{configuration_of}
 use Rattle.file_again.specs.Again.{entries_of}
 use Rattle.list_known.specs.FamilyTable.{Families, Recorded}
-use Rattle.list_known.proofs.FamilyTable.{recorded_held, recorded-update, recorded-serialise}
+use Rattle.list_known.proofs.FamilyTable.{recorded_held, recorded_update, recorded_serialise}
 use Rattle.list_theory.specs.Predecessors.{on_top}
 use Rattle.list_cube.specs.Editing.{CubeFor}
 use Rattle.list_before.specs.Before.{serialise_before}
@@ -28,15 +28,15 @@ found_held s f list sum n table c r F Z = sym (recorded_held s Z.plain.shape f l
 module _ (g f list sum : List ℕ) (n : ℕ) (p : Program) (c : Cube) (table : List ℕ) (W : Walkable g f list sum n p c)
     (Y : Families (shape_of p.shape) (entries_of f list n) table) (r : Recorded table f list n p.shape c) where
   -- no update leads in
-  pub walk-family : (m t s : ℕ) → LowestFailing (λ j. step_held (program_of g p) (entries_of f list n) (configuration_of c) (Take j)) m t → m ≤ t
+  pub walk_family : (m t s : ℕ) → LowestFailing (λ j. step_held (program_of g p) (entries_of f list n) (configuration_of c) (Take j)) m t → m ≤ t
       → LowestFailing (λ i. step_held (program_of g p) (entries_of f list n) (configuration_of c) (Serialise (i / 4) (i % 4))) 16 s → 16 ≤ s
       → LowestFailing (λ j. step_held (program_of g p) (entries_of f list n) (configuration_of c) (walk_step m j)) (m + 20) (m + 20)
   unfolding step_held
-  walk-family m t s w l u k =
+  walk_family m t s w l u k =
       let e : m + 16 + 4 ≡ m + 20 = omega arith in
       subst (λ (r : ℕ). LowestFailing (λ j. step_held (program_of g p) (entries_of f list n) (configuration_of c) (walk_step m j)) (m + 20) r) e
       (walk_update (step_held (program_of g p) (entries_of f list n) (configuration_of c)) m w l u k
-      (lowest_end {r = 4} refl (λ q b. recorded-update p.shape W.stepping.program.shape f list n table Y c r (program_of g p) W.stepping.program refl W.entries W.own q)))
+      (lowest_end {r = 4} refl (λ q b. recorded_update p.shape W.stepping.program.shape f list n table Y c r (program_of g p) W.stepping.program refl W.entries W.own q)))
 
 -- what a serialise leads from, if the cube with another newest message is in a full family
 pub serialise_family : (g f list sum : List ℕ) (n : ℕ) (s : Program) (c : Cube) (p v : ℕ) → Serialising g f list sum n s c p v → (table : List ℕ) → Families (shape_of s.shape) (entries_of f list n) table
@@ -45,4 +45,4 @@ pub serialise_family : (g f list sum : List ℕ) (n : ℕ) (s : Program) (c : Cu
 unfolding step_held
 serialise_family g f list sum n s c p v Z table Y top r d =
     let W = Z.walkable in
-    sym (recorded-serialise s.shape W.stepping.program.shape f list n table Y top r (program_of g s) W.stepping.program refl W.entries (configuration_of c) W.own p v d.configuration)
+    sym (recorded_serialise s.shape W.stepping.program.shape f list n table Y top r (program_of g s) W.stepping.program refl W.entries (configuration_of c) W.own p v d.configuration)

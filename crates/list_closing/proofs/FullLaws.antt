@@ -17,7 +17,7 @@ use Rattle.file_contents.specs.Cube.{configuration_of}
 use Rattle.file_again.specs.Again.{transition_of, entries_of}
 use Rattle.file_again.proofs.Again.{transition_again}
 use Rattle.list_known.specs.FullStates.{Full, is_full, states_from}
-use Rattle.list_known.proofs.FullTable.{full-take, full-serialise, full-update}
+use Rattle.list_known.proofs.FullTable.{full_take, full_serialise, full_update}
 use Rattle.list_closing.specs.Walk.{step_held, walk_step, opening_at, opening_of, LowestFailing, Walkable, Surrounded}
 use Rattle.list_closing.specs.declared.Opening.{Opening}
 use Rattle.list_closing.specs.declared.Opening.TheVariants.{Shut, Through}
@@ -30,7 +30,7 @@ module _ (g f list sum : List ℕ) (n : ℕ) (p : Program) (c : Cube) (full : Li
       → true ≡ step_held (program_of g p) (entries_of f list n) (configuration_of c) (Take j)
   unfolding step_held
   take_full j t l e i =
-      sym (full-take (program_of g p) W.stepping.program (entries_of f list n) full c.states p.shape refl F (configuration_of c) W.own refl j
+      sym (full_take (program_of g p) W.stepping.program (entries_of f list n) full c.states p.shape refl F (configuration_of c) W.own refl j
       (subst (λ (u : Transition). is_full full p.shape (states_from c.states u.process u.from) ≡ true) (e ∙ sym (transition_again g p j l)) i))
 
   -- every other step, if the entry itself is there
@@ -42,9 +42,9 @@ module _ (g f list sum : List ℕ) (n : ℕ) (p : Program) (c : Cube) (full : Li
       let e : m + 16 + 4 ≡ m + 20 = omega arith in
       subst (λ (r : ℕ). LowestFailing (λ j. step_held (program_of g p) (entries_of f list n) (configuration_of c) (walk_step m j)) (m + 20) r) e
       (walk_update (step_held (program_of g p) (entries_of f list n) (configuration_of c)) m w l
-      (lowest_end {r = 16} refl (λ k b. full-serialise (program_of g p) W.stepping.program (entries_of f list n) full c.states p.shape refl F (configuration_of c) W.own refl i (k / 4) (k % 4)))
+      (lowest_end {r = 16} refl (λ k b. full_serialise (program_of g p) W.stepping.program (entries_of f list n) full c.states p.shape refl F (configuration_of c) W.own refl i (k / 4) (k % 4)))
       (omega arith)
-      (lowest_end {r = 4} refl (λ q b. full-update (program_of g p) W.stepping.program (entries_of f list n) full c.states p.shape refl F (configuration_of c) W.own refl i q)))
+      (lowest_end {r = 4} refl (λ q b. full_update (program_of g p) W.stepping.program (entries_of f list n) full c.states p.shape refl F (configuration_of c) W.own refl i q)))
 
   -- and nothing leads in, if the entry's local states are full and all those from which a transition leads there
   pub surrounded_shut : Surrounded full g p c.states → Shut ≡ opening_of (program_of g p) (entries_of f list n) (configuration_of c)

@@ -103,9 +103,9 @@ module _ (S : Shape) (R : ShapeInRange S) (e : Configuration) (oe : Fits (ValueO
   abbrev top : Configuration
   top = serialise_before S e p v (on_top v)
 
-  same-channel : (ms : List Message) → FillChannel top.memory.channel ms → FillChannel e.memory.channel ms
-  same-channel [] x' = elim x' [ ]
-  same-channel (m ∷ ms) (channel_cons f r) =
+  same_channel : (ms : List Message) → FillChannel top.memory.channel ms → FillChannel e.memory.channel ms
+  same_channel [] x' = elim x' [ ]
+  same_channel (m ∷ ms) (channel_cons f r) =
       let l = labelled_is (topmost e.memory.channel) p v label in
       channel_newest e.memory.channel oe.memory.some
       (record { process = l.0 ∙ f.process; variable = l.1 ∙ f.variable; snapshot = fill_unput v FF (inl free) f.snapshot }) r
@@ -120,7 +120,7 @@ module _ (S : Shape) (R : ShapeInRange S) (e : Configuration) (oe : Fits (ValueO
         queues = put_queue qs p v ys;
         fill = λ q u a b. unput FillValues e.queue qs p v (x ∷ e.queue p v) ys rest q u (F.queues q u a b);
         below = λ q u a b. put_queue_each qs p v ys (λ q u zs. QueueBelow zs (qs q u)) q u (behind_first (qs p v) (sym (fill_empty rest) ∙ waits)) (λ n. queue_refl (qs q u));
-        memory = record { channel = ms; fill = same-channel ms F.channel; h = λ i. i; maps = maps_refl S (memory_of ms e.memory.pointer) };
+        memory = record { channel = ms; fill = same_channel ms F.channel; h = λ i. i; maps = maps_refl S (memory_of ms e.memory.pointer) };
       })
 
 -- what is above an entry of the list with all its fillings is held

@@ -135,40 +135,40 @@ module _ (g f list sum : List ℕ) (n : ℕ) (s : Program) (c : Cube) where
       }
 
   module _ (p v : ℕ) (Z : Serialising g f list sum n s c p v) where
-    abbrev pub heldSerialise : lists.Kind → Bool
-    heldSerialise k = held (shape_of s.shape) (entries_of f list n) (serialise_before (shape_of s.shape) (configuration_of c) p v k)
+    abbrev pub held_serialise : lists.Kind → Bool
+    held_serialise k = held (shape_of s.shape) (entries_of f list n) (serialise_before (shape_of s.shape) (configuration_of c) p v k)
 
-    serialise-has : (k : lists.Kind) → serialise_kind (configuration_of c).memory p v k ≡ true → has (program_of g s) (configuration_of c) (Serialise p v) k ≡ true
-    serialise-has k e = ap₂ ◌&&◌ (ap₂ ◌&&◌ (lt-ltb p s.shape.processes Z.process) (lt-ltb v s.shape.variables Z.variable)) (ap₂ ◌&&◌ Z.made e)
+    serialise_has : (k : lists.Kind) → serialise_kind (configuration_of c).memory p v k ≡ true → has (program_of g s) (configuration_of c) (Serialise p v) k ≡ true
+    serialise_has k e = ap₂ ◌&&◌ (ap₂ ◌&&◌ (lt-ltb p s.shape.processes Z.process) (lt-ltb v s.shape.variables Z.variable)) (ap₂ ◌&&◌ Z.made e)
 
-    pub serialise-searched : (k : lists.Kind) → serialise_kind (configuration_of c).memory p v k ≡ true
+    pub serialise_searched : (k : lists.Kind) → serialise_kind (configuration_of c).memory p v k ≡ true
         → {r : Cube} {h : Bool} → CubeFor r (serialise_before (shape_of s.shape) (configuration_of c) p v k)
-        → (Searchable f list sum n s.shape r → h ≡ held (shape_of s.shape) (entries_of f list n) (configuration_of r)) → h ≡ heldSerialise k
-    serialise-searched k i d y = searched g f list sum n s c Z.walkable (Serialise p v) k (serialise-has k i) d y
+        → (Searchable f list sum n s.shape r → h ≡ held (shape_of s.shape) (entries_of f list n) (configuration_of r)) → h ≡ held_serialise k
+    serialise_searched k i d y = searched g f list sum n s c Z.walkable (Serialise p v) k (serialise_has k i) d y
 
-    pub serialise-fails : (k : lists.Kind) → serialise_kind (configuration_of c).memory p v k ≡ true → heldSerialise k ≡ false → step_of p v ≡ false
-    serialise-fails k i d = step_false (program_of g s) (entries_of f list n) (configuration_of c) (Serialise p v) k (serialise-has k i) d
+    pub serialise_fails : (k : lists.Kind) → serialise_kind (configuration_of c).memory p v k ≡ true → held_serialise k ≡ false → step_of p v ≡ false
+    serialise_fails k i d = step_false (program_of g s) (entries_of f list n) (configuration_of c) (Serialise p v) k (serialise_has k i) d
 
-    pub top-there : serialise_kind (configuration_of c).memory p v (on_top v) ≡ true
-    top-there = eq-eqb v v refl
+    pub top_there : serialise_kind (configuration_of c).memory p v (on_top v) ≡ true
+    top_there = eq-eqb v v refl
 
     -- the entry itself is below
-    pub own-top : get_or (topmost (configuration_of c).memory.channel).snapshot v 0 ≡ FF → is_empty ((configuration_of c).queue p v) ≡ false → true ≡ heldSerialise (on_top v)
-    own-top free waits =
+    pub own_top : get_or (topmost (configuration_of c).memory.channel).snapshot v 0 ≡ FF → is_empty ((configuration_of c).queue p v) ≡ false → true ≡ held_serialise (on_top v)
+    own_top free waits =
         let W = Z.walkable in
-        sym (own_held g f list sum n s c W (Serialise p v) (on_top v) (serialise-has (on_top v) top-there)
+        sym (own_held g f list sum n s c W (Serialise p v) (on_top v) (serialise_has (on_top v) top_there)
         (top_above (shape_of s.shape) W.stepping.program.shape (configuration_of c) W.own.fits p v Z.process Z.variable (is_yes (serialised_parts p v Z.made).0) free waits))
 
-    serialise-true : ((k : lists.Kind) → serialise_kind (configuration_of c).memory p v k ≡ true → heldSerialise k ≡ true) → step_of p v ≡ true
-    serialise-true d = step_true (program_of g s) (entries_of f list n) (configuration_of c) (Serialise p v) (λ k h. d k (has_parts p v k h).2)
+    serialise_true : ((k : lists.Kind) → serialise_kind (configuration_of c).memory p v k ≡ true → held_serialise k ≡ true) → step_of p v ≡ true
+    serialise_true d = step_true (program_of g s) (entries_of f list n) (configuration_of c) (Serialise p v) (λ k h. d k (has_parts p v k h).2)
 
-    over : heldSerialise (on_top v) ≡ true → (u : ℕ) → eqb u v ≡ true → heldSerialise (on_top u) ≡ true
-    over t u e = ap (λ (w : ℕ). heldSerialise (on_top w)) (eqb-true u v e) ∙ t
+    over : held_serialise (on_top v) ≡ true → (u : ℕ) → eqb u v ≡ true → held_serialise (on_top u) ≡ true
+    over t u e = ap (λ (w : ℕ). held_serialise (on_top w)) (eqb-true u v e) ∙ t
 
-    pub serialise-top : heldSerialise (on_top v) ≡ true → serialise_kind (configuration_of c).memory p v undone ≡ false → step_of p v ≡ true
-    serialise-top t d = serialise-true at
+    pub serialise_top : held_serialise (on_top v) ≡ true → serialise_kind (configuration_of c).memory p v undone ≡ false → step_of p v ≡ true
+    serialise_top t d = serialise_true at
       where
-        at : (k : lists.Kind) → serialise_kind (configuration_of c).memory p v k ≡ true → heldSerialise k ≡ true
+        at : (k : lists.Kind) → serialise_kind (configuration_of c).memory p v k ≡ true → held_serialise k ≡ true
         at undone e = absurd (not_both e d)
         at waited e = absurd (not_both e refl)
         at (inside k) e =
@@ -177,40 +177,40 @@ module _ (g f list sum : List ℕ) (n : ℕ) (s : Program) (c : Cube) where
         at (on_top u) e = over t u e
         at (pointed r u) e = absurd (not_both e refl)
 
-    pub inside-there : (k : ℕ) → serialise_kind (configuration_of c).memory p v undone ≡ true → last_write (without_newest (configuration_of c).memory) p v < k → k < c.count
+    pub inside_there : (k : ℕ) → serialise_kind (configuration_of c).memory p v undone ≡ true → last_write (without_newest (configuration_of c).memory) p v < k → k < c.count
         → serialise_kind (configuration_of c).memory p v (inside k) ≡ true
-    inside-there k e a b =
+    inside_there k e a b =
         ap₂ ◌&&◌ e (ap₂ ◌&&◌ (lt-ltb (last_write (without_newest (configuration_of c).memory) p v) k a)
         (le-leb k (length (older (configuration_of c).memory.channel)) (omega (arith, older_length c.messages c.count))))
 
-    pub inside-absent : (last k : ℕ) → k ≤ last → true ≡ cond (ltb last k) (heldSerialise (inside k)) true
-    inside-absent last k l = sym (ap (λ (b : Bool). cond b (heldSerialise (inside k)) true) (le-ltb last k l))
+    pub inside_absent : (last k : ℕ) → k ≤ last → true ≡ cond (ltb last k) (held_serialise (inside k)) true
+    inside_absent last k l = sym (ap (λ (b : Bool). cond b (held_serialise (inside k)) true) (le-ltb last k l))
 
-    pub inside-searched : serialise_kind (configuration_of c).memory p v undone ≡ true → (last k : ℕ) → last ≡ last_write (without_newest (configuration_of c).memory) p v → last < k → k < c.count
+    pub inside_searched : serialise_kind (configuration_of c).memory p v undone ≡ true → (last k : ℕ) → last ≡ last_write (without_newest (configuration_of c).memory) p v → last < k → k < c.count
         → {r : Cube} {h : Bool} → (serialise_kind (configuration_of c).memory p v (inside k) ≡ true → CubeFor r (serialise_before (shape_of s.shape) (configuration_of c) p v (inside k)))
-        → (Searchable f list sum n s.shape r → h ≡ held (shape_of s.shape) (entries_of f list n) (configuration_of r)) → h ≡ cond (ltb last k) (heldSerialise (inside k)) true
-    inside-searched u last k e a b d y =
-        let i = inside-there k u (omega arith) b in
-        serialise-searched (inside k) i (d i) y ∙ sym (ap (λ (t : Bool). cond t (heldSerialise (inside k)) true) (lt-ltb last k a))
+        → (Searchable f list sum n s.shape r → h ≡ held (shape_of s.shape) (entries_of f list n) (configuration_of r)) → h ≡ cond (ltb last k) (held_serialise (inside k)) true
+    inside_searched u last k e a b d y =
+        let i = inside_there k u (omega arith) b in
+        serialise_searched (inside k) i (d i) y ∙ sym (ap (λ (t : Bool). cond t (held_serialise (inside k)) true) (lt-ltb last k a))
 
-    abbrev pub insideHeld : ℕ → Bool
-    insideHeld k = cond (ltb (last_write (without_newest (configuration_of c).memory) p v) k) (heldSerialise (inside k)) true
+    abbrev pub inside_held : ℕ → Bool
+    inside_held k = cond (ltb (last_write (without_newest (configuration_of c).memory) p v) k) (held_serialise (inside k)) true
 
-    inside-all : all_below c.count insideHeld ≡ true → (k : ℕ) → k < c.count → last_write (without_newest (configuration_of c).memory) p v < k → heldSerialise (inside k) ≡ true
-    inside-all d k l a =
-        sym (ap (λ (t : Bool). cond t (heldSerialise (inside k)) true) (lt-ltb (last_write (without_newest (configuration_of c).memory) p v) k a))
-        ∙ truth (all_yes c.count insideHeld (is_yes d) k l)
+    inside_all : all_below c.count inside_held ≡ true → (k : ℕ) → k < c.count → last_write (without_newest (configuration_of c).memory) p v < k → held_serialise (inside k) ≡ true
+    inside_all d k l a =
+        sym (ap (λ (t : Bool). cond t (held_serialise (inside k)) true) (lt-ltb (last_write (without_newest (configuration_of c).memory) p v) k a))
+        ∙ truth (all_yes c.count inside_held (is_yes d) k l)
 
     -- with the newest message free and with nothing beside all is well, and the messages inside decide
-    pub serialise-insides : heldSerialise (on_top v) ≡ true → heldSerialise undone ≡ true → serialise_kind (configuration_of c).memory p v undone ≡ true
-        → {h : Bool} → h ≡ all_below c.count insideHeld → h ≡ step_of p v
-    serialise-insides t d u {h} e =
+    pub serialise_insides : held_serialise (on_top v) ≡ true → held_serialise undone ≡ true → serialise_kind (configuration_of c).memory p v undone ≡ true
+        → {h : Bool} → h ≡ all_below c.count inside_held → h ≡ step_of p v
+    serialise_insides t d u {h} e =
         decided h (step_of p v)
-        (λ b. serialise-true (at (inside-all (sym e ∙ b))))
-        (λ b. let x = all_no c.count insideHeld (subst (λ (z : Bool). T (not z)) (sym (sym e ∙ b)) tt) in fails x.0 x.1 (T_false (insideHeld x.0) x.2))
+        (λ b. serialise_true (at (inside_all (sym e ∙ b))))
+        (λ b. let x = all_no c.count inside_held (subst (λ (z : Bool). T (not z)) (sym (sym e ∙ b)) tt) in fails x.0 x.1 (T_false (inside_held x.0) x.2))
       where
-        at : ((k : ℕ) → k < c.count → last_write (without_newest (configuration_of c).memory) p v < k → heldSerialise (inside k) ≡ true)
-            → (k : lists.Kind) → serialise_kind (configuration_of c).memory p v k ≡ true → heldSerialise k ≡ true
+        at : ((k : ℕ) → k < c.count → last_write (without_newest (configuration_of c).memory) p v < k → held_serialise (inside k) ≡ true)
+            → (k : lists.Kind) → serialise_kind (configuration_of c).memory p v k ≡ true → held_serialise k ≡ true
         at i undone e = d
         at i waited e = absurd (not_both e refl)
         at i (inside k) e =
@@ -224,9 +224,9 @@ module _ (g f list sum : List ℕ) (n : ℕ) (s : Program) (c : Cube) where
         at i (on_top u) e = over t u e
         at i (pointed r u) e = absurd (not_both e refl)
 
-        fails : (k : ℕ) → k < c.count → insideHeld k ≡ false → step_of p v ≡ false
+        fails : (k : ℕ) → k < c.count → inside_held k ≡ false → step_of p v ≡ false
         fails k l z = case (ltb (last_write (without_newest (configuration_of c).memory) p v) k) refl z
           where
-            case : (b : Bool) → ltb (last_write (without_newest (configuration_of c).memory) p v) k ≡ b → cond b (heldSerialise (inside k)) true ≡ false → step_of p v ≡ false
-            case true i z = serialise-fails (inside k) (inside-there k u (ltb-true (last_write (without_newest (configuration_of c).memory) p v) k i) l) z
+            case : (b : Bool) → ltb (last_write (without_newest (configuration_of c).memory) p v) k ≡ b → cond b (held_serialise (inside k)) true ≡ false → step_of p v ≡ false
+            case true i z = serialise_fails (inside k) (inside_there k u (ltb-true (last_write (without_newest (configuration_of c).memory) p v) k i) l) z
             case false i z = absurd (not_both refl z)

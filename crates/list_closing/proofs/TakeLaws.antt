@@ -95,12 +95,12 @@ module _ (g f list sum : List ℕ) (n : ℕ) (p : Program) (c : Cube) (W : Walka
   -- ---- operations that have one cube at most, with nothing beside
 
   module _ (b : Bool) (is : (k : lists.Kind) → has_operation (shape_of p.shape) (configuration_of c) q o k ≡ is_undone k && b) where
-    pub plain-none : b ≡ false → true ≡ step_held (program_of g p) (entries_of f list n) (configuration_of c) (Take j)
-    plain-none z = take_true (λ k i. absurd (not_both (and_true (is_undone k) b (sym (is k) ∙ i)).1 z))
+    pub plain_none : b ≡ false → true ≡ step_held (program_of g p) (entries_of f list n) (configuration_of c) (Take j)
+    plain_none z = take_true (λ k i. absurd (not_both (and_true (is_undone k) b (sym (is k) ∙ i)).1 z))
 
-    pub plain-held : b ≡ true → {r : Cube} {h : Bool} → CubeFor r (take_before (configuration_of c) q x o undone) → Answer r h
+    pub plain_held : b ≡ true → {r : Cube} {h : Bool} → CubeFor r (take_before (configuration_of c) q x o undone) → Answer r h
         → h ≡ step_held (program_of g p) (entries_of f list n) (configuration_of c) (Take j)
-    plain-held z {r} {h} d y =
+    plain_held z {r} {h} d y =
         let i = is undone ∙ z in
         let a = take_searched undone i d y in
         decided h (step_held (program_of g p) (entries_of f list n) (configuration_of c) (Take j))
@@ -144,13 +144,13 @@ module _ (g f list sum : List ℕ) (n : ℕ) (p : Program) (c : Cube) (W : Walka
   abbrev undone_held : Bool
   undone_held = cond (arw_kind (shape_of p.shape) (configuration_of c).memory v old undone) (heldArw undone) true
 
-  pub arw-none : made ≡ false → true ≡ step_held (program_of g p) (entries_of f list n) (configuration_of c) (Take j)
-  arw-none z =
+  pub arw_none : made ≡ false → true ≡ step_held (program_of g p) (entries_of f list n) (configuration_of c) (Take j)
+  arw_none z =
       take_true g f list sum n p c W j q x (Arw v old new) A (λ k i. absurd (not_both (and_true made (arw_kind (shape_of p.shape) (configuration_of c).memory v old k) i).0 z))
 
-  arw-has : made ≡ true → (k : lists.Kind) → arw_kind (shape_of p.shape) (configuration_of c).memory v old k ≡ true
+  arw_has : made ≡ true → (k : lists.Kind) → arw_kind (shape_of p.shape) (configuration_of c).memory v old k ≡ true
       → has_operation (shape_of p.shape) (configuration_of c) q (Arw v old new) k ≡ true
-  arw-has z k i = ap₂ ◌&&◌ z i
+  arw_has z k i = ap₂ ◌&&◌ z i
 
   pub undone_absent : arw_kind (shape_of p.shape) (configuration_of c).memory v old undone ≡ false → true ≡ undone_held
   undone_absent z = sym (ap (λ (b : Bool). cond b (heldArw undone) true) z)
@@ -159,22 +159,22 @@ module _ (g f list sum : List ℕ) (n : ℕ) (p : Program) (c : Cube) (W : Walka
       → {r : Cube} {h : Bool} → CubeFor r (take_before (configuration_of c) q x (Arw v old new) undone)
       → (Searchable f list sum n p.shape r → h ≡ held (shape_of p.shape) (entries_of f list n) (configuration_of r)) → h ≡ undone_held
   undone_there z i d y =
-      take_searched g f list sum n p c W j q x (Arw v old new) A undone (arw-has z undone i) d y ∙ sym (ap (λ (b : Bool). cond b (heldArw undone) true) i)
+      take_searched g f list sum n p c W j q x (Arw v old new) A undone (arw_has z undone i) d y ∙ sym (ap (λ (b : Bool). cond b (heldArw undone) true) i)
 
   pub undone_fails : made ≡ true → undone_held ≡ false → false ≡ step_held (program_of g p) (entries_of f list n) (configuration_of c) (Take j)
   undone_fails z d = at (arw_kind (shape_of p.shape) (configuration_of c).memory v old undone) refl d
     where
       at : (b : Bool) → arw_kind (shape_of p.shape) (configuration_of c).memory v old undone ≡ b → cond b (heldArw undone) true ≡ false
           → false ≡ step_held (program_of g p) (entries_of f list n) (configuration_of c) (Take j)
-      at true i d = take_false g f list sum n p c W j q x (Arw v old new) A undone (arw-has z undone i) d
+      at true i d = take_false g f list sum n p c W j q x (Arw v old new) A undone (arw_has z undone i) d
       at false i d = absurd (not_both refl d)
 
-  pub top-has : made ≡ true → (u : ℕ) → u < p.shape.variables → has_operation (shape_of p.shape) (configuration_of c) q (Arw v old new) (on_top u) ≡ true
-  top-has z u l = arw-has z (on_top u) (lt-ltb u p.shape.variables l)
+  pub top_has : made ≡ true → (u : ℕ) → u < p.shape.variables → has_operation (shape_of p.shape) (configuration_of c) q (Arw v old new) (on_top u) ≡ true
+  top_has z u l = arw_has z (on_top u) (lt-ltb u p.shape.variables l)
 
-  pub arw-all : undone_held ≡ true → ((u : ℕ) → u < p.shape.variables → heldArw (on_top u) ≡ true)
+  pub arw_all : undone_held ≡ true → ((u : ℕ) → u < p.shape.variables → heldArw (on_top u) ≡ true)
       → true ≡ step_held (program_of g p) (entries_of f list n) (configuration_of c) (Take j)
-  arw-all d t =
+  arw_all d t =
       take_true g f list sum n p c W j q x (Arw v old new) A (λ k i. at k (and_true made (arw_kind (shape_of p.shape) (configuration_of c).memory v old k) i).1)
     where
       at : (k : lists.Kind) → arw_kind (shape_of p.shape) (configuration_of c).memory v old k ≡ true → heldArw k ≡ true

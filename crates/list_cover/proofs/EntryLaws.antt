@@ -20,7 +20,7 @@ use Rattle.file_again.specs.Again.{offset_at, cube_at}
 use Rattle.list_key.specs.Relation.{relation}
 use Rattle.list_key.specs.Tags.{tags_of}
 use Rattle.list_key.specs.Match.{Sizes, Suits, queue_row, channel_matches}
-use Rattle.list_key.proofs.MatchLaws.{states-fail, queues_unlike, channel-left}
+use Rattle.list_key.proofs.MatchLaws.{states_fail, queues_unlike, channel_left}
 use Rattle.list_bytes.specs.Against.{Sized, Against}
 use Rattle.list_bytes.specs.Same.{Leads, leads_none}
 use Rattle.list_bytes.proofs.SameLaws.{entry_stands}
@@ -76,7 +76,7 @@ module _ (exact : Bool) (s : Shape) (f list : List ℕ) (i at : ℕ) (c : Cube) 
       → x ≡ all_below (min s.processes 4) (λ p. eqb (get_or zs p 0) (get_or c.states p 0)) → x ≡ false
       → false ≡ matches (shape_of s) (relation exact) (configuration_of (cube_at f list i)) (configuration_of c)
   states_differ z g h =
-      states-fail exact s (cube_at f list i) c (sizes (cube_at f list i) (load_few f (offset_at list i)))
+      states_fail exact s (cube_at f list i) c (sizes (cube_at f list i) (load_few f (offset_at list i)))
       (g
       ∙ ap (λ (xs : List ℕ). all_below (min s.processes 4) (λ p. eqb (get_or xs p 0) (get_or c.states p 0)))
       (head_states f at z ∙ ap (λ (k : ℕ). (load_entry f k).states) e)) h
@@ -96,5 +96,5 @@ module _ (exact : Bool) (s : Shape) (f list : List ℕ) (i at : ℕ) (c : Cube) 
 
       decided : (y : Bool) → y ≡ all_below (min s.processes 4) (queue_row s.variables exact (load_entry f at).queues c.queues)
           → y && channel_matches s exact (load_entry f at) c ≡ matches (shape_of s) (relation exact) (configuration_of (load_entry f at)) (configuration_of c)
-      decided true v = channel-left exact s (load_entry f at) c (sizes (load_entry f at) (load_few f at)) same v h refl refl
+      decided true v = channel_left exact s (load_entry f at) c (sizes (load_entry f at) (load_few f at)) same v h refl refl
       decided false v = queues_unlike exact s (load_entry f at) c (sizes (load_entry f at) (load_few f at)) v refl

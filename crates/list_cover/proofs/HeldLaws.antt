@@ -36,7 +36,7 @@ use Rattle.list_cover.specs.declared.place.Place.TheVariants.{Whole, Waiting, Se
 use Rattle.list_cover.specs.Places.{part_of, value_free, waits_free, sent_free, is_free, place_of, proper, fillings, NoneFree}
 use Rattle.list_cover.specs.Search.{Plain, Covered, by_entry, by_parts}
 use Rattle.list_cover.proofs.PlaceLaws.{true_not_false, waits_free_lem, sent_free_lem}
-use Rattle.list_cover.proofs.PartLaws.{part_queues, part_messages, waiting-is, waiting-part, waiting-valid, waiting-at, sent_is, sent-part, sent-valid, sent-at}
+use Rattle.list_cover.proofs.PartLaws.{part_queues, part_messages, waiting_is, waiting_part, waiting_valid, waiting_at, sent_is, sent_part, sent_valid, sent_at}
 
 -- ---- over any list of entries
 
@@ -46,15 +46,15 @@ module _ (S : pws.Shape) (R : pws.ShapeInRange S) (es : List Configuration) (oes
   held_by H true d = refl
   held_by H false d = let u = decided_no d tt in absurd (u.outside (H u.queues u.channel u.filling))
 
-  outside-by : Outside S es c → (b : Bool) → Decided S es c b → b ≡ false
-  outside-by u true d = absurd (u.outside (decided_yes d tt u.queues u.channel u.filling))
-  outside-by u false d = refl
+  outside_by : Outside S es c → (b : Bool) → Decided S es c b → b ≡ false
+  outside_by u true d = absurd (u.outside (decided_yes d tt u.queues u.channel u.filling))
+  outside_by u false d = refl
 
   held_is : Held S es c → held S es c ≡ true
   held_is H = held_by H (held S es c) (held_decided S R.well_formed es oes c o)
 
-  outside-is : Outside S es c → held S es c ≡ false
-  outside-is u = outside-by u (held S es c) (held_decided S R.well_formed es oes c o)
+  outside_is : Outside S es c → held S es c ≡ false
+  outside_is u = outside_by u (held S es c) (held_decided S R.well_formed es oes c o)
 
   is_held : held S es c ≡ true → Held S es c
   is_held e = decided_yes (held_decided S R.well_formed es oes c o) (subst T (sym e) tt)
@@ -66,7 +66,7 @@ module _ (S : pws.Shape) (R : pws.ShapeInRange S) (es : List Configuration) (oes
   covered k l e = held_is (covered_held S R.well_formed es oes c (number_any (λ d. matches S fills d c) no_entry es k l (subst T (sym e) tt)))
 
   unmet : ((k : ℕ) → k < length es → matches S alike (entry es k) c ≡ false) → held S es c ≡ false
-  unmet f = outside-is (unmet_outside S R.well_formed es oes c o (λ t. let r = any_number (λ d. matches S alike d c) no_entry es t in subst T (f r.0 r.1) r.2))
+  unmet f = outside_is (unmet_outside S R.well_formed es oes c o (λ t. let r = any_number (λ d. matches S alike d c) no_entry es t in subst T (f r.0 r.1) r.2))
 
   -- no value is free
   three : (a b d x y : Bool) → a ≡ false → d ≡ false → y ≡ false → elim a [ true ↦ true | false ↦ elim b [ true ↦ elim d [ true ↦ x | false ↦ y ] | false ↦ false ] ] ≡ false
@@ -89,22 +89,22 @@ module _ (S : pws.Shape) (R : pws.ShapeInRange S) (es : List Configuration) (oes
   full f h = full_at (uncovered f (any_of (λ d. matches S fills d c) es) refl) (places S c) (λ a m. h a ((valid_place S c a).0 m))
 
   module _ (a : lists.Place) (w : Valid S c a) (e : at c a ≡ FF) where
-    part-fits : (x : ℕ) → x < S.values (variable_of a) → Fits (ValueOrFF S) S (split c a x)
-    part-fits x l = split_fits S c R.well_formed.variables o a w x l
+    part_fits : (x : ℕ) → x < S.values (variable_of a) → Fits (ValueOrFF S) S (split c a x)
+    part_fits x l = split_fits S c R.well_formed.variables o a w x l
 
 -- held of parts, and of the whole
 module _ (S : pws.Shape) (R : pws.ShapeInRange S) (es : List Configuration) (oes : (k : ℕ) → k < length es → Fits (ValueOrFF S) S (entry es k))
     (c : Configuration) (o : Fits (ValueOrFF S) S c) (a : lists.Place) (w : Valid S c a) (e : at c a ≡ FF) where
-  all-parts : ((x : ℕ) → x < S.values (variable_of a) → held S es (split c a x) ≡ true) → held S es c ≡ true
-  all-parts h =
-      held_is S R es oes c o ((split_held S c es a w e).1 (λ x l. is_held S R es oes (split c a x) (part-fits S R es oes c o a w e x l) (h x l)))
+  all_parts : ((x : ℕ) → x < S.values (variable_of a) → held S es (split c a x) ≡ true) → held S es c ≡ true
+  all_parts h =
+      held_is S R es oes c o ((split_held S c es a w e).1 (λ x l. is_held S R es oes (split c a x) (part_fits S R es oes c o a w e x l) (h x l)))
 
-  one-part : (x : ℕ) → x < S.values (variable_of a) → held S es (split c a x) ≡ false → held S es c ≡ false
-  one-part x l h = go (held S es c) refl
+  one_part : (x : ℕ) → x < S.values (variable_of a) → held S es (split c a x) ≡ false → held S es c ≡ false
+  one_part x l h = go (held S es c) refl
     where
       go : (b : Bool) → held S es c ≡ b → b ≡ false
       go true f =
-          let u = is_outside S R es oes (split c a x) (part-fits S R es oes c o a w e x l) h in
+          let u = is_outside S R es oes (split c a x) (part_fits S R es oes c o a w e x l) h in
           absurd (u.outside ((split_held S c es a w e).0 (is_held S R es oes c o f) x l u.queues u.channel u.filling))
       go false f = refl
 
@@ -177,31 +177,31 @@ module _ {f list : List ℕ} {n : ℕ} {s : Shape} {c : Cube} (Z : Plain f list 
     all_few v l x m = let k = Z.shape.values v l in omega arith
 
     -- the parts are searched for as the whole is
-    pub searchable-part : (a : Place) → proper s c a ≡ true → (x : ℕ) → x < fillings s a → Plain f list n s (part_of c a x)
-    searchable-part Whole e x l = Z
-    searchable-part (Waiting p v j) e x l =
+    pub searchable_part : (a : Place) → proper s c a ≡ true → (x : ℕ) → x < fillings s a → Plain f list n s (part_of c a x)
+    searchable_part Whole e x l = Z
+    searchable_part (Waiting p v j) e x l =
         let w = waits_free_lem s c p v j e in
-        let E = waiting-part s c sixteen twenty p v j w x in
+        let E = waiting_part s c sixteen twenty p v j w x in
         record {
           count = Z.count;
           shape = Z.shape;
           entries = Z.entries;
           fits = subst (Fits (ValueOrFF (shape_of s)) (shape_of s)) (sym E)
-              (split_fits (shape_of s) (configuration_of c) Z.shape.variables Z.fits (place_of (Waiting p v j)) (waiting-valid s c sixteen twenty p v j w) x (few v w.variable x l));
-          messages = subst (λ (k : Cube). k.count ≤ 20) (sym (waiting-is s c sixteen twenty p v j w x)) Z.messages;
+              (split_fits (shape_of s) (configuration_of c) Z.shape.variables Z.fits (place_of (Waiting p v j)) (waiting_valid s c sixteen twenty p v j w) x (few v w.variable x l));
+          messages = subst (λ (k : Cube). k.count ≤ 20) (sym (waiting_is s c sixteen twenty p v j w x)) Z.messages;
           waiting = λ q u. subst (λ (k : Configuration). length (k.queue q u) ≤ 9) (sym E)
               (put_queue_each (configuration_of c).queue p v (set ((configuration_of c).queue p v) j x) (λ q u zs. length zs ≤ 9) q u
               (omega (arith, length-set ((configuration_of c).queue p v) j x, Z.waiting p v)) (λ d. Z.waiting q u));
         }
-    searchable-part (Sent i v) e x l =
+    searchable_part (Sent i v) e x l =
         let w = sent_free_lem s c i v e in
-        let E = sent-part s c sixteen twenty i v w x in
+        let E = sent_part s c sixteen twenty i v w x in
         record {
           count = Z.count;
           shape = Z.shape;
           entries = Z.entries;
           fits = subst (Fits (ValueOrFF (shape_of s)) (shape_of s)) (sym E)
-              (split_fits (shape_of s) (configuration_of c) Z.shape.variables Z.fits (place_of (Sent i v)) (sent-valid s c sixteen twenty i v w) x (few v w.variable x l));
+              (split_fits (shape_of s) (configuration_of c) Z.shape.variables Z.fits (place_of (Sent i v)) (sent_valid s c sixteen twenty i v w) x (few v w.variable x l));
           messages = subst (λ (k : Cube). k.count ≤ 20) (sym (sent_is s c sixteen twenty i v w x)) Z.messages;
           waiting = λ q u. subst (λ (k : Configuration). length (k.queue q u) ≤ 9) (sym E) (Z.waiting q u);
         }
@@ -211,24 +211,24 @@ module _ {f list : List ℕ} {n : ℕ} {s : Shape} {c : Cube} (Z : Plain f list 
     parts_all Whole e h = h 0 (omega arith)
     parts_all (Waiting p v j) e h =
         let w = waits_free_lem s c p v j e in
-        all-parts (shape_of s) Z.shape (entries_of f list n) oes (configuration_of c) Z.fits (place_of (Waiting p v j)) (waiting-valid s c sixteen twenty p v j w) (waiting-at s c sixteen twenty p v j w)
-        (λ x l. ap (held (shape_of s) (entries_of f list n)) (sym (waiting-part s c sixteen twenty p v j w x)) ∙ h x (all_few v w.variable x l))
+        all_parts (shape_of s) Z.shape (entries_of f list n) oes (configuration_of c) Z.fits (place_of (Waiting p v j)) (waiting_valid s c sixteen twenty p v j w) (waiting_at s c sixteen twenty p v j w)
+        (λ x l. ap (held (shape_of s) (entries_of f list n)) (sym (waiting_part s c sixteen twenty p v j w x)) ∙ h x (all_few v w.variable x l))
     parts_all (Sent i v) e h =
         let w = sent_free_lem s c i v e in
-        all-parts (shape_of s) Z.shape (entries_of f list n) oes (configuration_of c) Z.fits (place_of (Sent i v)) (sent-valid s c sixteen twenty i v w) (sent-at s c sixteen twenty i v w)
-        (λ x l. ap (held (shape_of s) (entries_of f list n)) (sym (sent-part s c sixteen twenty i v w x)) ∙ h x (all_few v w.variable x l))
+        all_parts (shape_of s) Z.shape (entries_of f list n) oes (configuration_of c) Z.fits (place_of (Sent i v)) (sent_valid s c sixteen twenty i v w) (sent_at s c sixteen twenty i v w)
+        (λ x l. ap (held (shape_of s) (entries_of f list n)) (sym (sent_part s c sixteen twenty i v w x)) ∙ h x (all_few v w.variable x l))
 
-    pub parts-one : (a : Place) → proper s c a ≡ true → (x : ℕ) → x < fillings s a → held (shape_of s) (entries_of f list n) (configuration_of (part_of c a x)) ≡ false
+    pub parts_one : (a : Place) → proper s c a ≡ true → (x : ℕ) → x < fillings s a → held (shape_of s) (entries_of f list n) (configuration_of (part_of c a x)) ≡ false
         → held (shape_of s) (entries_of f list n) (configuration_of c) ≡ false
-    parts-one Whole e x l h = h
-    parts-one (Waiting p v j) e x l h =
+    parts_one Whole e x l h = h
+    parts_one (Waiting p v j) e x l h =
         let w = waits_free_lem s c p v j e in
-        one-part (shape_of s) Z.shape (entries_of f list n) oes (configuration_of c) Z.fits (place_of (Waiting p v j)) (waiting-valid s c sixteen twenty p v j w) (waiting-at s c sixteen twenty p v j w)
-        x (few v w.variable x l) (ap (held (shape_of s) (entries_of f list n)) (sym (waiting-part s c sixteen twenty p v j w x)) ∙ h)
-    parts-one (Sent i v) e x l h =
+        one_part (shape_of s) Z.shape (entries_of f list n) oes (configuration_of c) Z.fits (place_of (Waiting p v j)) (waiting_valid s c sixteen twenty p v j w) (waiting_at s c sixteen twenty p v j w)
+        x (few v w.variable x l) (ap (held (shape_of s) (entries_of f list n)) (sym (waiting_part s c sixteen twenty p v j w x)) ∙ h)
+    parts_one (Sent i v) e x l h =
         let w = sent_free_lem s c i v e in
-        one-part (shape_of s) Z.shape (entries_of f list n) oes (configuration_of c) Z.fits (place_of (Sent i v)) (sent-valid s c sixteen twenty i v w) (sent-at s c sixteen twenty i v w)
-        x (few v w.variable x l) (ap (held (shape_of s) (entries_of f list n)) (sym (sent-part s c sixteen twenty i v w x)) ∙ h)
+        one_part (shape_of s) Z.shape (entries_of f list n) oes (configuration_of c) Z.fits (place_of (Sent i v)) (sent_valid s c sixteen twenty i v w) (sent_at s c sixteen twenty i v w)
+        x (few v w.variable x l) (ap (held (shape_of s) (entries_of f list n)) (sym (sent_part s c sixteen twenty i v w x)) ∙ h)
 
 -- ---- what is covered is held
 
@@ -241,4 +241,4 @@ pub covered_is : {f list : List ℕ} {n : ℕ} {s : Shape} {c : Cube} → length
     → held (shape_of s) (entries_of f list n) (configuration_of c) ≡ true
 covered_is q m Z (by_entry k l e) = cube_covered Z k l e
 covered_is {s = s} q m Z (by_parts {c = c} a e g) =
-    parts_all Z q m a (free_is s c a e) (λ x l. covered_is (part_queues c a x ∙ q) (part_messages c a x ∙ m) (searchable-part Z q m a (free_is s c a e) x l) (g x l))
+    parts_all Z q m a (free_is s c a e) (λ x l. covered_is (part_queues c a x ∙ q) (part_messages c a x ∙ m) (searchable_part Z q m a (free_is s c a e) x l) (g x l))

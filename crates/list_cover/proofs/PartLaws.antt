@@ -59,23 +59,23 @@ module _ (s : Shape) (c : Cube) (sixteen : length c.queues ≡ 16) (twenty : len
     here : List ℕ
     here = waiting_of (get_or c.queues (4 * p + v) no_queue)
 
-    pub waiting-is : (x : ℕ) → with_waiting c p v j x ≡ with_queues c (set c.queues (4 * p + v) (set_waiting (get_or c.queues (4 * p + v) no_queue) j x))
+    pub waiting_is : (x : ℕ) → with_waiting c p v j x ≡ with_queues c (set c.queues (4 * p + v) (set_waiting (get_or c.queues (4 * p + v) no_queue) j x))
     unfolding with_waiting
-    waiting-is x = rw (lt-ltb p 4 w.few, lt-ltb v 4 w.narrow, lt-ltb j 9 w.number) refl
+    waiting_is x = rw (lt-ltb p 4 w.few, lt-ltb v 4 w.narrow, lt-ltb j 9 w.number) refl
 
-    pub waiting-part : (x : ℕ) → configuration_of (with_waiting c p v j x) ≡ split (configuration_of c) (place_of (Waiting p v j)) x
-    waiting-part x =
+    pub waiting_part : (x : ℕ) → configuration_of (with_waiting c p v j x) ≡ split (configuration_of c) (place_of (Waiting p v j)) x
+    waiting_part x =
         let q = get_or c.queues (4 * p + v) no_queue in
         let y : queue_of (set c.queues (4 * p + v) (set_waiting q j x)) ≡ put_queue (queue_of c.queues) p v (set (queue_of c.queues p v) j x) =
         queue_put c.queues p v (set_waiting q j x) w.few w.narrow sixteen
         ∙ ap (put_queue (queue_of c.queues) p v) (take_set q.count q.values j x ∙ ap (λ (zs : List ℕ). set zs j x) (sym (queue_of_lem c.queues p v w.few w.narrow))) in
-        ap configuration_of (waiting-is x) ∙ ap (λ (qs : ℕ → ℕ → List ℕ). record { state = (configuration_of c).state; queue = qs; memory = (configuration_of c).memory }) y
+        ap configuration_of (waiting_is x) ∙ ap (λ (qs : ℕ → ℕ → List ℕ). record { state = (configuration_of c).state; queue = qs; memory = (configuration_of c).memory }) y
 
-    pub waiting-valid : Valid (shape_of s) (configuration_of c) (place_of (Waiting p v j))
-    waiting-valid = (w.process, w.variable, subst (λ (zs : List ℕ). j < length zs) (sym (queue_of_lem c.queues p v w.few w.narrow)) w.waits)
+    pub waiting_valid : Valid (shape_of s) (configuration_of c) (place_of (Waiting p v j))
+    waiting_valid = (w.process, w.variable, subst (λ (zs : List ℕ). j < length zs) (sym (queue_of_lem c.queues p v w.few w.narrow)) w.waits)
 
-    pub waiting-at : at (configuration_of c) (place_of (Waiting p v j)) ≡ 255
-    waiting-at =
+    pub waiting_at : at (configuration_of c) (place_of (Waiting p v j)) ≡ 255
+    waiting_at =
         ap (λ (zs : List ℕ). get_or zs j 0) (queue_of_lem c.queues p v w.few w.narrow)
         ∙ sym (value_waits (get_or c.queues (4 * p + v) no_queue) j w.waits) ∙ w.free
 
@@ -84,8 +84,8 @@ module _ (s : Shape) (c : Cube) (sixteen : length c.queues ≡ 16) (twenty : len
     unfolding with_sent
     sent_is x = rw (lt-ltb i 20 w.few, lt-ltb v 4 w.narrow) refl
 
-    pub sent-part : (x : ℕ) → configuration_of (with_sent c i v x) ≡ split (configuration_of c) (place_of (Sent i v)) x
-    sent-part x =
+    pub sent_part : (x : ℕ) → configuration_of (with_sent c i v x) ≡ split (configuration_of c) (place_of (Sent i v)) x
+    sent_part x =
         ap configuration_of (sent_is x)
         ∙ ap (λ (ms : List Message). record {
           state = (configuration_of c).state;
@@ -93,11 +93,11 @@ module _ (s : Shape) (c : Cube) (sixteen : length c.queues ≡ 16) (twenty : len
           memory = record { channel = ms; pointer = (configuration_of c).memory.pointer };
         }) (set_channel c.messages c.count i v x (omega (arith, w.few)))
 
-    pub sent-valid : Valid (shape_of s) (configuration_of c) (place_of (Sent i v))
-    sent-valid = (omega arith, let z = w.message in omega (arith, channel_length c.messages c.count), w.variable)
+    pub sent_valid : Valid (shape_of s) (configuration_of c) (place_of (Sent i v))
+    sent_valid = (omega arith, let z = w.message in omega (arith, channel_length c.messages c.count), w.variable)
 
-    pub sent-at : at (configuration_of c) (place_of (Sent i v)) ≡ 255
-    sent-at = ap (λ (m : Message). get_or m.snapshot v 0) (channel_message c.messages c.count i w.message) ∙ w.free
+    pub sent_at : at (configuration_of c) (place_of (Sent i v)) ≡ 255
+    sent_at = ap (λ (m : Message). get_or m.snapshot v 0) (channel_message c.messages c.count i w.message) ∙ w.free
 
 -- ---- fewer free values
 
@@ -117,7 +117,7 @@ module _ (s : Shape) (c : Cube) (sixteen : length c.queues ≡ 16) (twenty : len
       let b = w.narrow in
       let y = total_less (λ (q : Queue). total free q.values) c.queues (4 * p + v) (set_waiting q j x) no_queue (omega arith)
       (free_less q.values j x (omega (arith, w.waits, length-take q.count q.values)) w.free l) in
-      rw (waiting-is s c sixteen twenty p v j w x) (omega (arith, y))
+      rw (waiting_is s c sixteen twenty p v j w x) (omega (arith, y))
 
   sent_less : (i v : ℕ) → v < length (get_or c.messages i no_message).snapshot → SentFree s c i v → free_of (with_sent c i v x) < free_of c
   sent_less i v k w =

@@ -22,13 +22,13 @@ use Rattle.list_key.specs.Relation.{relation}
 use Rattle.list_key.specs.Tags.{tags_of}
 use Rattle.list_key.specs.Signature.{Contained}
 use Rattle.list_key.specs.Number.{widened, Agrees, number_of}
-use Rattle.list_key.proofs.NumberLaws.{match-number, match_signature, number_signature, agrees_widened, signature_any}
+use Rattle.list_key.proofs.NumberLaws.{match_number, match_signature, number_signature, agrees_widened, signature_any}
 use Rattle.list_summary.specs.declared.walking.Walk.{Walk}
 use Rattle.list_summary.specs.Slots.{head_link, home_of}
 use Rattle.list_summary.specs.Groups.{same_states, states_at}
 use Rattle.list_summary.specs.Walks.{Left, ahead, Onward}
 use Rattle.list_summary.proofs.GroupLaws.{all_at, at_same}
-use Rattle.list_summary.proofs.OnwardLaws.{all-walked}
+use Rattle.list_summary.proofs.OnwardLaws.{all_walked}
 use Rattle.list_cover.specs.declared.place.Place.{Place}
 use Rattle.list_cover.specs.declared.place.Place.TheVariants.{Whole, Waiting, Sent}
 use Rattle.list_cover.specs.Places.{part_of, is_whole, is_free, proper, fillings, NoneFree}
@@ -38,7 +38,7 @@ use Rattle.list_key.specs.Cue.{Cues}
 use Rattle.list_cover.proofs.PlaceLaws.{true_not_false}
 use Rattle.list_cover.proofs.EntryLaws.{load_few}
 use Rattle.list_cover.proofs.PartLaws.{part_count}
-use Rattle.list_cover.proofs.HeldLaws.{cube_stuck, searchable-part, parts-one, covered_is}
+use Rattle.list_cover.proofs.HeldLaws.{cube_stuck, searchable_part, parts_one, covered_is}
 
 -- ---- a walk
 
@@ -115,13 +115,13 @@ module _ {f list sum : List ℕ} {n : ℕ} {s : Shape} {c : Cube} (Z : Searchabl
       (all_at s.processes (λ p. eqb (get_or a.states p 0) (get_or c.states p 0)) (both_left _ _ (both_left _ _ e)) p (omega arith)))
 
   match_agrees : (exact : Bool) (k : ℕ) → k < n → matches (shape_of s) (relation exact) (configuration_of (cube_at f list k)) (configuration_of c) ≡ true → Agrees (number_of s (cube_at f list k)) (number_of s c)
-  match_agrees exact k l e = match-number s exact (cube_at f list k) c Z.plain.shape (Z.plain.entries k l) Z.plain.fits (load_few f (offset_at list k)) Z.plain.messages e
+  match_agrees exact k l e = match_number s exact (cube_at f list k) c Z.plain.shape (Z.plain.entries k l) Z.plain.fits (load_few f (offset_at list k)) Z.plain.messages e
 
   -- an entry that covers the cube has no bit in its signature that the cube has not
   pub all_uncovered : ((k : ℕ) → Start f list sum n s c.states (number_of s c) k → matches (shape_of s) fills (configuration_of (cube_at f list k)) (configuration_of c) ≡ false)
       → (k : ℕ) → k < n → matches (shape_of s) fills (configuration_of (cube_at f list k)) (configuration_of c) ≡ false
   all_uncovered =
-      all-walked Z.summed c.states (number_of s c) (λ k. matches (shape_of s) fills (configuration_of (cube_at f list k)) (configuration_of c)) (match_agrees true)
+      all_walked Z.summed c.states (number_of s c) (λ k. matches (shape_of s) fills (configuration_of (cube_at f list k)) (configuration_of c)) (match_agrees true)
       (λ k l e. subst₂ Contained (sym (number_signature s (cube_at f list k))) (sym (number_signature s c))
       (match_signature s (cube_at f list k) c Z.plain.shape (Z.plain.entries k l) Z.plain.fits (load_few f (offset_at list k)) Z.plain.messages e))
       (λ k l e. same_of true (cube_at f list k) e)
@@ -130,7 +130,7 @@ module _ {f list sum : List ℕ} {n : ℕ} {s : Shape} {c : Cube} (Z : Searchabl
   pub all_unmet : ((k : ℕ) → Start f list sum n s c.states (widened (number_of s c)) k → matches (shape_of s) alike (configuration_of (cube_at f list k)) (configuration_of c) ≡ false)
       → (k : ℕ) → k < n → matches (shape_of s) alike (configuration_of (cube_at f list k)) (configuration_of c) ≡ false
   all_unmet =
-      all-walked Z.summed c.states (widened (number_of s c)) (λ k. matches (shape_of s) alike (configuration_of (cube_at f list k)) (configuration_of c))
+      all_walked Z.summed c.states (widened (number_of s c)) (λ k. matches (shape_of s) alike (configuration_of (cube_at f list k)) (configuration_of c))
       (λ k l e. agrees_widened (match_agrees false k l e)) (λ k l e. signature_any (number_of s (cube_at f list k)) (number_of s c)) (λ k l e. same_of false (cube_at f list k) e)
 
 -- ---- a place to split at
@@ -244,11 +244,11 @@ module _ (f list sum : List ℕ) (n : ℕ) (s : Shape) (c : Cube) (a : Place) wh
     module _ (sixteen : length c.queues ≡ 16) (twenty : length c.messages ≡ 20) (ok : proper s c a ≡ true) (Z : Searchable f list sum n s c) where
       part_searchable : Searchable f list sum n s part
       part_searchable =
-          record { plain = subst (Plain f list n s) (sym is) (searchable-part Z.plain sixteen twenty a ok x one); summed = Z.summed }
+          record { plain = subst (Plain f list n s) (sym is) (searchable_part Z.plain sixteen twenty a ok x one); summed = Z.summed }
 
       -- what is not held in the part is not held in the whole
       pub part_out : (Searchable f list sum n s part → held (shape_of s) (entries_of f list n) (configuration_of part) ≡ false) → held (shape_of s) (entries_of f list n) (configuration_of c) ≡ false
-      part_out g = parts-one Z.plain sixteen twenty a ok x one (ap (λ (k : Cube). held (shape_of s) (entries_of f list n) (configuration_of k)) (sym is) ∙ g part_searchable)
+      part_out g = parts_one Z.plain sixteen twenty a ok x one (ap (λ (k : Cube). held (shape_of s) (entries_of f list n) (configuration_of k)) (sym is) ∙ g part_searchable)
 
   -- ---- the entries for one of them
 

@@ -141,14 +141,14 @@ module _ {z : ℕ → ℕ} {ms : List Message} {writes : List ℕ} {i : ℕ} (w 
 
   -- by the place of its LastWrite
   module _ {q : ℕ} (W : WritePlace m q) where
-    pub writes-none : 16 ≤ q → WritesTo z ms writes (i + 1)
-    writes-none l = strange (W.none l)
+    pub writes_none : 16 ≤ q → WritesTo z ms writes (i + 1)
+    writes_none l = strange (W.none l)
 
-    pub writes-older : q < 16 → i + 1 ≤ get_or writes q 0 → WritesTo z ms writes (i + 1)
-    writes-older l h = let x = W.label l in kept x.0 x.1 (subst (λ (k : ℕ). i + 1 ≤ get_or writes k 0) x.2 h)
+    pub writes_older : q < 16 → i + 1 ≤ get_or writes q 0 → WritesTo z ms writes (i + 1)
+    writes_older l h = let x = W.label l in kept x.0 x.1 (subst (λ (k : ℕ). i + 1 ≤ get_or writes k 0) x.2 h)
 
-    pub writes-newer : q < 16 → get_or writes q 0 < i + 1 → WritesTo z ms (set writes q (i + 1)) (i + 1)
-    writes-newer l h =
+    pub writes_newer : q < 16 → get_or writes q 0 < i + 1 → WritesTo z ms (set writes q (i + 1)) (i + 1)
+    writes_newer l h =
         let x = W.label l in
         subst (λ (k : ℕ). WritesTo z ms (set writes k (i + 1)) (i + 1)) (sym x.2) (moved x.0 x.1 (subst (λ (k : ℕ). get_or writes k 0 < i + 1) x.2 h))
 

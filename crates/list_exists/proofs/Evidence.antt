@@ -21,7 +21,7 @@ use Rattle.machine_equal.proofs.Reachability.{start_of_lem}
 use Rattle.list_theory.specs.Verdict.{safe}
 use Rattle.list_theory.specs.Decision.{verdict_of}
 use Rattle.list_theory.proofs.Fillings.{fill_value, fill_length, fill_at}
-use Rattle.list_theory.proofs.Verdict.{verdict-judged, verdict_unique}
+use Rattle.list_theory.proofs.Verdict.{verdict_judged, verdict_unique}
 use Rattle.list_exists.specs.Order.{Of, BelowOf}
 use Rattle.list_exists.specs.Evidence.{Reaches, RunFound, AboveOne, SafeConfigurations, ListFound, ConfigurationsExist, EvidenceExists, FoundIsSafe}
 use Rattle.list_exists.proofs.Search.{above_some, first_or_all}
@@ -242,4 +242,4 @@ evidence_exists P R N ts = ⊎_elim inl (λ r. inr (list_found P R N ts r.0 r.1)
 
 pub found_is_safe : FoundIsSafe
 found_is_safe P R N ts o f =
-    verdict_unique P ts f.entries (verdict_of P ts f.entries) (safe (length f.entries)) (verdict-judged P R f.entries f.of ts o f.first N) (refl, f.safe)
+    verdict_unique P ts f.entries (verdict_of P ts f.entries) (safe (length f.entries)) (verdict_judged P R f.entries f.of ts o f.first N) (refl, f.safe)

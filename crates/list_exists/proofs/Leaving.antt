@@ -55,8 +55,8 @@ module _ (S : Shape) (m n : Memory) (o : MemoryIn (ValueOf S) S n) (h : ℕ → 
   fewer : length (leave_out n.channel k) ≡ length n.channel - 1
   fewer = omega (arith, left_length n.channel k lo hi)
 
-  lands-left : (i : ℕ) → Live S m i → Live S (without n k) (down k (h i))
-  lands-left i l =
+  lands_left : (i : ℕ) → Live S m i → Live S (without n k) (down k (h i))
+  lands_left i l =
       let r = M.lands i l in
       let z = n.pointer r.who in
       record {
@@ -72,16 +72,16 @@ module _ (S : Shape) (m n : Memory) (o : MemoryIn (ValueOf S) S n) (h : ℕ → 
         upto = ⊎_elim (λ b. omega (arith, b.0, b.1, fewer)) (λ b. omega (arith, b.1, fewer, r.upto)) (down_cases k (h i) (unhit i l));
       }
 
-  pub maps-left-out : Maps S m (without n k) (λ i. down k (h i))
-  maps-left-out =
+  pub maps_left_out : Maps S m (without n k) (λ i. down k (h i))
+  maps_left_out =
       let W = without_maps S n o k lo hi norole p pe in
       record {
-        lands = lands-left;
+        lands = lands_left;
         rises = λ i j a b l. ⊎_elim
             (λ x. ⊎_elim (λ y. omega (arith, x.1, y.1, M.rises i j a b l)) (λ y. omega (arith, x.0, x.1, y.0, y.1)) (down_cases k (h j) (unhit j b)))
             (λ x. ⊎_elim (λ y. absurd (omega (arith, x.0, y.0, M.rises i j a b l))) (λ y. omega (arith, x.0, x.1, y.1, M.rises i j a b l)) (down_cases k (h j) (unhit j b)))
             (down_cases k (h i) (unhit i a));
-        equal = λ i l. M.equal i l ∙ sym (W.equal (down k (h i)) (lands-left i l) ∙ ap (message n.channel) (up_down k (h i) (unhit i l)));
+        equal = λ i l. M.equal i l ∙ sym (W.equal (down k (h i)) (lands_left i l) ∙ ap (message n.channel) (up_down k (h i) (unhit i l)));
         pointers = λ q e. ap (down k) (M.pointers q e);
         last_writes = λ q v e f. sym (ap (down k) (sym (M.last_writes q v e f) ∙ W.last_writes q v e f) ∙ down_up k (last_write (without n k) q v));
       }
@@ -124,22 +124,22 @@ module _ (P : Program) (R : WellFormed P) (c : Configuration) (oc : Configuratio
   not_pointer : (p : ℕ) → p < S.processes → m.pointer p ≢ k
   not_pointer p e d = T_not (has_role S m k) norole (role_pointer S m k p e d)
 
-  pub leave-of : ConfigurationOf P (leave c k)
-  leave-of =
+  pub leave_of : ConfigurationOf P (leave c k)
+  leave_of =
       record {
         states = oc.states;
         fits = record { memory = without_fits S m oc.fits.memory k lo (omega arith) norole 0 R.shape.some_process; queues = oc.fits.queues };
       }
 
-  pub leave-below : Below S (leave c k) c
-  leave-below = drop_message S c oc.fits.memory 0 R.shape.some_process k lo (omega arith) norole
+  pub leave_below : Below S (leave c k) c
+  leave_below = drop_message S c oc.fits.memory 0 R.shape.some_process k lo (omega arith) norole
 
   W : Maps S (without m k) m (up k)
   W = without_maps S m oc.fits.memory k lo (omega arith) norole 0 R.shape.some_process
 
-  seen-left : (p v : ℕ) → p < S.processes → v < S.variables → sees (leave c k) p v ≡ sees c p v
-  seen-left p v pe ve =
-      let l = live_last S (without m k) (proper leave-of.fits.memory) p v pe in
+  seen_left : (p v : ℕ) → p < S.processes → v < S.variables → sees (leave c k) p v ≡ sees c p v
+  seen_left p v pe ve =
+      let l = live_last S (without m k) (proper leave_of.fits.memory) p v pe in
       ap (λ (y : Message). newest_or (newest_waiting (c.queue p v)) (get_or y.snapshot v 0))
       (W.equal (last_write (without m k) p v) l ∙ ap (message m.channel) (sym (W.last_writes p v pe ve)))
 
@@ -148,42 +148,42 @@ module _ (P : Program) (R : WellFormed P) (c : Configuration) (oc : Configuratio
       let e : m.pointer p ≡ length m.channel = eqb_yes t in
       yes_eqb (down_high k (m.pointer p) (omega arith) ∙ omega (arith, len))
 
-  may-left : (p : ℕ) → p < S.processes → (o : Operation) → OperationOf S o → T (may_operate S c p o) → T (may_operate S (leave c k) p o)
-  may-left p pe Nop w t = tt
-  may-left p pe (Read v x) w t = yes_eqb (seen-left p v pe w.0 ∙ eqb_yes t)
-  may-left p pe (Write v x) w t = tt
-  may-left p pe Mfence w t =
+  may_left : (p : ℕ) → p < S.processes → (o : Operation) → OperationOf S o → T (may_operate S c p o) → T (may_operate S (leave c k) p o)
+  may_left p pe Nop w t = tt
+  may_left p pe (Read v x) w t = yes_eqb (seen_left p v pe w.0 ∙ eqb_yes t)
+  may_left p pe (Write v x) w t = tt
+  may_left p pe Mfence w t =
       let r = and_yes (none_waiting S c p) (at_newest m p) t in
       yes_and (none_waiting S c p) (at_newest (without m k) p) r.0 (at_newest_lem p pe r.1)
-  may-left p pe Sfence w t = t
-  may-left p pe (Arw v old new) w t =
+  may_left p pe Sfence w t = t
+  may_left p pe (Arw v old new) w t =
       let r = and_yes (is_empty (c.queue p v) && at_newest m p) (eqb (get_or (newest m.channel).snapshot v 0) old) t in
       let s = and_yes (is_empty (c.queue p v)) (at_newest m p) r.0 in
       yes_and (is_empty (c.queue p v) && at_newest (without m k) p) (eqb (get_or (newest (leave_out m.channel k)).snapshot v 0) old)
       (yes_and (is_empty (c.queue p v)) (at_newest (without m k) p) s.0 (at_newest_lem p pe s.1))
       (yes_eqb (ap (λ (y : Message). get_or y.snapshot v 0) (newest_left m.channel k lo hi) ∙ eqb_yes r.1))
 
-  pub leave-may : (s : Step) → T (may P c s) → T (may P (leave c k) s)
-  leave-may (Take n) t =
+  pub leave_may : (s : Step) → T (may P c s) → T (may P (leave c k) s)
+  leave_may (Take n) t =
       let r = take_yes P c n t in
       let q = transition P n in
       let w = R.transitions n r.0 in
       let a = and_yes (eqb (c.state q.process) q.from) (may_operate S c q.process q.operation) r.1 in
       yes_take P (leave c k) n r.0
-      (yes_and (eqb (c.state q.process) q.from) (may_operate S (leave c k) q.process q.operation) a.0 (may-left q.process w.process q.operation w.operation a.1))
-  leave-may (Serialise p v) t = t
-  leave-may (Update p) t =
+      (yes_and (eqb (c.state q.process) q.from) (may_operate S (leave c k) q.process q.operation) a.0 (may_left q.process w.process q.operation w.operation a.1))
+  leave_may (Serialise p v) t = t
+  leave_may (Update p) t =
       let r = update_yes P c p t in
       yes_update P (leave c k) p r.0 (⊎_elim (λ a. omega (arith, a.0, a.1, len)) (λ a. omega (arith, a.0, a.1, len, r.1)) (down_cases k (m.pointer p) (not_pointer p r.0)))
 
   -- it may as well be left out after the step
-  memory-left : (p : ℕ) → p < S.processes → (o : Operation) → memory_after (without m k) p o ≡ without (memory_after m p o) k
-  memory-left p pe Nop = refl
-  memory-left p pe (Read v x) = refl
-  memory-left p pe (Write v x) = refl
-  memory-left p pe Mfence = refl
-  memory-left p pe Sfence = refl
-  memory-left p pe (Arw v old new) =
+  memory_left : (p : ℕ) → p < S.processes → (o : Operation) → memory_after (without m k) p o ≡ without (memory_after m p o) k
+  memory_left p pe Nop = refl
+  memory_left p pe (Read v x) = refl
+  memory_left p pe (Write v x) = refl
+  memory_left p pe Mfence = refl
+  memory_left p pe Sfence = refl
+  memory_left p pe (Arw v old new) =
       ap (λ (n : Memory). point n p (suc (length (leave_out m.channel k)))) (append_left_out m k lo hi p v new)
       ∙ point_left_out (append m p v new) k p (suc (length m.channel)) (suc (length (leave_out m.channel k)))
       (len ∙ sym (down_high k (suc (length m.channel)) (omega arith) ∙ omega arith))
@@ -196,15 +196,15 @@ module _ (P : Program) (R : WellFormed P) (c : Configuration) (oc : Configuratio
   queue_left p Sfence = refl
   queue_left p (Arw v old new) = refl
 
-  pub leave-after : (s : Step) → T (may P c s) → after P (leave c k) s ≡ leave (after P c s) k
-  leave-after (Take n) t =
+  pub leave_after : (s : Step) → T (may P c s) → after P (leave c k) s ≡ leave (after P c s) k
+  leave_after (Take n) t =
       let r = take_yes P c n t in
       let q = transition P n in
       let w = R.transitions n r.0 in
-      λ i. record { state = put c.state q.process q.to; queue = queue_left q.process q.operation i; memory = memory-left q.process w.process q.operation i }
-  leave-after (Serialise p v) t =
+      λ i. record { state = put c.state q.process q.to; queue = queue_left q.process q.operation i; memory = memory_left q.process w.process q.operation i }
+  leave_after (Serialise p v) t =
       λ i. record { state = c.state; queue = (after P c (Serialise p v)).queue; memory = append_left_out m k lo hi p v (get_or (c.queue p v) 0 0) i }
-  leave-after (Update p) t =
+  leave_after (Update p) t =
       let r = update_yes P c p t in
       let e : suc (down k (m.pointer p)) ≡ down k (suc (m.pointer p)) = ⊎_elim
       (λ a. ap suc a.1 ∙ sym (down_low k (suc (m.pointer p)) (omega (arith, a.0))))

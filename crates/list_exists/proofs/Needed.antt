@@ -23,7 +23,7 @@ use Rattle.list_theory.specs.Cubes.{memory_of}
 use Rattle.list_theory.specs.Shapes.{memory_shapes, queue_shapes, shape_cubes}
 use Rattle.list_theory.proofs.Lists.{each_in}
 use Rattle.list_theory.proofs.Fillings.{channel_length, channel_at, channel_last, zero_message, some_filling}
-use Rattle.list_theory.proofs.Targets.{shape_entry, shapes-target, target-shapes}
+use Rattle.list_theory.proofs.Targets.{shape_entry, shapes_target, target_shapes}
 use Rattle.list_exists.specs.Needed.{EntriesNeeded, EntriesSuffice}
 use Rattle.list_exists.proofs.NeededLists.{Apart, apart_map, apart_each, no_fewer_numbers}
 use Rattle.list_exists.proofs.NeededShapes.{SameMemory, memories_apart, shape_irreducible}
@@ -41,8 +41,8 @@ module _ (h : ℕ → ℕ) (a N n : ℕ) (rises : (i j : ℕ) → a ≤ i → i 
   at_least zero c l = omega (arith, low (a + 0) (omega arith) l)
   at_least (suc j) c l = omega (arith, c j (omega arith) (omega arith), rises (a + j) (a + suc j) (omega arith) (omega arith) l)
 
-  counts-one : (j : ℕ) → Counts j → a + j ≤ N → h (a + j) ≡ suc j
-  counts-one j c l = elim (dec_le (h (a + j)) (suc j)) [
+  counts_one : (j : ℕ) → Counts j → a + j ≤ N → h (a + j) ≡ suc j
+  counts_one j c l = elim (dec_le (h (a + j)) (suc j)) [
     | yes k ↦ omega (arith, at_least j c l)
     | no k ↦
         let r = onto (suc j) (omega arith) (omega (arith, high (a + j) (omega arith) l)) in
@@ -60,7 +60,7 @@ module _ (h : ℕ → ℕ) (a N n : ℕ) (rises : (i j : ℕ) → a ≤ i → i 
   counts_all : (j : ℕ) → Counts j
   counts_all zero i l m = absurd (omega arith)
   counts_all (suc j) i l m = elim (ℕ_discrete i j) [
-    | yes e ↦ counts-one i (λ k x y. counts_all j k (omega arith) y) m
+    | yes e ↦ counts_one i (λ k x y. counts_all j k (omega arith) y) m
     | no e ↦ counts_all j i (omega arith) m
   ]
 
@@ -253,7 +253,7 @@ entries_needed P R t o es H =
     let E = shape_entry P R t o d i in
     let F = some_filling S R.shape d E.fits in
     let ms = map zero_message d.memory.channel in
-    let A = (target-shapes P R t es o).0 H d i _ ms F in
+    let A = (target_shapes P R t es o).0 H d i _ ms F in
     (A.number, A.exists, record { irreducible = cube_irreducible S R.shape t d i; queues = _; channel = ms; filling = F; above = A.above }))
 
 -- and the shapes themselves are enough
@@ -285,7 +285,7 @@ entries_suffice P R t o =
       count = refl;
       of = E;
       first = λ k l. first_pointer S (entry cubes k).memory (E k l).fits.memory (cube_irreducible S R.shape t (entry cubes k) (of_number cubes k l));
-      held = shapes-target P R t cubes (λ d i qs ms F.
+      held = shapes_target P R t cubes (λ d i qs ms F.
           let r = number_of d cubes i in
           let A : Above S d (filled d qs ms) = record { queues = qs; channel = ms; filling = F; below = below_refl S (filled d qs ms) } in
           record { number = r.0; exists = r.1; above = subst (λ (e : Configuration). Above S e (filled d qs ms)) (sym r.2) A });

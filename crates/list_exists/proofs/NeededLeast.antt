@@ -176,8 +176,8 @@ module _ (S : Shape) where
     abbrev rows : List Outline
     rows = for_below S.processes (λ p. for_below S.variables (row p))
 
-    rows-least : labels * ways u (from 0 rest) + (u * S.variables - length seen) * bound fuel u (suc (length seen)) ≤ length rows
-    rows-least =
+    rows_least : labels * ways u (from 0 rest) + (u * S.variables - length seen) * bound fuel u (suc (length seen)) ≤ length rows
+    rows_least =
         let l = bound fuel u (suc (length seen)) in
         let w = ways u (from 0 rest) in
         let free : ℕ → ℕ = λ p. sums S.variables (unseen seen place p) in
@@ -205,7 +205,7 @@ module _ (S : Shape) where
   outlines_least zero d seen place = omega arith
   outlines_least (suc fuel) d seen place =
       go (opens S.processes place) refl (all_below S.processes (λ q. not (eqb (place q) 0))) (placed_is S.processes place)
-      (rows-least fuel d seen place (λ m new. outlines_least fuel (suc d) (m ∷ seen) new))
+      (rows_least fuel d seen place (λ m new. outlines_least fuel (suc d) (m ∷ seen) new))
     where
       go : (u : ℕ) → opens S.processes place ≡ u → (b : Bool) → b ≡ eqb (opens S.processes place) 0
           → labels * ways (opens S.processes place) (from 0 (λ k. bound fuel (opens S.processes place - k) (suc (length seen))))

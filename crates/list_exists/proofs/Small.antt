@@ -25,7 +25,7 @@ use Rattle.machine_pws.proofs.Steps.{step_configuration}
 use Rattle.machine_pws.proofs.Tagged.{role_is}
 use Rattle.machine_pws.proofs.Dropping.{left_length, Irreducible}
 use Rattle.list_exists.proofs.Order.{table_length}
-use Rattle.list_exists.proofs.Leaving.{leave, maps-left-out, leave-of, leave-below, leave-may, leave-after}
+use Rattle.list_exists.proofs.Leaving.{leave, maps_left_out, leave_of, leave_below, leave_may, leave_after}
 
 -- ---- a list that has 1 to n is at least n long
 
@@ -201,14 +201,14 @@ module _ (P : Program) (R : WellFormed P) (e : Configuration) (oe : Configuratio
         let od = step_configuration P R c b.of s b.permitted in
         let B = b.above in
         record {
-          of = leave-of P R c b.of k a older r.before;
-          permitted = leave-may P R c b.of k a older r.before s b.permitted;
-          above = subst (Below S e) (sym (leave-after P R c b.of k a older r.before s b.permitted))
+          of = leave_of P R c b.of k a older r.before;
+          permitted = leave_may P R c b.of k a older r.before s b.permitted;
+          above = subst (Below S e) (sym (leave_after P R c b.of k a older r.before s b.permitted))
               (record {
                 states = B.states;
                 queues = B.queues;
                 h = λ i. _;
-                maps = maps-left-out S e.memory d.memory od.fits.memory h B.maps k a (omega (arith, longer)) r.after 0 R.shape.some_process
+                maps = maps_left_out S e.memory d.memory od.fits.memory h B.maps k a (omega (arith, longer)) r.after 0 R.shape.some_process
                     (λ i v q. r.unhit (subst (λ (j : ℕ). Memᴰ j images) q (image_in i v)));
               });
         }
@@ -238,7 +238,7 @@ module _ (P : Program) (R : WellFormed P) (e : Configuration) (oe : Configuratio
       record {
         configuration = f.configuration;
         before = f.before;
-        below = below_trans f.below (leave-below P R c b.of r.0 r.1 (omega (arith, r.2, r.3.older)) r.3.before);
+        below = below_trans f.below (leave_below P R c b.of r.0 r.1 (omega (arith, r.2, r.3.older)) r.3.before);
         small = f.small;
       })
       (λ f. record { configuration = c; before = b; below = below_refl S c; small = kept_length c b f })

@@ -45,8 +45,8 @@ module _ {Val : ℕ → ℕ → Type 0} (S : Shape) (m : Memory) (o : MemoryIn V
   to : Maps S less m (up 1)
   to = without_maps S m o 1 (omega arith) o.some role p pe
 
-  live-two : (i : ℕ) → Live S m i → 2 ≤ i
-  live-two i l = omega (arith, l.from, past l.who l.exists)
+  live_two : (i : ℕ) → Live S m i → 2 ≤ i
+  live_two i l = omega (arith, l.from, past l.who l.exists)
 
   lands : (i : ℕ) → Live S m i → Live S less (i - 1)
   lands i l =
@@ -61,10 +61,10 @@ module _ {Val : ℕ → ℕ → Type 0} (S : Shape) (m : Memory) (o : MemoryIn V
   back =
       record {
         lands = lands;
-        rises = λ i j a b l. omega (arith, live-two i a, live-two j b);
+        rises = λ i j a b l. omega (arith, live_two i a, live_two j b);
         equal = λ i l.
-            let e : suc (i - 1) ≡ i = omega (arith, live-two i l) in
-            sym (to.equal (i - 1) (lands i l) ∙ ap (message m.channel) (up_one (i - 1) (omega (arith, live-two i l)) ∙ e));
+            let e : suc (i - 1) ≡ i = omega (arith, live_two i l) in
+            sym (to.equal (i - 1) (lands i l) ∙ ap (message m.channel) (up_one (i - 1) (omega (arith, live_two i l)) ∙ e));
         pointers = λ q e. down_one (m.pointer q) (past q e);
         last_writes = λ q v e f.
             let b = live_last S less (proper fits) q v e in

@@ -152,16 +152,16 @@ module _ (g f list sum : List ℕ) (n : ℕ) (p : Program) where
       (lowest_none (closed P es) no_entry es n n entries_length (so_far_all w l) (omega arith)))
 
   module _ (a : ℕ) (A : LowestFailing (held_test g f list n p) p.targets.count a) where
-    pub said-unheld : a < p.targets.count → refused 9 a ≡ list_said g f list n p
-    said-unheld l = sym (by_held x y last a (lowest_some (target_held P es) no_target ts p.targets.count a targets_length A l))
+    pub said_unheld : a < p.targets.count → refused 9 a ≡ list_said g f list n p
+    said_unheld l = sym (by_held x y last a (lowest_some (target_held P es) no_target ts p.targets.count a targets_length A l))
 
     module _ (b : ℕ) (B : LowestFailing (start_test g f list n p) n b) (l : p.targets.count ≤ a) where
       all_held : x ≡ none
       all_held = lowest_none (target_held P es) no_target ts p.targets.count a targets_length A l
 
-      pub said-started : b < n → refused 10 b ≡ list_said g f list n p
-      said-started m = sym (by_start x y last b all_held (lowest_some (λ e. not (looks_started P e)) no_entry es n b entries_length B m))
+      pub said_started : b < n → refused 10 b ≡ list_said g f list n p
+      said_started m = sym (by_start x y last b all_held (lowest_some (λ e. not (looks_started P e)) no_entry es n b entries_length B m))
 
-      pub said-last : n ≤ b → entered_said g f list n p ≡ list_said g f list n p
-      said-last m =
+      pub said_last : n ≤ b → entered_said g f list n p ≡ list_said g f list n p
+      said_last m =
           last_said ∙ sym (by_neither x y last all_held (lowest_none (λ e. not (looks_started P e)) no_entry es n b entries_length B m))

@@ -66,10 +66,10 @@ module _ (g f list sum : List ℕ) (n : ℕ) (p : Program) (R : Ready g f list s
       ∙ h
 
   module _ (full : List ℕ) (F : Full (program_of g p) (entries_of f list n) full) where
-    pub surrounded-closed : {states : List ℕ} → Surrounded full g p states → (k : ℕ) → k < n → (cube_at f list k).states ≡ states → closed_test g f list n p k ≡ true
-    surrounded-closed S k l e =
+    pub surrounded_closed : {states : List ℕ} → Surrounded full g p states → (k : ℕ) → k < n → (cube_at f list k).states ≡ states → closed_test g f list n p k ≡ true
+    surrounded_closed S k l e =
         closed_here g f list sum n p R k l Shut (λ W. surrounded_shut g f list sum n p (cube_at f list k) full W F (subst (Surrounded full g p) (sym e) S)) refl
 
-    pub shuts-put : {table states : List ℕ} → Shuts g f list n p table → Surrounded full g p states → length states ≡ 4 → Shuts g f list n p (with_states table states)
-    shuts-put {table} {states} T S four =
-        known_put T four (λ k b e. surrounded-closed S k b e)
+    pub shuts_put : {table states : List ℕ} → Shuts g f list n p table → Surrounded full g p states → length states ≡ 4 → Shuts g f list n p (with_states table states)
+    shuts_put {table} {states} T S four =
+        known_put T four (λ k b e. surrounded_closed S k b e)

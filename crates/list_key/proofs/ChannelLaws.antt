@@ -188,17 +188,17 @@ module _ (exact : Bool) (s : Shape) (a : Cube) (left : List ℕ) (b : Cube) (rig
     pub reads_none : first ≤ i → j < last → Suits s a left b right → false ≡ channel_matches s exact a b
     reads_none k l = newest_none exact s a left b right w (omega (arith, h.first)) (omega (arith, h.last))
 
-    tested-of : {r : Bool} → TestedOf r xs ys i j → Tested exact s a left b right r i j
-    tested-of {r} t = subst₂ (λ (us vs : List Message). TestedOf r us vs i j) h.messages h.others t
+    tested_of : {r : Bool} → TestedOf r xs ys i j → Tested exact s a left b right r i j
+    tested_of {r} t = subst₂ (λ (us vs : List Message). TestedOf r us vs i j) h.messages h.others t
 
-    pub reads-match : {r : Bool} → first ≤ i → last ≤ j → TestedOf r xs ys i j → r ≡ true → Newest exact s a left b right (i - 1) (j - 1)
-    reads-match k l t g = newest_match exact s a left b right w (omega (arith, h.first)) (omega (arith, h.last)) (tested-of t) g
+    pub reads_match : {r : Bool} → first ≤ i → last ≤ j → TestedOf r xs ys i j → r ≡ true → Newest exact s a left b right (i - 1) (j - 1)
+    reads_match k l t g = newest_match exact s a left b right w (omega (arith, h.first)) (omega (arith, h.last)) (tested_of t) g
 
-    pub reads-skip : {r : Bool} → first ≤ i → last ≤ j → TestedOf r xs ys i j → r ≡ false → Newest exact s a left b right i (j - 1)
-    reads-skip k l t g = newest_skip exact s a left b right w (omega (arith, h.first)) (omega (arith, h.last)) (tested-of t) g
+    pub reads_skip : {r : Bool} → first ≤ i → last ≤ j → TestedOf r xs ys i j → r ≡ false → Newest exact s a left b right i (j - 1)
+    reads_skip k l t g = newest_skip exact s a left b right w (omega (arith, h.first)) (omega (arith, h.last)) (tested_of t) g
 
-    pub first-room : first ≤ i → (1 ≤ i) × (i ≤ 20)
-    first-room k = (omega (arith, h.first, low_positive s a.pointers), omega (arith, w.first))
+    pub first_room : first ≤ i → (1 ≤ i) × (i ≤ 20)
+    first_room k = (omega (arith, h.first, low_positive s a.pointers), omega (arith, w.first))
 
-    pub last-room : last ≤ j → (1 ≤ j) × (j ≤ 20)
-    last-room k = (omega (arith, h.last, low_positive s b.pointers), omega (arith, w.second))
+    pub last_room : last ≤ j → (1 ≤ j) × (j ≤ 20)
+    last_room k = (omega (arith, h.last, low_positive s b.pointers), omega (arith, w.second))

@@ -120,19 +120,19 @@ module _ (S : Shape) (m : Memory) where
 
   module _ (g : Proper S m) where
     -- those up to a number stand at the messages up to it
-    total-to : (xs : List Message) → total (tagged_from S m xs) ≡ tally (λ z. leb z (length xs))
+    total_to : (xs : List Message) → total (tagged_from S m xs) ≡ tally (λ z. leb z (length xs))
     unfolding total
-    total-to [] = sym (too_low 0 (λ p l. omega (arith, g.low p l)))
-    total-to (x ∷ xs) = at (total-to xs) (is_live_at S m (suc (length xs))) refl
+    total_to [] = sym (too_low 0 (λ p l. omega (arith, g.low p l)))
+    total_to (x ∷ xs) = at (total_to xs) (is_live_at S m (suc (length xs))) refl
       where
         at : total (tagged_from S m xs) ≡ tally (λ z. leb z (length xs)) → (b : Bool) → is_live_at S m (suc (length xs)) ≡ b
             → total (cond b (record { message = x; roles = roles S m (suc (length xs)) } ∷ tagged_from S m xs) []) ≡ tally (λ z. leb z (suc (length xs)))
         at rec true e = omega (arith, here_count (suc (length xs)), more (length xs))
         at rec false e = sym (too_low (suc (length xs)) (no_live S.processes (suc (length xs)) e))
 
-    total-all : total (tagged S m) ≡ sum_below S.processes (λ p. 1 + sum_below S.variables (λ v. 1))
+    total_all : total (tagged S m) ≡ sum_below S.processes (λ p. 1 + sum_below S.variables (λ v. 1))
     unfolding tally
-    total-all = total-to m.channel ∙ sum_equal S.processes
+    total_all = total_to m.channel ∙ sum_equal S.processes
         (λ p. bit (leb (m.pointer p) (length m.channel)) + sum_below S.variables (λ v. bit (leb (last_write m p v) (length m.channel))))
         (λ p. 1 + sum_below S.variables (λ v. 1))
         (λ p l. ap₂ ◌+◌ (ap bit (le-leb (m.pointer p) (length m.channel) (g.high p l)))
@@ -169,7 +169,7 @@ module _ (r : ℕ → ℕ → Bool) where
 -- ---- configurations
 
 pub same_total : (S : Shape) (e d : Configuration) → Proper S e.memory → Proper S d.memory → total (tagged S e.memory) ≡ total (tagged S d.memory)
-same_total S e d g h = total-all S e.memory g ∙ sym (total-all S d.memory h)
+same_total S e d g h = total_all S e.memory g ∙ sym (total_all S d.memory h)
 
 waits_newest : (x : ℕ) (xs : List ℕ) → (y : ℕ) × (newest_waiting (x ∷ xs) ≡ some y)
 waits_newest x [] = (x, refl)

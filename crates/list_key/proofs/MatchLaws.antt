@@ -81,11 +81,11 @@ module _ (exact : Bool) (s : Shape) (a b : Cube) (z : Sizes s a b) where
   module _ {x : Bool}
       (e : x ≡ all_below (min s.processes 4) (λ p. eqb (get_or a.states p 0) (get_or b.states p 0)))
     where
-      pub states-fail : x ≡ false → false ≡ matches (shape_of s) (relation exact) (configuration_of a) (configuration_of b)
-      states-fail g =
+      pub states_fail : x ≡ false → false ≡ matches (shape_of s) (relation exact) (configuration_of a) (configuration_of b)
+      states_fail g =
           ap (λ (k : Bool). (k && all_below (min s.processes 4) (queue_row s.variables exact a.queues b.queues)) && channel_matches s exact a b) (sym g ∙ e)
           ∙ three_tests
 
       module _ {y : Bool} (f : y ≡ all_below (min s.processes 4) (queue_row s.variables exact a.queues b.queues)) where
-        pub channel-left : {c : Bool} → x ≡ true → y ≡ true → c ≡ channel_matches s exact a b → c ≡ matches (shape_of s) (relation exact) (configuration_of a) (configuration_of b)
-        channel-left g h w = w ∙ ap₂ (λ (k l : Bool). (k && l) && channel_matches s exact a b) (sym g ∙ e) (sym h ∙ f) ∙ three_tests
+        pub channel_left : {c : Bool} → x ≡ true → y ≡ true → c ≡ channel_matches s exact a b → c ≡ matches (shape_of s) (relation exact) (configuration_of a) (configuration_of b)
+        channel_left g h w = w ∙ ap₂ (λ (k l : Bool). (k && l) && channel_matches s exact a b) (sym g ∙ e) (sym h ∙ f) ∙ three_tests

@@ -31,7 +31,7 @@ use Rattle.list_key.specs.Tags.{tag_of, tags_of, lowest_pointer}
 use Rattle.list_key.specs.Signature.{Contained, message_bits, signed, queue_bits, signature_of}
 use Rattle.list_key.specs.Key.{Mark, mark_of, some_role, marks_of, Key, key}
 use Rattle.list_key.specs.Number.{stir, behind, packed_states, empty_bit, packed_row, packed_queues, with_tags, states_mixed, with_signature, widened, signature_in, Agrees, key_mixed, number_of}
-use Rattle.list_key.proofs.TagLaws.{mask-roles, ByteLabel, tag_is, tag_role, some_role_lem}
+use Rattle.list_key.proofs.TagLaws.{mask_roles, ByteLabel, tag_is, tag_role, some_role_lem}
 use Rattle.list_key.proofs.MarkLaws.{tags_at}
 use Rattle.list_key.proofs.KeyLaws.{match_key, same_total}
 use Rattle.list_key.proofs.ChannelLaws.{up_to, up_none, up_some}
@@ -105,14 +105,14 @@ module _ (s : Shape) (few : s.processes ≤ 4) (narrow : s.variables ≤ 4) wher
     abbrev entry : ℕ → ℕ → Tagged
     entry i k = record { message = get_or c.messages k no_message; roles = roles (shape_of s) m (suc i) }
 
-    signed-tagged : (i : ℕ) → i ≤ c.count → (n r b : ℕ) → signed n (lowest_pointer s c.pointers) (tags_of s c) c.messages i r b ≡ signed_tags n r b (up_to s c i)
+    signed_tagged : (i : ℕ) → i ≤ c.count → (n r b : ℕ) → signed n (lowest_pointer s c.pointers) (tags_of s c) c.messages i r b ≡ signed_tags n r b (up_to s c i)
     unfolding signed_tags
-    signed-tagged zero l n r b = refl
-    signed-tagged (suc i) l n r b = elim (dec_le (lowest_pointer s c.pointers) (suc i)) [
+    signed_tagged zero l n r b = refl
+    signed_tagged (suc i) l n r b = elim (dec_le (lowest_pointer s c.pointers) (suc i)) [
       | yes d ↦
           ap (λ (x : Bool). cond x (on (leb 65536 (get_or (tags_of s c) i 0))) b) (le-leb (lowest_pointer s c.pointers) (suc i) d)
           ∙ ap on (tested i l)
-          ∙ signed-tagged i (omega arith) n (cond role (suc r) r) (bit_or b (message_bits n r role (get_or c.messages i no_message)))
+          ∙ signed_tagged i (omega arith) n (cond role (suc r) r) (bit_or b (message_bits n r role (get_or c.messages i no_message)))
           ∙ sym (ap (signed_tags n r b) (up_some s few c (suc i) (omega arith) d ∙ ap (λ (k : ℕ). entry i k ∷ up_to s c k) z))
       | no d ↦
           ap (λ (x : Bool). cond x (on (leb 65536 (get_or (tags_of s c) i 0))) b) (lt-leb (lowest_pointer s c.pointers) (suc i) (omega arith))
@@ -128,18 +128,18 @@ module _ (s : Shape) (few : s.processes ≤ 4) (narrow : s.variables ≤ 4) wher
         on : Bool → ℕ
         on t = signed n (lowest_pointer s c.pointers) (tags_of s c) c.messages i (cond t (suc r) r) (bit_or b (message_bits n r t (get_or c.messages i no_message)))
 
-    signature-is : signature_of s c ≡ signed_tags (min s.variables 4) 0 (queue_bits (min s.variables 4) c.queues (min s.processes 4)) (tagged (shape_of s) m)
+    signature_is : signature_of s c ≡ signed_tags (min s.variables 4) 0 (queue_bits (min s.variables 4) c.queues (min s.processes 4)) (tagged (shape_of s) m)
     unfolding signature_of
-    signature-is =
+    signature_is =
         let e : min c.count 20 ≡ c.count = omega arith in
         ap (λ (i : ℕ). signed (min s.variables 4) (lowest_pointer s c.pointers) (tags_of s c) c.messages i 0 (queue_bits (min s.variables 4) c.queues (min s.processes 4))) e
-        ∙ signed-tagged c.count (omega arith) (min s.variables 4) 0 (queue_bits (min s.variables 4) c.queues (min s.processes 4))
+        ∙ signed_tagged c.count (omega arith) (min s.variables 4) 0 (queue_bits (min s.variables 4) c.queues (min s.processes 4))
 
     -- nothing before the lowest pointer has a role
-    no-tags : (n k : ℕ) → n ≤ c.count → is_live_at (shape_of s) m n ≡ false → k ≤ n → key_tags (tags_of s c) k ≡ []
+    no_tags : (n k : ℕ) → n ≤ c.count → is_live_at (shape_of s) m n ≡ false → k ≤ n → key_tags (tags_of s c) k ≡ []
     unfolding key_tags
-    no-tags n zero a e l = refl
-    no-tags n (suc k) a e l = rw (tested k (omega arith) ∙ some_role_lem (shape_of s) m (suc k) ∙ none (has_role (shape_of s) m (suc k)) refl) (no-tags n k a e (omega arith))
+    no_tags n zero a e l = refl
+    no_tags n (suc k) a e l = rw (tested k (omega arith) ∙ some_role_lem (shape_of s) m (suc k) ∙ none (has_role (shape_of s) m (suc k)) refl) (no_tags n k a e (omega arith))
       where
         none : (x : Bool) → has_role (shape_of s) m (suc k) ≡ x → x ≡ false
         none true f =
@@ -162,33 +162,33 @@ module _ (s : Shape) (few : s.processes ≤ 4) (narrow : s.variables ≤ 4) wher
         ts : List ℕ
         ts = key_tags (tags_of s c) n
 
-        with-role : Beside s c ts (marks_of rest) → (y : Bool) → Beside s c (cond y (get_or (tags_of s c) n 0 ∷ ts) ts) (cond y (mark_of (at n n) ∷ marks_of rest) (marks_of rest))
-        with-role w true =
+        with_role : Beside s c ts (marks_of rest) → (y : Bool) → Beside s c (cond y (get_or (tags_of s c) n 0 ∷ ts) ts) (cond y (mark_of (at n n) ∷ marks_of rest) (marks_of rest))
+        with_role w true =
             let z : suc n - 1 ≡ n = omega arith in
             subst (λ (t : ℕ). Beside s c (t ∷ ts) (mark_of (at n n) ∷ marks_of rest)) (sym (tags_at s c n l (omega arith)))
             (subst (λ (j : ℕ). Beside s c (tag_of s c (suc n) ∷ ts) (mark_of (at n j) ∷ marks_of rest)) z (one_more (suc n) (omega arith) w))
-        with-role w false = w
+        with_role w false = w
 
         alive : Beside s c ts (marks_of rest) → (x : Bool) → is_live_at (shape_of s) m (suc n) ≡ x → Beside s c (key_tags (tags_of s c) (suc n)) (marks_of (cond x (at n n ∷ rest) []))
         alive w true e =
             subst (λ (y : Bool). Beside s c (cond y (get_or (tags_of s c) n 0 ∷ ts) ts) (cond (some_role (roles (shape_of s) m (suc n))) (mark_of (at n n) ∷ marks_of rest) (marks_of rest)))
-            (sym (tested n l)) (with-role w (some_role (roles (shape_of s) m (suc n))))
-        alive w false e = subst (λ (us : List ℕ). Beside s c us []) (sym (no-tags (suc n) (suc n) l e (omega arith))) no_more
+            (sym (tested n l)) (with_role w (some_role (roles (shape_of s) m (suc n))))
+        alive w false e = subst (λ (us : List ℕ). Beside s c us []) (sym (no_tags (suc n) (suc n) l e (omega arith))) no_more
 
   module _ (a b : Cube) (k : a.count ≤ 20) (l : b.count ≤ 20) where
     same_tag : (i j : ℕ) → 1 ≤ i → 1 ≤ j → mark_of (message_tag s a i) ≡ mark_of (message_tag s b j) → tag_of s a i ≡ tag_of s b j
     same_tag i j x y e =
         let u = ap (λ (z : Mark). z.process) e in
         let v = ap (λ (z : Mark). z.variable) e in
-        let w = (mask-roles (shape_of s) (configuration_of a).memory i (configuration_of b).memory j narrow x y).1 (ap (λ (z : Mark). z.roles) e) in
+        let w = (mask_roles (shape_of s) (configuration_of a).memory i (configuration_of b).memory j narrow x y).1 (ap (λ (z : Mark). z.roles) e) in
         tag_is s few narrow a k i ∙ omega arith ∙ sym (tag_is s few narrow b l j)
 
-    same-tags : {ts us : List ℕ} {ms ns : List Mark} → Beside s a ts ms → Beside s b us ns → ms ≡ ns → ts ≡ us
-    same-tags no_more no_more e = refl
-    same-tags no_more (one_more j y v) e = absurd (cons≢nil (sym e))
-    same-tags (one_more i x w) no_more e = absurd (cons≢nil e)
-    same-tags (one_more i x w) (one_more j y v) e =
-        ap₂ {C = List ℕ} (λ t r. t ∷ r) (same_tag i j x y (head-eq_of_cons-eq e)) (same-tags w v (tail-eq_of_cons-eq e))
+    same_tags : {ts us : List ℕ} {ms ns : List Mark} → Beside s a ts ms → Beside s b us ns → ms ≡ ns → ts ≡ us
+    same_tags no_more no_more e = refl
+    same_tags no_more (one_more j y v) e = absurd (cons≢nil (sym e))
+    same_tags (one_more i x w) no_more e = absurd (cons≢nil e)
+    same_tags (one_more i x w) (one_more j y v) e =
+        ap₂ {C = List ℕ} (λ t r. t ∷ r) (same_tag i j x y (head-eq_of_cons-eq e)) (same_tags w v (tail-eq_of_cons-eq e))
 
 -- ---- signatures in numbers
 
@@ -224,47 +224,47 @@ module _ (s : Shape) (exact : Bool) (a b : Cube) (R : ShapeInRange (shape_of s))
     same_key = match_key (shape_of s) (relation exact) (configuration_of a) (configuration_of b) (proper A.memory) (proper B.memory)
         ((matches_exact (shape_of s) (relation exact) (configuration_of a) (configuration_of b)).0 (subst T (sym t) tt))
 
-    same-states : packed_states (min s.processes 4) a.states ≡ packed_states (min s.processes 4) b.states
-    same-states = states_packed (min s.processes 4) a.states b.states
+    same_states : packed_states (min s.processes 4) a.states ≡ packed_states (min s.processes 4) b.states
+    same_states = states_packed (min s.processes 4) a.states b.states
         (λ p d. table_at s.processes (configuration_of a).state (configuration_of b).state (ap (λ (z : Key). z.states) same_key) p (omega arith))
 
-    same-empty : (p v : ℕ) → p < min s.processes 4 → v < min s.variables 4 → empty_bit (get_or a.queues (4 * p + v) no_queue) ≡ empty_bit (get_or b.queues (4 * p + v) no_queue)
-    same-empty p v d e =
+    same_empty : (p v : ℕ) → p < min s.processes 4 → v < min s.variables 4 → empty_bit (get_or a.queues (4 * p + v) no_queue) ≡ empty_bit (get_or b.queues (4 * p + v) no_queue)
+    same_empty p v d e =
         let row = table_at s.processes (λ p. table s.variables (λ v. is_empty ((configuration_of a).queue p v))) (λ p. table s.variables (λ v. is_empty ((configuration_of b).queue p v)))
         (ap (λ (z : Key). z.empty) same_key) p (omega arith) in
         let one = table_at s.variables (λ v. is_empty ((configuration_of a).queue p v)) (λ v. is_empty ((configuration_of b).queue p v)) row v (omega arith) in
         ap (λ (x : Bool). cond x 1 0) (sym (ap is_empty (queue_of_lem a.queues p v (omega arith) (omega arith))) ∙ one ∙ ap is_empty (queue_of_lem b.queues p v (omega arith) (omega arith)))
 
     same_roles : key_tags (tags_of s a) a.count ≡ key_tags (tags_of s b) b.count
-    same_roles = same-tags s few narrow a b k l (beside s few narrow a k (proper A.memory) a.count (omega arith)) (beside s few narrow b l (proper B.memory) b.count (omega arith))
+    same_roles = same_tags s few narrow a b k l (beside s few narrow a k (proper A.memory) a.count (omega arith)) (beside s few narrow b l (proper B.memory) b.count (omega arith))
         (ap (λ (z : Key). z.marks) same_key)
 
-    same-mixed : key_mixed s a ≡ key_mixed s b
+    same_mixed : key_mixed s a ≡ key_mixed s b
     unfolding key_mixed
-    same-mixed =
+    same_mixed =
         let x : min a.count 20 ≡ a.count = omega arith in
         let y : min b.count 20 ≡ b.count = omega arith in
         ap stir (ap₂ (with_tags (tags_of s a)) x
-        (queues_packed a.queues b.queues (min s.variables 4) (min s.processes 4) (packed_states (min s.processes 4) a.states) (packed_states (min s.processes 4) b.states) same-states same-empty)
+        (queues_packed a.queues b.queues (min s.variables 4) (min s.processes 4) (packed_states (min s.processes 4) a.states) (packed_states (min s.processes 4) b.states) same_states same_empty)
         ∙ with_tags_lem (tags_of s a) a.count h ∙ ap (λ (ts : List ℕ). hashed ts h) same_roles ∙ sym (with_tags_lem (tags_of s b) b.count h)
         ∙ ap (λ (n : ℕ). with_tags (tags_of s b) n h) (sym y))
       where
         h : ℕ
         h = packed_queues (min s.variables 4) b.queues (min s.processes 4) (packed_states (min s.processes 4) b.states)
 
-    pub match-number : Agrees (number_of s a) (number_of s b)
+    pub match_number : Agrees (number_of s a) (number_of s b)
     unfolding number_of
-    match-number = put_agrees same-mixed (signature_small s a) (signature_small s b)
+    match_number = put_agrees same_mixed (signature_small s a) (signature_small s b)
 
-    pub match-states : states_mixed s a.states ≡ states_mixed s b.states
+    pub match_states : states_mixed s a.states ≡ states_mixed s b.states
     unfolding states_mixed
-    match-states = ap stir same-states
+    match_states = ap stir same_states
 
 -- an entry that covers a cube
 pub match_signature : (s : Shape) (a b : Cube) → ShapeInRange (shape_of s) → Fits (ValueOrFF (shape_of s)) (shape_of s) (configuration_of a) → Fits (ValueOrFF (shape_of s)) (shape_of s) (configuration_of b)
     → a.count ≤ 20 → b.count ≤ 20 → matches (shape_of s) fills (configuration_of a) (configuration_of b) ≡ true → Contained (signature_of s a) (signature_of s b)
 match_signature s a b R A B k l t =
-    subst₂ Contained (sym (signature-is s few narrow a k (proper A.memory))) (sym (signature-is s few narrow b l (proper B.memory)))
+    subst₂ Contained (sym (signature_is s few narrow a k (proper A.memory))) (sym (signature_is s few narrow b l (proper B.memory)))
     (channel_contained (min s.variables 4) M.channel (same_total (shape_of s) (configuration_of a) (configuration_of b) (proper A.memory) (proper B.memory)) 0
     (queues_contained a.queues b.queues (min s.variables 4) (min s.processes 4)
     (λ p v d e. subst₂ (QueueMatch fills) (queue_of_lem a.queues p v (omega arith) (omega arith)) (queue_of_lem b.queues p v (omega arith) (omega arith)) (M.queues p v (omega arith) (omega arith)))))

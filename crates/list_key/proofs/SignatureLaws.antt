@@ -302,14 +302,14 @@ module _ (n low : ℕ) (ts : List ℕ) (ms : List Message) (y i r bits : ℕ) {x
   kept : i < low → x < 2 ^ 18
   kept l = subst (λ (k : ℕ). k < 2 ^ 18) (sym (dead l)) W.small
 
-  pub message-signed : t ≡ true → Signing n low ts ms y (i - 1) (r + 1) x
-  message-signed e = elim (dec_le low i) [
+  pub message_signed : t ≡ true → Signing n low ts ms y (i - 1) (r + 1) x
+  message_signed e = elim (dec_le low i) [
     | yes l ↦ subst (Signing n low ts ms y (i - 1) (r + 1)) (sym (live l)) (signing_role n low ts ms y i r bits t W l z f refl e)
     | no l ↦ record { few = omega (arith, W.few); small = kept (omega arith); rest = past (r + 1) (omega arith) }
   ]
 
-  pub message-unsigned : t ≡ false → Signing n low ts ms y (i - 1) r x
-  message-unsigned e = elim (dec_le low i) [
+  pub message_unsigned : t ≡ false → Signing n low ts ms y (i - 1) r x
+  message_unsigned e = elim (dec_le low i) [
     | yes l ↦ subst (Signing n low ts ms y (i - 1) r) (sym (live l)) (signing_none n low ts ms y i r bits t W l z f refl e)
     | no l ↦ record { few = omega (arith, W.few); small = kept (omega arith); rest = past r (omega arith) }
   ]

@@ -65,9 +65,9 @@ module _ (S : pws.Shape) (m : Memory) (i : ℕ) (n : Memory) (j : ℕ) where
       (table_ext S.variables (λ v. eqb (last_write m p v) i) (λ v. eqb (last_write n p v) j) (λ v b. w.last_writes p v a b)))
 
   module _ (narrow : S.variables ≤ 4) (a : 1 ≤ i) (b : 1 ≤ j) where
-    pub mask-alike : mask S.processes S.variables m i ≡ mask S.processes S.variables n j → Alike S m i n j
+    pub mask_alike : mask S.processes S.variables m i ≡ mask S.processes S.variables n j → Alike S m i n j
     unfolding mask
-    mask-alike e =
+    mask_alike e =
         record {
           pointers = λ p x. sym (ap (λ (z : ℕ). eqb z i) (role_exists S.variables m (5 * p) p 0 (omega arith) (omega arith) (omega arith)))
               ∙ bit (5 * p) (omega arith)
@@ -80,9 +80,9 @@ module _ (S : pws.Shape) (m : Memory) (i : ℕ) (n : Memory) (j : ℕ) where
         bit : (q : ℕ) → q < 5 * S.processes → eqb (role_at S.variables m q) i ≡ eqb (role_at S.variables n q) j
         bit = bits_same (λ q. eqb (role_at S.variables m q) i) (λ q. eqb (role_at S.variables n q) j) (5 * S.processes) e
 
-    pub alike-mask : Alike S m i n j → mask S.processes S.variables m i ≡ mask S.processes S.variables n j
+    pub alike_mask : Alike S m i n j → mask S.processes S.variables m i ≡ mask S.processes S.variables n j
     unfolding mask
-    alike-mask w = sum_equal (5 * S.processes) (λ q. cond (eqb (role_at S.variables m q) i) (2 ^ q) 0) (λ q. cond (eqb (role_at S.variables n q) j) (2 ^ q) 0)
+    alike_mask w = sum_equal (5 * S.processes) (λ q. cond (eqb (role_at S.variables m q) i) (2 ^ q) 0) (λ q. cond (eqb (role_at S.variables n q) j) (2 ^ q) 0)
         (λ q l. ap (λ (b : Bool). cond b (2 ^ q) 0) (at q l (q / 5) (q % 5) (omega arith) (omega arith)))
       where
         at : (q : ℕ) → q < 5 * S.processes → (p k : ℕ) → q ≡ 5 * p + k → k < 5 → eqb (role_at S.variables m q) i ≡ eqb (role_at S.variables n q) j
@@ -96,8 +96,8 @@ module _ (S : pws.Shape) (m : Memory) (i : ℕ) (n : Memory) (j : ℕ) where
             there zero d = w.pointers p (omega arith)
             there (suc v) d = w.last_writes p v (omega arith) (omega arith)
 
-    pub mask-roles : (mask S.processes S.variables m i ≡ mask S.processes S.variables n j) ↔ (roles S m i ≡ roles S n j)
-    mask-roles = (λ e. alike_roles (mask-alike e), λ e. alike-mask (roles_alike e))
+    pub mask_roles : (mask S.processes S.variables m i ≡ mask S.processes S.variables n j) ↔ (roles S m i ≡ roles S n j)
+    mask_roles = (λ e. alike_roles (mask_alike e), λ e. alike_mask (roles_alike e))
 
 -- ---- the same as tests
 
@@ -145,9 +145,9 @@ roles_test S narrow m i n j a b = at (pairwise (pairwise same) (roles S m i) (ro
 
     at : (x : Bool) → pairwise (pairwise same) (roles S m i) (roles S n j) ≡ x → x ≡ eqb (mask S.processes S.variables m i) (mask S.processes S.variables n j)
     at true e = sym (eq-eqb (mask S.processes S.variables m i) (mask S.processes S.variables n j)
-        ((mask-roles S m i n j narrow a b).1 (lists_same (roles S m i) (roles S n j) e)))
+        ((mask_roles S m i n j narrow a b).1 (lists_same (roles S m i) (roles S n j) e)))
     at false e = sym (ne_eqb (mask S.processes S.variables m i) (mask S.processes S.variables n j)
-        (λ f. true≢false (sym (same_lists ((mask-roles S m i n j narrow a b).0 f)) ∙ e)))
+        (λ f. true≢false (sym (same_lists ((mask_roles S m i n j narrow a b).0 f)) ∙ e)))
 
 -- ---- tags
 

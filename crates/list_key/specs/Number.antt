@@ -1,5 +1,5 @@
 -- The number of a cube, and of its local states. Only this is ever used: an entry that matches a cube has its number but for the signature
--- (`match-number`, `match-states`), and no bit of a signature that a cube has not which it covers (`match_signature`).
+-- (`match_number`, `match_states`), and no bit of a signature that a cube has not which it covers (`match_signature`).
 use Rattle.std.specs.Prelude.{ℕ, zero, suc, ◌+◌, ◌*◌, ◌/◌, ◌%◌, ◌^◌, min, ◌≡◌, cond, List, get_or, leb}
 use Rattle.std.specs.Int.Bits.{bit_xor}
 use Rattle.machine_pws.specs.Machine.{is_empty}

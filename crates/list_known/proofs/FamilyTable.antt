@@ -92,13 +92,13 @@ built_within s f at {e} same some few {ls} {qs} {xs} x xe y ye n z ze =
 -- an empty table
 pub families_none : (S : pws.Shape) (es : List Configuration) (m : ℕ) → Families S es (replicate m 0)
 unfolding standing word le32
-families_none S es m i a b c = absurd (omega (arith, b, blank-word i))
+families_none S es m i a b c = absurd (omega (arith, b, blank_word i))
   where
     blank : (i : ℕ) → byte (replicate m 0) i ≡ 0
     blank i = elim (dec_lt i m) [ yes l ↦ get_or-replicate m i 0 0 l | no l ↦ byte_past (replicate m 0) i (omega (arith, length-replicate {A = ℕ} m 0)) ]
 
-    blank-word : (i : ℕ) → word (replicate m 0) i ≡ 0
-    blank-word i = elim (dec_lt i (length (replicate {A = ℕ} m 0) / 4)) [
+    blank_word : (i : ℕ) → word (replicate m 0) i ≡ 0
+    blank_word i = elim (dec_lt i (length (replicate {A = ℕ} m 0) / 4)) [
       | yes l ↦ rw (lt-ltb i (length (replicate {A = ℕ} m 0) / 4) l) (omega (arith, blank (4 * i), blank (4 * i + 1), blank (4 * i + 2), blank (4 * i + 3)))
       | no l ↦ rw (le-ltb i (length (replicate {A = ℕ} m 0) / 4) (omega arith)) refl
     ]
@@ -121,22 +121,22 @@ module _ (S : pws.Shape) (es : List Configuration) (table : List ℕ) where
     abbrev put : List ℕ
     put = put_word clued at x
 
-    put-entry : word put at ≡ x
-    put-entry = word_same clued at x (omega (arith, put_length table (2048 + at) clue)) l
+    put_entry : word put at ≡ x
+    put_entry = word_same clued at x (omega (arith, put_length table (2048 + at) clue)) l
 
-    put-clue : word put (2048 + at) ≡ clue
-    put-clue = word_other clued at x (2048 + at) (λ d. omega arith) ∙ word_same table (2048 + at) clue (omega arith) small
+    put_clue : word put (2048 + at) ≡ clue
+    put_clue = word_other clued at x (2048 + at) (λ d. omega arith) ∙ word_same table (2048 + at) clue (omega arith) small
 
     put_other : (j : ℕ) → j ≢ at → j ≢ 2048 + at → word put j ≡ word table j
     put_other j d e = word_other clued at x j d ∙ word_other table (2048 + at) clue j e
 
     -- an entry and which of its families is full
-    families-put : FamilyHeld S es (clue_of clue) (entry es k) → Families S es table → Families S es put
+    families_put : FamilyHeld S es (clue_of clue) (entry es k) → Families S es table → Families S es put
     unfolding standing
-    families-put H F i a b c = elim (ℕ_discrete i at) [
+    families_put H F i a b c = elim (ℕ_discrete i at) [
       | yes d ↦
-          let e : k ≡ word put i % 1048576 - 1 = omega (arith, ap (word put) d, put-entry) in
-          subst₂ (λ (z w : ℕ). FamilyHeld S es (clue_of z) (entry es w)) (sym (ap (λ (j : ℕ). word put (2048 + j)) d ∙ put-clue)) e H
+          let e : k ≡ word put i % 1048576 - 1 = omega (arith, ap (word put) d, put_entry) in
+          subst₂ (λ (z w : ℕ). FamilyHeld S es (clue_of z) (entry es w)) (sym (ap (λ (j : ℕ). word put (2048 + j)) d ∙ put_clue)) e H
       | no d ↦ unchanged put i (put_other i d (λ e. omega arith)) (put_other (2048 + i) (λ e. omega arith) (λ e. d (omega arith))) F a b c
     ]
 
@@ -146,7 +146,7 @@ pub put_family_is : (table : List ℕ) (at k clue x : ℕ) → at < 1024 → 122
 put_family_is table at k clue x low long small r l {t} {u} a b =
     let e : u ≡ put_word (put_word table (2048 + at) clue) at x = b ∙ ap (λ (z : List ℕ). put_word z at x) a in (
       ap length e ∙ put_length (put_word table (2048 + at) clue) at x ∙ put_length table (2048 + at) clue,
-      λ S es H F. subst (Families S es) (sym e) (families-put S es table at k clue x low long small r l H F),
+      λ S es H F. subst (Families S es) (sym e) (families_put S es table at k clue x low long small r l H F),
     )
 
 -- ---- a cube that is found
@@ -192,16 +192,16 @@ module _ (s : Shape) (R : pws.ShapeInRange (shape_of s)) (f list : List ℕ) (n 
     fitting : (k : ℕ) → k < length es → Fits (ValueOrFF P.shape) P.shape (entry es k)
     fitting = subst (λ (S : pws.Shape). (k : ℕ) → k < length es → Fits (ValueOrFF S) S (entry es k)) (sym same) (listed (shape_of s) f list n oes)
 
-    full-here : FamilyHeld P.shape es asked (configuration_of (cube_at f list number))
-    full-here = subst (λ (S : pws.Shape). FamilyHeld S es asked (configuration_of (cube_at f list number))) (sym same) found_full
+    full_here : FamilyHeld P.shape es asked (configuration_of (cube_at f list number))
+    full_here = subst (λ (S : pws.Shape). FamilyHeld S es asked (configuration_of (cube_at f list number))) (sym same) found_full
 
-    in-here : InFamily P.shape asked (configuration_of (cube_at f list number)) (configuration_of c)
-    in-here = subst (λ (S : pws.Shape). InFamily S asked (configuration_of (cube_at f list number)) (configuration_of c)) (sym same) found_in
+    in_here : InFamily P.shape asked (configuration_of (cube_at f list number)) (configuration_of c)
+    in_here = subst (λ (S : pws.Shape). InFamily S asked (configuration_of (cube_at f list number)) (configuration_of c)) (sym same) found_in
 
-    pub recorded-update : EntryOf P (configuration_of c) → (p : ℕ) → every (held P.shape es) (predecessors P (configuration_of c) (Update p)) ≡ true
-    recorded-update o p = family_update P RP.well_formed (format_no_ff RP.shape) es fitting asked (configuration_of (cube_at f list number)) (configuration_of c) full-here in-here o p
+    pub recorded_update : EntryOf P (configuration_of c) → (p : ℕ) → every (held P.shape es) (predecessors P (configuration_of c) (Update p)) ≡ true
+    recorded_update o p = family_update P RP.well_formed (format_no_ff RP.shape) es fitting asked (configuration_of (cube_at f list number)) (configuration_of c) full_here in_here o p
 
     -- the cube is what a serialise to d may lead from, with another newest message
-    pub recorded-serialise : (d : Configuration) → EntryOf P d → (p v : ℕ) → configuration_of c ≡ cube P d (Serialise p v) (on_top v) → every (held P.shape es) (predecessors P d (Serialise p v)) ≡ true
-    recorded-serialise d o p v e =
-        family_serialise P RP.well_formed (format_no_ff RP.shape) es fitting asked (configuration_of (cube_at f list number)) d p v full-here (subst (InFamily P.shape asked (configuration_of (cube_at f list number))) e in-here) o
+    pub recorded_serialise : (d : Configuration) → EntryOf P d → (p v : ℕ) → configuration_of c ≡ cube P d (Serialise p v) (on_top v) → every (held P.shape es) (predecessors P d (Serialise p v)) ≡ true
+    recorded_serialise d o p v e =
+        family_serialise P RP.well_formed (format_no_ff RP.shape) es fitting asked (configuration_of (cube_at f list number)) d p v full_here (subst (InFamily P.shape asked (configuration_of (cube_at f list number))) e in_here) o

@@ -153,9 +153,9 @@ module _ (P : Program) (R : ProgramInRange P) (es : List Configuration) where
         go false l = F
 
     -- local states that stand in the table are full
-    pub full-held : is_full table s states ≡ true → TargetHeld P es (λ q. get_or states q 0)
+    pub full_held : is_full table s states ≡ true → TargetHeld P es (λ q. get_or states q 0)
     unfolding is_full place_of
-    full-held i = go (leb (place_of states + 4) (length table)) refl i
+    full_held i = go (leb (place_of states + 4) (length table)) refl i
       where
         place : ℕ
         place = (get_or states 0 0 + 32 * get_or states 1 0 + 328 * get_or states 2 0 + 577 * get_or states 3 0) % 1024
@@ -172,21 +172,21 @@ module _ (P : Program) (R : ProgramInRange P) (es : List Configuration) where
 
     module _ (d : Configuration) (o : EntryOf P d) (own : d.state ≡ (λ q. get_or states q 0)) where
       -- serialise and update leave local states as they are
-      pub full-serialise : is_full table s states ≡ true → (p v : ℕ) → every (held P.shape es) (predecessors P d (Serialise p v)) ≡ true
-      full-serialise i p v = full_step P R.well_formed (format_no_ff R.shape) es F.entries d o (Serialise p v) (subst (TargetHeld P es) (sym own) (full-held i))
+      pub full_serialise : is_full table s states ≡ true → (p v : ℕ) → every (held P.shape es) (predecessors P d (Serialise p v)) ≡ true
+      full_serialise i p v = full_step P R.well_formed (format_no_ff R.shape) es F.entries d o (Serialise p v) (subst (TargetHeld P es) (sym own) (full_held i))
 
-      pub full-update : is_full table s states ≡ true → (p : ℕ) → every (held P.shape es) (predecessors P d (Update p)) ≡ true
-      full-update i p = full_step P R.well_formed (format_no_ff R.shape) es F.entries d o (Update p) (subst (TargetHeld P es) (sym own) (full-held i))
+      pub full_update : is_full table s states ≡ true → (p : ℕ) → every (held P.shape es) (predecessors P d (Update p)) ≡ true
+      full_update i p = full_step P R.well_formed (format_no_ff R.shape) es F.entries d o (Update p) (subst (TargetHeld P es) (sym own) (full_held i))
 
 module _ (P : Program) (R : ProgramInRange P) (es : List Configuration) (table states : List ℕ) (s : Shape) (e : P.shape.processes ≡ s.processes) (F : Full P es table)
     (d : Configuration) (o : EntryOf P d) (own : d.state ≡ (λ q. get_or states q 0)) where
-  pub full-take : (n : ℕ) → is_full table s (states_from states (transition P n).process (transition P n).from) ≡ true → every (held P.shape es) (predecessors P d (Take n)) ≡ true
-  full-take n i =
+  pub full_take : (n : ℕ) → is_full table s (states_from states (transition P n).process (transition P n).from) ≡ true → every (held P.shape es) (predecessors P d (Take n)) ≡ true
+  full_take n i =
       full_step P R.well_formed (format_no_ff R.shape) es F.entries d o (Take n)
       (held_as P R es (states_before P d (Take n)) (λ q. get_or (states_from states (transition P n).process (transition P n).from) q 0) (λ q l.
       ap (λ (f : ℕ → ℕ). put f (transition P n).process (transition P n).from q) own
       ∙ sym (from_is states (transition P n).process (transition P n).from q (omega (arith, R.shape.processes))))
-      (full-held P R es table (states_from states (transition P n).process (transition P n).from) s e F i))
+      (full_held P R es table (states_from states (transition P n).process (transition P n).from) s e F i))
 
 -- ---- all four states
 

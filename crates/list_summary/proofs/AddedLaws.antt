@@ -19,10 +19,10 @@ use Rattle.list_key.proofs.SumLaws.{sum_zero}
 use Rattle.list_summary.specs.Slots.{word, linked, link_to, head_link, next_link, field_at, count_at, signature_at, hung, put_field, home_of, mark_in, Met}
 use Rattle.list_summary.specs.Groups.{same_states, states_at, leads, in_group, leader_of, joined_at, added, added_from, summary_of}
 use Rattle.list_summary.specs.Summary.{Grouped, Summed}
-use Rattle.list_summary.proofs.WordLaws.{put_is, put_is_not, put_ext, put_own, hung_length, hung-head, hung-next, hung-count, hung-signature, counted-length, counted-head, counted_next, counted-count, signed-count, put-signature}
-use Rattle.list_summary.proofs.ChainLaws.{home_below, met-new, met-old, heads-new}
+use Rattle.list_summary.proofs.WordLaws.{put_is, put_is_not, put_ext, put_own, hung_length, hung_head, hung_next, hung_count, hung_signature, counted_length, counted_head, counted_next, counted_count, signed_count, put_signature}
+use Rattle.list_summary.proofs.ChainLaws.{home_below, met_new, met_old, heads_new}
 use Rattle.list_summary.proofs.GroupLaws.{true_false, same_sym, same_false, same_trans, leads_none, none_leads, one_leads, in_none, in_more, in_same, in_most, same_refl, sum_one}
-use Rattle.list_summary.proofs.LeaderLaws.{leader-is, leader_leads, no_leader, leads_counted}
+use Rattle.list_summary.proofs.LeaderLaws.{leader_is, leader_leads, no_leader, leads_counted}
 
 and_no : (b : Bool) → b && false ≡ false
 and_no true = refl
@@ -41,13 +41,13 @@ module _ {f list sum : List ℕ} {n : ℕ} {s : Shape} {m : ℕ} (G : Grouped f 
     home = home_of number n
 
     old : (number' i mark : ℕ) → Met sum n (head_link sum (home_of number' n)) i mark → Met new n (head_link new (home_of number' n)) i mark
-    old number' i mark r = met-old sum new n (home_of number n) m (mark_in number) l (omega arith) head next (home_of number' n) (G.heads (home_of number' n) (home_below number' n (omega arith))) r
+    old number' i mark r = met_old sum new n (home_of number n) m (mark_in number) l (omega arith) head next (home_of number' n) (G.heads (home_of number' n) (home_below number' n (omega arith))) r
 
     joins : Met new n (head_link new (home_of number n)) m (mark_in number)
-    joins = met-new sum new n (home_of number n) m (mark_in number) l (omega arith) head next
+    joins = met_new sum new n (home_of number n) m (mark_in number) l (omega arith) head next
 
     heads : (h : ℕ) → h < n → linked (head_link new h) ≤ suc m
-    heads h x = heads-new sum new n (home_of number n) m (mark_in number) l (omega arith) head next h (G.heads h x)
+    heads h x = heads_new sum new n (home_of number n) m (mark_in number) l (omega arith) head next h (G.heads h x)
 
     total : sum_below n (count_at new) ≡ suc m
     total =
@@ -55,10 +55,10 @@ module _ {f list sum : List ℕ} {n : ℕ} {s : Shape} {m : ℕ} (G : Grouped f 
         omega (arith, r, G.total)
 
     -- the entry goes where it is looked for, and the group is its own
-    pub grouped-more : ((k : ℕ) → k < n → count_at new k ≡ cond (ltb k (suc m) && leads f list s k) (in_group f list s (suc m) (st k)) 0)
+    pub grouped_more : ((k : ℕ) → k < n → count_at new k ≡ cond (ltb k (suc m) && leads f list s k) (in_group f list s (suc m) (st k)) 0)
         → (leads f list s m ≡ true → number ≡ states_mixed s (st m)) → (leads f list s m ≡ false → number ≡ number_of s (cube_at f list m))
         → ((k : ℕ) → k < m → leads f list s k ≡ false → signature_at new k ≡ signature_at sum k) → (leads f list s m ≡ false → signature_at new m ≡ signature_in number) → Grouped f list new n s (suc m)
-    grouped-more numbers a b c d =
+    grouped_more numbers a b c d =
         record {
           most = l;
           room = omega (arith, G.room);
@@ -104,43 +104,43 @@ module _ {f list sum : List ℕ} {n : ℕ} {s : Shape} {m : ℕ} (G : Grouped f 
     leading : List ℕ
     leading = put_field hangs m 1
 
-    led-home : home_of number n < n
-    led-home = home_below number n (omega arith)
+    led_home : home_of number n < n
+    led_home = home_below number n (omega arith)
 
-    led-room : 8 * n ≤ length hangs
+    led_room : 8 * n ≤ length hangs
     unfolding hangs
-    led-room = omega (arith, hung_length sum n G.room (home_of number n) m (mark_in number) led-home l (omega arith) (omega arith), G.room)
+    led_room = omega (arith, hung_length sum n G.room (home_of number n) m (mark_in number) led_home l (omega arith) (omega arith), G.room)
 
     no_same : (k : ℕ) → k < m → same_states s (st k) (st m) ≡ true → ⊥
     no_same = no_leader G (st m) none
 
-    m-leads : leads f list s m ≡ true
-    m-leads = none_leads f list s m no_same
+    m_leads : leads f list s m ≡ true
+    m_leads = none_leads f list s m no_same
 
-    led-numbers : (i : ℕ) → count_at leading i ≡ put (count_at sum) m (count_at sum m + 1) i
+    led_numbers : (i : ℕ) → count_at leading i ≡ put (count_at sum) m (count_at sum m + 1) i
     unfolding leading hangs
-    led-numbers i =
-        counted-count hangs n led-room m 1 l (omega arith) (omega arith) i
+    led_numbers i =
+        counted_count hangs n led_room m 1 l (omega arith) (omega arith) i
         ∙ put_ext (count_at hangs) (count_at sum) m 1 (count_at sum m + 1) i (omega (arith, m_none))
-        (hung-count sum n G.room (home_of number n) m (mark_in number) led-home l (omega arith) (omega arith) i)
+        (hung_count sum n G.room (home_of number n) m (mark_in number) led_home l (omega arith) (omega arith) i)
 
-    grouped-first : Grouped f list leading n s (suc m)
+    grouped_first : Grouped f list leading n s (suc m)
     unfolding leading hangs number
-    grouped-first =
-        grouped-more leading number m
-        (counted-length hangs n led-room m 1 l (omega arith) ∙ hung_length sum n G.room (home_of number n) m (mark_in number) led-home l (omega arith) (omega arith)) l
-        (λ i. counted-head hangs n led-room m 1 l (omega arith) i ∙ hung-head sum n G.room (home_of number n) m (mark_in number) led-home l (omega arith) (omega arith) i)
-        (λ i. counted_next hangs n led-room m 1 l (omega arith) i ∙ hung-next sum n G.room (home_of number n) m (mark_in number) led-home l (omega arith) (omega arith) i) led-numbers
+    grouped_first =
+        grouped_more leading number m
+        (counted_length hangs n led_room m 1 l (omega arith) ∙ hung_length sum n G.room (home_of number n) m (mark_in number) led_home l (omega arith) (omega arith)) l
+        (λ i. counted_head hangs n led_room m 1 l (omega arith) i ∙ hung_head sum n G.room (home_of number n) m (mark_in number) led_home l (omega arith) (omega arith) i)
+        (λ i. counted_next hangs n led_room m 1 l (omega arith) i ∙ hung_next sum n G.room (home_of number n) m (mark_in number) led_home l (omega arith) (omega arith) i) led_numbers
         (λ k x. elim (ℕ_discrete k m) [
-          | yes d ↦ rw d (led-numbers m ∙ put_is (count_at sum) m (count_at sum m + 1) ∙ rw (lt-ltb m (suc m) (omega arith), m-leads)
+          | yes d ↦ rw d (led_numbers m ∙ put_is (count_at sum) m (count_at sum m + 1) ∙ rw (lt-ltb m (suc m) (omega arith), m_leads)
               (omega (arith, m_none, in_more f list s m (st m) (same_refl s (st m)), in_none f list s m (st m) no_same)))
-          | no d ↦ led-numbers k ∙ put_is_not (count_at sum) m (count_at sum m + 1) k d
+          | no d ↦ led_numbers k ∙ put_is_not (count_at sum) m (count_at sum m + 1) k d
               ∙ kept_number k x d (λ y e. same_false s (st m) (st k) (λ q. no_same k y (same_sym s (st m) (st k) q)))
         ])
-        (λ e. refl) (λ e. absurd (true_false (sym m-leads ∙ e)))
-        (λ k x e. put-signature hangs n led-room m 1 l (omega arith) k ∙ put_is_not (signature_at hangs) m 1 k (λ z. omega arith)
-        ∙ hung-signature sum n G.room (home_of number n) m (mark_in number) led-home l (omega arith) (omega arith) k)
-        (λ e. absurd (true_false (sym m-leads ∙ e)))
+        (λ e. refl) (λ e. absurd (true_false (sym m_leads ∙ e)))
+        (λ k x e. put_signature hangs n led_room m 1 l (omega arith) k ∙ put_is_not (signature_at hangs) m 1 k (λ z. omega arith)
+        ∙ hung_signature sum n G.room (home_of number n) m (mark_in number) led_home l (omega arith) (omega arith) k)
+        (λ e. absurd (true_false (sym m_leads ∙ e)))
 
   -- ---- one that joins the group of entry j
 
@@ -148,17 +148,17 @@ module _ {f list sum : List ℕ} {n : ℕ} {s : Shape} {m : ℕ} (G : Grouped f 
     jm : j < m
     jm = (leader_leads G (st m) j found).0
 
-    j-leads : leads f list s j ≡ true
-    j-leads = (leader_leads G (st m) j found).1
+    j_leads : leads f list s j ≡ true
+    j_leads = (leader_leads G (st m) j found).1
 
-    j-same : same_states s (st j) (st m) ≡ true
-    j-same = (leader_leads G (st m) j found).2
+    j_same : same_states s (st j) (st m) ≡ true
+    j_same = (leader_leads G (st m) j found).2
 
-    j-number : count_at sum j ≡ in_group f list s m (st j)
-    j-number = leads_counted G j jm j-leads
+    j_number : count_at sum j ≡ in_group f list s m (st j)
+    j_number = leads_counted G j jm j_leads
 
     fits : count_at sum j + 1 < 786432
-    fits = omega (arith, j-number, in_most f list s m (st j))
+    fits = omega (arith, j_number, in_most f list s m (st j))
 
     key : ℕ
     key = number_of s (cube_at f list m)
@@ -169,104 +169,104 @@ module _ {f list sum : List ℕ} {n : ℕ} {s : Shape} {m : ℕ} (G : Grouped f 
     wide : count_at sum j + 1 < 1048576
     wide = omega (arith, fits)
 
-    hung-on : List ℕ
-    hung-on = hung counts (home_of key n) m (mark_in key)
+    hung_on : List ℕ
+    hung_on = hung counts (home_of key n) m (mark_in key)
 
     field : ℕ
     field = 786432 + signature_in key
 
-    field-small : field < 1048576
+    field_small : field < 1048576
     unfolding field
-    field-small = omega arith
+    field_small = omega arith
 
-    field-signed : 786432 ≤ field
+    field_signed : 786432 ≤ field
     unfolding field
-    field-signed = omega arith
+    field_signed = omega arith
 
     joined : List ℕ
-    joined = put_field hung-on m field
+    joined = put_field hung_on m field
 
-    join-room : 8 * n ≤ length counts
+    join_room : 8 * n ≤ length counts
     unfolding counts
-    join-room = omega (arith, counted-length sum n G.room j (count_at sum j + 1) (omega (arith, jm)) wide, G.room)
+    join_room = omega (arith, counted_length sum n G.room j (count_at sum j + 1) (omega (arith, jm)) wide, G.room)
 
-    key-home : home_of key n < n
-    key-home = home_below key n (omega arith)
+    key_home : home_of key n < n
+    key_home = home_below key n (omega arith)
 
-    on-length : length hung-on ≡ length counts
-    unfolding hung-on
-    on-length = hung_length counts n join-room (home_of key n) m (mark_in key) key-home l (omega arith) (omega arith)
+    on_length : length hung_on ≡ length counts
+    unfolding hung_on
+    on_length = hung_length counts n join_room (home_of key n) m (mark_in key) key_home l (omega arith) (omega arith)
 
-    on_room : 8 * n ≤ length hung-on
-    on_room = omega (arith, on-length, join-room)
+    on_room : 8 * n ≤ length hung_on
+    on_room = omega (arith, on_length, join_room)
 
-    on-numbers : (i : ℕ) → count_at hung-on i ≡ put (count_at sum) j (count_at sum j + 1) i
-    unfolding hung-on counts
-    on-numbers i = hung-count counts n join-room (home_of key n) m (mark_in key) key-home l (omega arith) (omega arith) i ∙ counted-count sum n G.room j (count_at sum j + 1) (omega (arith, jm)) wide fits i
+    on_numbers : (i : ℕ) → count_at hung_on i ≡ put (count_at sum) j (count_at sum j + 1) i
+    unfolding hung_on counts
+    on_numbers i = hung_count counts n join_room (home_of key n) m (mark_in key) key_home l (omega arith) (omega arith) i ∙ counted_count sum n G.room j (count_at sum j + 1) (omega (arith, jm)) wide fits i
 
-    m-other : m ≢ j
-    m-other e = omega (arith, jm)
+    m_other : m ≢ j
+    m_other e = omega (arith, jm)
 
-    join-numbers : (i : ℕ) → count_at joined i ≡ put (count_at sum) j (count_at sum j + 1) i
+    join_numbers : (i : ℕ) → count_at joined i ≡ put (count_at sum) j (count_at sum j + 1) i
     unfolding joined
-    join-numbers i =
-        signed-count hung-on n on_room m field l field-small field-signed i
-        ∙ put_own (count_at hung-on) m 0 i (sym (on-numbers m ∙ put_is_not (count_at sum) j (count_at sum j + 1) m m-other ∙ m_none))
-        ∙ on-numbers i
+    join_numbers i =
+        signed_count hung_on n on_room m field l field_small field_signed i
+        ∙ put_own (count_at hung_on) m 0 i (sym (on_numbers m ∙ put_is_not (count_at sum) j (count_at sum j + 1) m m_other ∙ m_none))
+        ∙ on_numbers i
 
     -- only the signature of entry m is new, and that of entry j, which leads a group, is no more
-    join-signature : (k : ℕ) → k ≢ j → k ≢ m → signature_at joined k ≡ signature_at sum k
-    unfolding joined hung-on counts
-    join-signature k d e =
-        put-signature hung-on n on_room m field l field-small k ∙ put_is_not (signature_at hung-on) m (field % 262144) k e
-        ∙ hung-signature counts n join-room (home_of key n) m (mark_in key) key-home l (omega arith) (omega arith) k
-        ∙ put-signature sum n G.room j (count_at sum j + 1) (omega (arith, jm)) wide k ∙ put_is_not (signature_at sum) j ((count_at sum j + 1) % 262144) k d
+    join_signature : (k : ℕ) → k ≢ j → k ≢ m → signature_at joined k ≡ signature_at sum k
+    unfolding joined hung_on counts
+    join_signature k d e =
+        put_signature hung_on n on_room m field l field_small k ∙ put_is_not (signature_at hung_on) m (field % 262144) k e
+        ∙ hung_signature counts n join_room (home_of key n) m (mark_in key) key_home l (omega arith) (omega arith) k
+        ∙ put_signature sum n G.room j (count_at sum j + 1) (omega (arith, jm)) wide k ∙ put_is_not (signature_at sum) j ((count_at sum j + 1) % 262144) k d
 
-    own-signature : signature_at joined m ≡ signature_in key
+    own_signature : signature_at joined m ≡ signature_in key
     unfolding joined field
-    own-signature = put-signature hung-on n on_room m field l field-small m ∙ put_is (signature_at hung-on) m (field % 262144) ∙ omega arith
+    own_signature = put_signature hung_on n on_room m field l field_small m ∙ put_is (signature_at hung_on) m (field % 262144) ∙ omega arith
 
-    m-follows : leads f list s m ≡ true → ⊥
-    m-follows e = leads_none f list s m e j jm j-same
+    m_follows : leads f list s m ≡ true → ⊥
+    m_follows e = leads_none f list s m e j jm j_same
 
-    m-not : leads f list s m ≡ false
-    m-not = go (leads f list s m) refl
+    m_not : leads f list s m ≡ false
+    m_not = go (leads f list s m) refl
       where
         go : (b : Bool) → leads f list s m ≡ b → b ≡ false
-        go true e = absurd (m-follows e)
+        go true e = absurd (m_follows e)
         go false e = refl
 
-    grouped-next : Grouped f list joined n s (suc m)
-    unfolding joined hung-on counts key
-    grouped-next =
-        let head = counted-head sum n G.room j (count_at sum j + 1) (omega (arith, jm)) wide in
+    grouped_next : Grouped f list joined n s (suc m)
+    unfolding joined hung_on counts key
+    grouped_next =
+        let head = counted_head sum n G.room j (count_at sum j + 1) (omega (arith, jm)) wide in
         let next = counted_next sum n G.room j (count_at sum j + 1) (omega (arith, jm)) wide in
-        grouped-more joined key j
-        (counted-length hung-on n on_room m field l field-small ∙ on-length ∙ counted-length sum n G.room j (count_at sum j + 1) (omega (arith, jm)) wide) (omega (arith, jm))
-        (λ i. counted-head hung-on n on_room m field l field-small i
-        ∙ hung-head counts n join-room (home_of key n) m (mark_in key) key-home l (omega arith) (omega arith) i
+        grouped_more joined key j
+        (counted_length hung_on n on_room m field l field_small ∙ on_length ∙ counted_length sum n G.room j (count_at sum j + 1) (omega (arith, jm)) wide) (omega (arith, jm))
+        (λ i. counted_head hung_on n on_room m field l field_small i
+        ∙ hung_head counts n join_room (home_of key n) m (mark_in key) key_home l (omega arith) (omega arith) i
         ∙ put_ext (head_link counts) (head_link sum) (home_of key n) (link_to m (mark_in key)) (link_to m (mark_in key)) i refl (head i))
-        (λ i. counted_next hung-on n on_room m field l field-small i
-        ∙ hung-next counts n join-room (home_of key n) m (mark_in key) key-home l (omega arith) (omega arith) i
-        ∙ put_ext (next_link counts) (next_link sum) m (head_link counts (home_of key n)) (head_link sum (home_of key n)) i (head (home_of key n)) (next i)) join-numbers
+        (λ i. counted_next hung_on n on_room m field l field_small i
+        ∙ hung_next counts n join_room (home_of key n) m (mark_in key) key_home l (omega arith) (omega arith) i
+        ∙ put_ext (next_link counts) (next_link sum) m (head_link counts (home_of key n)) (head_link sum (home_of key n)) i (head (home_of key n)) (next i)) join_numbers
         (λ k x. elim (ℕ_discrete k j) [
-          | yes d ↦ rw d (join-numbers j ∙ put_is (count_at sum) j (count_at sum j + 1) ∙ rw (lt-ltb j (suc m) (omega (arith, jm)), j-leads)
-              (omega (arith, j-number, in_more f list s m (st j) (same_sym s (st j) (st m) j-same))))
-          | no d ↦ join-numbers k ∙ put_is_not (count_at sum) j (count_at sum j + 1) k d ∙ elim (ℕ_discrete k m) [
-            | yes q ↦ rw q (m_none ∙ rw (m-not, and_no (ltb m (suc m))))
-            | no q ↦ kept_number k x q (λ y e. same_false s (st m) (st k) (λ z. d (sym (one_leads f list s j k j-leads e (same_trans s (st j) (st m) (st k) j-same z)))))
+          | yes d ↦ rw d (join_numbers j ∙ put_is (count_at sum) j (count_at sum j + 1) ∙ rw (lt-ltb j (suc m) (omega (arith, jm)), j_leads)
+              (omega (arith, j_number, in_more f list s m (st j) (same_sym s (st j) (st m) j_same))))
+          | no d ↦ join_numbers k ∙ put_is_not (count_at sum) j (count_at sum j + 1) k d ∙ elim (ℕ_discrete k m) [
+            | yes q ↦ rw q (m_none ∙ rw (m_not, and_no (ltb m (suc m))))
+            | no q ↦ kept_number k x q (λ y e. same_false s (st m) (st k) (λ z. d (sym (one_leads f list s j k j_leads e (same_trans s (st j) (st m) (st k) j_same z)))))
           ]
         ])
-        (λ e. absurd (m-follows e)) (λ e. refl)
-        (λ k x e. join-signature k (λ z. true_false (sym j-leads ∙ sym (ap (leads f list s) z) ∙ e)) (λ z. omega arith)) (λ e. own-signature)
+        (λ e. absurd (m_follows e)) (λ e. refl)
+        (λ k x e. join_signature k (λ z. true_false (sym j_leads ∙ sym (ap (leads f list s) z) ∙ e)) (λ z. omega arith)) (λ e. own_signature)
 
   pub grouped_added : Grouped f list (added f list s sum n m) n s (suc m)
-  unfolding added joined_at leading hangs number joined hung-on field counts key
+  unfolding added joined_at leading hangs number joined hung_on field counts key
   grouped_added = go (leader_of f list s sum n (st m)) refl
     where
       go : (x : ℕ) → leader_of f list s sum n (st m) ≡ x → Grouped f list (added f list s sum n m) n s (suc m)
-      go zero e = rw e (grouped-first e)
-      go (suc j) e = let z : suc j - 1 ≡ j = omega arith in rw (e, z, ne_eqb (suc j) 0 (λ x. omega arith)) (grouped-next j e)
+      go zero e = rw e (grouped_first e)
+      go (suc j) e = let z : suc j - 1 ≡ j = omega arith in rw (e, z, ne_eqb (suc j) 0 (λ x. omega arith)) (grouped_next j e)
 
 -- ---- from the first on
 

@@ -70,27 +70,27 @@ module _ (sum new : List ℕ) (n home k mark : ℕ) (kl : k < n) (kb : k < 10485
   next_kept : (j : ℕ) → j < k → next_link new j ≡ next_link sum j
   next_kept j l = next j ∙ put_is_not (next_link sum) k (head_link sum home) j (λ e. omega arith)
 
-  head-is : head_link new home ≡ link_to k mark
-  head-is = head home ∙ put_is (head_link sum) home (link_to k mark)
+  head_is : head_link new home ≡ link_to k mark
+  head_is = head home ∙ put_is (head_link sum) home (link_to k mark)
 
   next_is : next_link new k ≡ head_link sum home
   next_is = next k ∙ put_is (next_link sum) k (head_link sum home)
 
-  pub met-new : Met new n (head_link new home) k mark
-  met-new =
-      subst (λ (x : ℕ). Met new n x k mark) (sym head-is)
+  pub met_new : Met new n (head_link new home) k mark
+  met_new =
+      subst (λ (x : ℕ). Met new n x k mark) (sym head_is)
       (subst (Met new n (link_to k mark) k) (marked_to k mark kb) (here (linked_to k mark kb) kl))
 
-  pub met-old : (g : ℕ) → linked (head_link sum g) ≤ k → {i m : ℕ} → Met sum n (head_link sum g) i m → Met new n (head_link new g) i m
-  met-old g low {i} {m} r =
+  pub met_old : (g : ℕ) → linked (head_link sum g) ≤ k → {i m : ℕ} → Met sum n (head_link sum g) i m → Met new n (head_link new g) i m
+  met_old g low {i} {m} r =
       let under : Met new k (head_link sum g) i m = met_kept sum new k next_kept (omega arith) (met_under k low r) in
       elim (ℕ_discrete g home) [
-        | yes e ↦ let on : Met new k (next_link new k) i m = rw next_is (subst (λ (x : ℕ). Met new k (head_link sum x) i m) e under) in rw (e, head-is) (later k (linked_to k mark kb) kl on)
+        | yes e ↦ let on : Met new k (next_link new k) i m = rw next_is (subst (λ (x : ℕ). Met new k (head_link sum x) i m) e under) in rw (e, head_is) (later k (linked_to k mark kb) kl on)
         | no d ↦ rw (head g, put_is_not (head_link sum) home (link_to k mark) g d) (met_under n (omega arith) under)
       ]
 
-  pub heads-new : (g : ℕ) → linked (head_link sum g) ≤ k → linked (head_link new g) ≤ suc k
-  heads-new g low = elim (ℕ_discrete g home) [
-    | yes e ↦ rw (e, head-is) (omega (arith, linked_to k mark kb))
+  pub heads_new : (g : ℕ) → linked (head_link sum g) ≤ k → linked (head_link new g) ≤ suc k
+  heads_new g low = elim (ℕ_discrete g home) [
+    | yes e ↦ rw (e, head_is) (omega (arith, linked_to k mark kb))
     | no d ↦ rw (head g, put_is_not (head_link sum) home (link_to k mark) g d) (omega arith)
   ]

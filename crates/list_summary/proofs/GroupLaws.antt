@@ -91,14 +91,14 @@ module _ (f list : List ℕ) (s : Shape) where
   leader_before (suc fuel) k l = ⊎_elim
       (λ r.
       let c = leader_before fuel r.0 (omega (arith, r.1)) in
-      let e : same_states s (st r.0) (st k) ≡ true = not-no (same_states s (st r.0) (st k)) r.2 in
+      let e : same_states s (st r.0) (st k) ≡ true = not_no (same_states s (st r.0) (st k)) r.2 in
       (c.0, omega (arith, c.1, r.1), c.2, same_trans s (st c.0) (st r.0) (st k) c.3 e))
       (λ g. (k, omega arith, all_true k (λ j. not (same_states s (st j) (st k))) g, same_refl s (st k)))
       (fails_or k (λ j. not (same_states s (st j) (st k))))
     where
-      not-no : (b : Bool) → not b ≡ false → b ≡ true
-      not-no true e = refl
-      not-no false e = absurd (true_false e)
+      not_no : (b : Bool) → not b ≡ false → b ≡ true
+      not_no true e = refl
+      not_no false e = absurd (true_false e)
 
   -- ---- the number in a group
 

@@ -92,12 +92,12 @@ module _ {f list sum : List ℕ} {n : ℕ} {s : Shape} {m : ℕ} (G : Grouped f 
 
   -- the first entry of the group is found
   module _ (states : List ℕ) (k : ℕ) (kl : k < m) (ke : leads f list s k ≡ true) (ks : same_states s (st k) states ≡ true) where
-    some-counted : count_at sum k ≢ 0
-    some-counted e = omega (arith, in_some f list s m (st k) k kl (same_refl s (st k)), leads_counted k kl ke)
+    some_counted : count_at sum k ≢ 0
+    some_counted e = omega (arith, in_some f list s m (st k) k kl (same_refl s (st k)), leads_counted k kl ke)
 
-    met-step : (fuel j : ℕ) → j < n → (k ≡ j) ⊎ (leader_from f list s sum states fuel j (next_link sum j) ≡ suc k) → step_of states fuel j ≡ suc k
-    met-step fuel j l (inl e) = rw (ne_eqb (count_at sum j) 0 (subst (λ (i : ℕ). count_at sum i ≢ 0) e some-counted), sym (ap (λ (i : ℕ). same_states s (st i) states) e) ∙ ks) (ap suc (sym e))
-    met-step fuel j l (inr e) = go (eqb (count_at sum j) 0) refl (same_states s (st j) states) refl
+    met_step : (fuel j : ℕ) → j < n → (k ≡ j) ⊎ (leader_from f list s sum states fuel j (next_link sum j) ≡ suc k) → step_of states fuel j ≡ suc k
+    met_step fuel j l (inl e) = rw (ne_eqb (count_at sum j) 0 (subst (λ (i : ℕ). count_at sum i ≢ 0) e some_counted), sym (ap (λ (i : ℕ). same_states s (st i) states) e) ∙ ks) (ap suc (sym e))
+    met_step fuel j l (inr e) = go (eqb (count_at sum j) 0) refl (same_states s (st j) states) refl
       where
         go : (b : Bool) → eqb (count_at sum j) 0 ≡ b → (c : Bool) → same_states s (st j) states ≡ c
             → choose (not b && c) (λ _. suc j) (λ _. leader_from f list s sum states fuel j (next_link sum j)) ≡ suc k
@@ -107,28 +107,28 @@ module _ {f list sum : List ℕ} {n : ℕ} {s : Shape} {m : ℕ} (G : Grouped f 
             let r = counted_leads j l (eqb-false (count_at sum j) 0 p) in
             ap suc (one_leads f list s j k r.1 ke (same_trans s (st j) states (st k) q (same_sym s (st k) states ks)))
 
-    pub leader-met : (fuel below link mark : ℕ) → below < fuel → below ≤ n → Met sum below link k mark → leader_from f list s sum states fuel below link ≡ suc k
+    pub leader_met : (fuel below link mark : ℕ) → below < fuel → below ≤ n → Met sum below link k mark → leader_from f list s sum states fuel below link ≡ suc k
     unfolding leader_from
-    leader-met zero below link mark l b r = absurd (omega arith)
-    leader-met (suc fuel) below link mark l b r =
+    leader_met zero below link mark l b r = absurd (omega arith)
+    leader_met (suc fuel) below link mark l b r =
         let c = met_cases r in
         let e = c.1 in
         let z : suc c.0 - 1 ≡ c.0 = omega arith in
         rw (e, z, ne_eqb (suc c.0) 0 (λ x. omega arith), le-ltb below (suc c.0) (omega (arith, c.2)))
-        (met-step fuel c.0 (omega (arith, c.2)) (⊎_elim (λ x. inl x.0) (λ x. inr (leader-met fuel c.0 (next_link sum c.0) mark (omega (arith, c.2)) (omega (arith, c.2)) x)) c.3))
+        (met_step fuel c.0 (omega (arith, c.2)) (⊎_elim (λ x. inl x.0) (λ x. inr (leader_met fuel c.0 (next_link sum c.0) mark (omega (arith, c.2)) (omega (arith, c.2)) x)) c.3))
 
-    pub leader-is : leader_of f list s sum n states ≡ suc k
+    pub leader_is : leader_of f list s sum n states ≡ suc k
     unfolding leader_of
-    leader-is =
+    leader_is =
         let r = G.first k kl ke in
-        leader-met (suc n) n (head_link sum (home_of (states_mixed s states) n)) r.0 (omega arith) (omega arith)
+        leader_met (suc n) n (head_link sum (home_of (states_mixed s states) n)) r.0 (omega arith) (omega arith)
         (subst (λ (h : ℕ). Met sum n (head_link sum (home_of h n)) k r.0) (same_number s (st k) states ks) r.1)
 
   -- none is found exactly where no entry has these states
   pub no_leader : (states : List ℕ) → leader_of f list s sum n states ≡ 0 → (k : ℕ) → k < m → same_states s (st k) states ≡ true → ⊥
   no_leader states e k l q =
       let r = leader_before f list s (suc k) k (omega arith) in
-      let u = leader-is states r.0 (omega (arith, r.1)) r.2 (same_trans s (st r.0) (st k) states r.3 q) in
+      let u = leader_is states r.0 (omega (arith, r.1)) r.2 (same_trans s (st r.0) (st k) states r.3 q) in
       omega arith
 
   pub leader_leads : (states : List ℕ) (j : ℕ) → leader_of f list s sum n states ≡ suc j → Leads states j

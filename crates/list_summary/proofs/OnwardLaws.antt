@@ -24,7 +24,7 @@ use Rattle.list_summary.specs.Summary.{Grouped, Summed}
 use Rattle.list_summary.specs.Walks.{Left, ahead, Led, Onward}
 use Rattle.list_summary.proofs.ChainLaws.{met_cases, met_none, met_past}
 use Rattle.list_summary.proofs.GroupLaws.{true_false, leader_before, same_trans}
-use Rattle.list_summary.proofs.LeaderLaws.{leader-is}
+use Rattle.list_summary.proofs.LeaderLaws.{leader_is}
 
 -- the code's test of a link: its mark and the signature of the entry
 pub mark_met : (x y : ℕ) (b : Bool) {r : Bool} → r ≡ (eqb x y && b) → r ≡ true → x ≡ y
@@ -128,12 +128,12 @@ module _ {f list sum : List ℕ} {n : ℕ} {s : Shape} (Z : Summed f list sum n 
     (agrees : (k : ℕ) → k < n → test k ≡ true → Agrees (number_of s (cube_at f list k)) number)
     (contained : (k : ℕ) → k < n → test k ≡ true → Contained (signature_in (number_of s (cube_at f list k))) (signature_in number))
     (same : (k : ℕ) → k < n → test k ≡ true → same_states s (states_at f list s k) states ≡ true) where
-  pub all-walked : ((k : ℕ) → Left f list sum n s states number n (head_link sum (home_of number n)) false k → test k ≡ false) → (k : ℕ) → k < n → test k ≡ false
-  all-walked g k l = go (test k) refl (leads f list s k) refl
+  pub all_walked : ((k : ℕ) → Left f list sum n s states number n (head_link sum (home_of number n)) false k → test k ≡ false) → (k : ℕ) → k < n → test k ≡ false
+  all_walked g k l = go (test k) refl (leads f list s k) refl
     where
       go : (b : Bool) → test k ≡ b → (x : Bool) → leads f list s k ≡ x → b ≡ false
       go false e x q = refl
-      go true e true q = absurd (true_false (sym e ∙ g k (inr (refl, leader-is Z.grouped states k l q (same k l e)))))
+      go true e true q = absurd (true_false (sym e ∙ g k (inr (refl, leader_is Z.grouped states k l q (same k l e)))))
       go true e false q =
           let r = agrees k l e in
           absurd (true_false (sym e ∙ g k (inl (

@@ -42,18 +42,18 @@ module _ (number n : ℕ) where
     abbrev y : ℕ
     y = number / 2 ^ count_leading_zeros 64 (n - 1)
 
-    pub home-low : number / 2 ^ count_leading_zeros 64 (n - 1) < n → number / 2 ^ count_leading_zeros 64 (n - 1) ≡ home_of number n
+    pub home_low : number / 2 ^ count_leading_zeros 64 (n - 1) < n → number / 2 ^ count_leading_zeros 64 (n - 1) ≡ home_of number n
     unfolding home_of
-    home-low b = rw (le-ltb n 2 l, lt-ltb y n b)
+    home_low b = rw (le-ltb n 2 l, lt-ltb y n b)
 
     module _ (b : n ≤ number / 2 ^ count_leading_zeros 64 (n - 1)) where
-      pub home-high : number / 2 ^ count_leading_zeros 64 (n - 1) - n < n → number / 2 ^ count_leading_zeros 64 (n - 1) - n ≡ home_of number n
+      pub home_high : number / 2 ^ count_leading_zeros 64 (n - 1) - n < n → number / 2 ^ count_leading_zeros 64 (n - 1) - n ≡ home_of number n
       unfolding home_of
-      home-high d = rw (le-ltb n 2 l, le-ltb y n b, lt-ltb (y - n) n d)
+      home_high d = rw (le-ltb n 2 l, le-ltb y n b, lt-ltb (y - n) n d)
 
-      pub home-none : n ≤ number / 2 ^ count_leading_zeros 64 (n - 1) - n → 0 ≡ home_of number n
+      pub home_none : n ≤ number / 2 ^ count_leading_zeros 64 (n - 1) - n → 0 ≡ home_of number n
       unfolding home_of
-      home-none d = rw (le-ltb n 2 l, le-ltb y n b, le-ltb (y - n) n d)
+      home_none d = rw (le-ltb n 2 l, le-ltb y n b, le-ltb (y - n) n d)
 
 -- ---- the stores of the code
 

@@ -103,34 +103,34 @@ module _ (sum : List ℕ) (n : ℕ) (room : 8 * n ≤ length sum) where
     led : List ℕ
     led = put_word sum (2 * home) (with_link (word sum (2 * home)) (link_to k mark))
 
-    link-small : link_to k mark < 4194304
-    link-small = omega arith
+    link_small : link_to k mark < 4194304
+    link_small = omega arith
 
-    old-small : head_link sum home < 4194304
+    old_small : head_link sum home < 4194304
     unfolding head_link
-    old-small = omega arith
+    old_small = omega arith
 
-    led-room : 8 * n ≤ length led
+    led_room : 8 * n ≤ length led
     unfolding led
-    led-room = omega (arith, put_length sum (2 * home) (with_link (word sum (2 * home)) (link_to k mark)))
+    led_room = omega (arith, put_length sum (2 * home) (with_link (word sum (2 * home)) (link_to k mark)))
 
     pub hung_length : length (hung sum home k mark) ≡ length sum
     unfolding hung
     hung_length = simp put_length
 
-    pub hung-head : (j : ℕ) → head_link (hung sum home k mark) j ≡ put (head_link sum) home (link_to k mark) j
+    pub hung_head : (j : ℕ) → head_link (hung sum home k mark) j ≡ put (head_link sum) home (link_to k mark) j
     unfolding hung head_link led
-    hung-head j =
-        ap lower (second_not led k (with_link (word led (2 * k + 1)) (head_link sum home)) j) ∙ ap lower (first_word sum n room home (with_link (word sum (2 * home)) (link_to k mark)) hl (link_of (word sum (2 * home)) (link_to k mark) link-small).2 j)
+    hung_head j =
+        ap lower (second_not led k (with_link (word led (2 * k + 1)) (head_link sum home)) j) ∙ ap lower (first_word sum n room home (with_link (word sum (2 * home)) (link_to k mark)) hl (link_of (word sum (2 * home)) (link_to k mark) link_small).2 j)
         ∙ put_ap lower (λ i. word sum (2 * i)) home (with_link (word sum (2 * home)) (link_to k mark)) j
-        ∙ ap (λ (x : ℕ). put (λ i. word sum (2 * i) % 4194304) home x j) (link_of (word sum (2 * home)) (link_to k mark) link-small).0
+        ∙ ap (λ (x : ℕ). put (λ i. word sum (2 * i) % 4194304) home x j) (link_of (word sum (2 * home)) (link_to k mark) link_small).0
 
-    pub hung-next : (j : ℕ) → next_link (hung sum home k mark) j ≡ put (next_link sum) k (head_link sum home) j
+    pub hung_next : (j : ℕ) → next_link (hung sum home k mark) j ≡ put (next_link sum) k (head_link sum home) j
     unfolding hung next_link led
-    hung-next j =
+    hung_next j =
         let W = with_link (word led (2 * k + 1)) (head_link sum home) in
-        let r = link_of (word led (2 * k + 1)) (head_link sum home) old-small in
-        ap lower (second_word led n led-room k W kl r.2 j) ∙ put_ap lower (λ i. word led (2 * i + 1)) k W j
+        let r = link_of (word led (2 * k + 1)) (head_link sum home) old_small in
+        ap lower (second_word led n led_room k W kl r.2 j) ∙ put_ap lower (λ i. word led (2 * i + 1)) k W j
         ∙ put_ext (λ i. lower (word led (2 * i + 1))) (λ i. lower (word sum (2 * i + 1))) k (lower W) (head_link sum home) j r.0
         (ap lower (first_not sum home (with_link (word sum (2 * home)) (link_to k mark)) j))
 
@@ -138,7 +138,7 @@ module _ (sum : List ℕ) (n : ℕ) (room : 8 * n ≤ length sum) where
     unfolding hung led
     low_digit j =
         let W = with_link (word sum (2 * home)) (link_to k mark) in
-        let r = link_of (word sum (2 * home)) (link_to k mark) link-small in
+        let r = link_of (word sum (2 * home)) (link_to k mark) link_small in
         ap upper (second_not led k (with_link (word led (2 * k + 1)) (head_link sum home)) j) ∙ ap upper (first_word sum n room home W hl r.2 j)
         ∙ put_ap upper (λ i. word sum (2 * i)) home W j ∙ put_own (λ i. upper (word sum (2 * i))) home (upper W) j r.1
 
@@ -146,37 +146,37 @@ module _ (sum : List ℕ) (n : ℕ) (room : 8 * n ≤ length sum) where
     unfolding hung led
     high_digit j =
         let W = with_link (word led (2 * k + 1)) (head_link sum home) in
-        let r = link_of (word led (2 * k + 1)) (head_link sum home) old-small in
-        ap upper (second_word led n led-room k W kl r.2 j) ∙ put_ap upper (λ i. word led (2 * i + 1)) k W j ∙ put_own (λ i. upper (word led (2 * i + 1))) k (upper W) j r.1
+        let r = link_of (word led (2 * k + 1)) (head_link sum home) old_small in
+        ap upper (second_word led n led_room k W kl r.2 j) ∙ put_ap upper (λ i. word led (2 * i + 1)) k W j ∙ put_own (λ i. upper (word led (2 * i + 1))) k (upper W) j r.1
         ∙ ap upper (first_not sum home (with_link (word sum (2 * home)) (link_to k mark)) j)
 
-    hung-field : (j : ℕ) → field_at (hung sum home k mark) j ≡ field_at sum j
+    hung_field : (j : ℕ) → field_at (hung sum home k mark) j ≡ field_at sum j
     unfolding field_at
-    hung-field j = ap₂ (λ a b. a + 1024 * b) (low_digit j) (high_digit j)
+    hung_field j = ap₂ (λ a b. a + 1024 * b) (low_digit j) (high_digit j)
 
-    pub hung-count : (j : ℕ) → count_at (hung sum home k mark) j ≡ count_at sum j
+    pub hung_count : (j : ℕ) → count_at (hung sum home k mark) j ≡ count_at sum j
     unfolding count_at
-    hung-count j = ap number_in (hung-field j)
+    hung_count j = ap number_in (hung_field j)
 
-    pub hung-signature : (j : ℕ) → signature_at (hung sum home k mark) j ≡ signature_at sum j
+    pub hung_signature : (j : ℕ) → signature_at (hung sum home k mark) j ≡ signature_at sum j
     unfolding signature_at
-    hung-signature j = ap (λ (x : ℕ). x % 262144) (hung-field j)
+    hung_signature j = ap (λ (x : ℕ). x % 262144) (hung_field j)
 
   module _ (k x : ℕ) (kl : k < n) (b : x < 1048576) where
     low : List ℕ
     low = put_word sum (2 * k) (with_digit (word sum (2 * k)) (x % 1024))
 
-    low-room : 8 * n ≤ length low
+    low_room : 8 * n ≤ length low
     unfolding low
-    low-room = omega (arith, put_length sum (2 * k) (with_digit (word sum (2 * k)) (x % 1024)))
+    low_room = omega (arith, put_length sum (2 * k) (with_digit (word sum (2 * k)) (x % 1024)))
 
-    pub counted-length : length (put_field sum k x) ≡ length sum
+    pub counted_length : length (put_field sum k x) ≡ length sum
     unfolding put_field
-    counted-length = simp put_length
+    counted_length = simp put_length
 
-    pub counted-head : (j : ℕ) → head_link (put_field sum k x) j ≡ head_link sum j
+    pub counted_head : (j : ℕ) → head_link (put_field sum k x) j ≡ head_link sum j
     unfolding put_field head_link low
-    counted-head j =
+    counted_head j =
         let W = with_digit (word sum (2 * k)) (x % 1024) in
         let r = digit_of (word sum (2 * k)) (x % 1024) (omega arith) in
         ap lower (second_not low k (with_digit (word low (2 * k + 1)) (x / 1024 % 1024)) j) ∙ ap lower (first_word sum n room k W kl r.2 j)
@@ -187,45 +187,45 @@ module _ (sum : List ℕ) (n : ℕ) (room : 8 * n ≤ length sum) where
     counted_next j =
         let W = with_digit (word low (2 * k + 1)) (x / 1024 % 1024) in
         let r = digit_of (word low (2 * k + 1)) (x / 1024 % 1024) (omega arith) in
-        ap lower (second_word low n low-room k W kl r.2 j) ∙ put_ap lower (λ i. word low (2 * i + 1)) k W j ∙ put_own (λ i. lower (word low (2 * i + 1))) k (lower W) j r.0
+        ap lower (second_word low n low_room k W kl r.2 j) ∙ put_ap lower (λ i. word low (2 * i + 1)) k W j ∙ put_own (λ i. lower (word low (2 * i + 1))) k (lower W) j r.0
         ∙ ap lower (first_not sum k (with_digit (word sum (2 * k)) (x % 1024)) j)
 
-    low-counted : (j : ℕ) → upper (word (put_field sum k x) (2 * j)) ≡ put (λ i. upper (word sum (2 * i))) k (x % 1024) j
+    low_counted : (j : ℕ) → upper (word (put_field sum k x) (2 * j)) ≡ put (λ i. upper (word sum (2 * i))) k (x % 1024) j
     unfolding put_field low
-    low-counted j =
+    low_counted j =
         let W = with_digit (word sum (2 * k)) (x % 1024) in
         let r = digit_of (word sum (2 * k)) (x % 1024) (omega arith) in
         ap upper (second_not low k (with_digit (word low (2 * k + 1)) (x / 1024 % 1024)) j) ∙ ap upper (first_word sum n room k W kl r.2 j)
         ∙ put_ap upper (λ i. word sum (2 * i)) k W j ∙ put_ext (λ i. upper (word sum (2 * i))) (λ i. upper (word sum (2 * i))) k (upper W) (x % 1024) j r.1 refl
 
-    high-counted : (j : ℕ) → upper (word (put_field sum k x) (2 * j + 1)) ≡ put (λ i. upper (word sum (2 * i + 1))) k (x / 1024) j
+    high_counted : (j : ℕ) → upper (word (put_field sum k x) (2 * j + 1)) ≡ put (λ i. upper (word sum (2 * i + 1))) k (x / 1024) j
     unfolding put_field low
-    high-counted j =
+    high_counted j =
         let W = with_digit (word low (2 * k + 1)) (x / 1024 % 1024) in
         let r = digit_of (word low (2 * k + 1)) (x / 1024 % 1024) (omega arith) in
         let e : upper W ≡ x / 1024 = r.1 ∙ omega arith in
-        ap upper (second_word low n low-room k W kl r.2 j) ∙ put_ap upper (λ i. word low (2 * i + 1)) k W j
+        ap upper (second_word low n low_room k W kl r.2 j) ∙ put_ap upper (λ i. word low (2 * i + 1)) k W j
         ∙ put_ext (λ i. upper (word low (2 * i + 1))) (λ i. upper (word sum (2 * i + 1))) k (upper W) (x / 1024) j e
         (ap upper (first_not sum k (with_digit (word sum (2 * k)) (x % 1024)) j))
 
-    put-field : (j : ℕ) → field_at (put_field sum k x) j ≡ put (field_at sum) k x j
+    put_field_lem : (j : ℕ) → field_at (put_field sum k x) j ≡ put (field_at sum) k x j
     unfolding field_at
-    put-field j = ap₂ (λ a b. a + 1024 * b) (low-counted j) (high-counted j) ∙ go (eqb j k)
+    put_field_lem j = ap₂ (λ a b. a + 1024 * b) (low_counted j) (high_counted j) ∙ go (eqb j k)
       where
         go : (b : Bool) → cond b (x % 1024) (upper (word sum (2 * j))) + 1024 * cond b (x / 1024) (upper (word sum (2 * j + 1)))
             ≡ cond b x (upper (word sum (2 * j)) + 1024 * upper (word sum (2 * j + 1)))
         go true = omega arith
         go false = refl
 
-    pub counted-count : x < 786432 → (j : ℕ) → count_at (put_field sum k x) j ≡ put (count_at sum) k x j
+    pub counted_count : x < 786432 → (j : ℕ) → count_at (put_field sum k x) j ≡ put (count_at sum) k x j
     unfolding count_at
-    counted-count l j = ap number_in (put-field j) ∙ put_ap number_in (field_at sum) k x j ∙ ap (λ (y : ℕ). put (λ i. number_in (field_at sum i)) k y j) (rw (lt-ltb x 786432 l) refl)
+    counted_count l j = ap number_in (put_field_lem j) ∙ put_ap number_in (field_at sum) k x j ∙ ap (λ (y : ℕ). put (λ i. number_in (field_at sum i)) k y j) (rw (lt-ltb x 786432 l) refl)
 
     -- a signature is no number
-    pub signed-count : 786432 ≤ x → (j : ℕ) → count_at (put_field sum k x) j ≡ put (count_at sum) k 0 j
+    pub signed_count : 786432 ≤ x → (j : ℕ) → count_at (put_field sum k x) j ≡ put (count_at sum) k 0 j
     unfolding count_at
-    signed-count l j = ap number_in (put-field j) ∙ put_ap number_in (field_at sum) k x j ∙ ap (λ (y : ℕ). put (λ i. number_in (field_at sum i)) k y j) (rw (le-ltb x 786432 l) refl)
+    signed_count l j = ap number_in (put_field_lem j) ∙ put_ap number_in (field_at sum) k x j ∙ ap (λ (y : ℕ). put (λ i. number_in (field_at sum i)) k y j) (rw (le-ltb x 786432 l) refl)
 
-    pub put-signature : (j : ℕ) → signature_at (put_field sum k x) j ≡ put (signature_at sum) k (x % 262144) j
+    pub put_signature : (j : ℕ) → signature_at (put_field sum k x) j ≡ put (signature_at sum) k (x % 262144) j
     unfolding signature_at
-    put-signature j = ap (λ (y : ℕ). y % 262144) (put-field j) ∙ put_ap (λ (y : ℕ). y % 262144) (field_at sum) k x j
+    put_signature j = ap (λ (y : ℕ). y % 262144) (put_field_lem j) ∙ put_ap (λ (y : ℕ). y % 262144) (field_at sum) k x j

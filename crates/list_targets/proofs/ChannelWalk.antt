@@ -69,9 +69,9 @@ module _ (s : Shape) (leaf : Leaf) where
     abbrev from : List ℕ → ℕ → List Configuration
     from new q = choice_cubes s leaf ms d places p v new q
 
-    pub choice-branch : (new : List ℕ) (q : ℕ) → q < s.processes → q < length new → get_or places q 0 ≡ 0 → from new q ≡ from new (q + 1) ++ from (set new q (d + 1)) (q + 1)
+    pub choice_branch : (new : List ℕ) (q : ℕ) → q < s.processes → q < length new → get_or places q 0 ≡ 0 → from new q ≡ from new (q + 1) ++ from (set new q (d + 1)) (q + 1)
     unfolding choice_cubes
-    choice-branch new q l m e =
+    choice_branch new q l m e =
         ap (λ (k : ℕ). for_each (choices_from place (suc d) k q (λ k. get_or new k 0)) more) {x = s.processes - q} {y = suc (s.processes - suc q)} (omega arith)
         ∙ at (eqb (place q) 0) (eq-eqb (place q) 0 e)
         ∙ each_append (choices_from place (suc d) (s.processes - suc q) (suc q) (λ k. get_or new k 0)) (choices_from place (suc d) (s.processes - suc q) (suc q) (put (λ k. get_or new k 0) q (suc d))) more
@@ -85,9 +85,9 @@ module _ (s : Shape) (leaf : Leaf) where
         ]) more ≡ for_each (choices_from place (suc d) (s.processes - suc q) (suc q) (λ k. get_or new k 0) ++ choices_from place (suc d) (s.processes - suc q) (suc q) (put (λ k. get_or new k 0) q (suc d))) more
         at b f = rw f refl
 
-    pub choice-skip : (new : List ℕ) (q : ℕ) → q < s.processes → get_or places q 0 ≢ 0 → from new q ≡ from new (q + 1)
+    pub choice_skip : (new : List ℕ) (q : ℕ) → q < s.processes → get_or places q 0 ≢ 0 → from new q ≡ from new (q + 1)
     unfolding choice_cubes
-    choice-skip new q l e =
+    choice_skip new q l e =
         ap (λ (k : ℕ). for_each (choices_from place (suc d) k q (λ k. get_or new k 0)) more) {x = s.processes - q} {y = suc (s.processes - suc q)} (omega arith)
         ∙ at (eqb (place q) 0) (ne_eqb (place q) 0 e)
         ∙ ap (λ (k : ℕ). for_each (choices_from place (suc d) (s.processes - k) k (λ k. get_or new k 0)) more) (sym (add-one q))
@@ -98,9 +98,9 @@ module _ (s : Shape) (leaf : Leaf) where
         ]) more ≡ for_each (choices_from place (suc d) (s.processes - suc q) (suc q) (λ k. get_or new k 0)) more
         at b f = rw f refl
 
-    choice-end : (new : List ℕ) (q : ℕ) → s.processes ≤ q → from new q ≡ more (λ k. get_or new k 0)
+    choice_end : (new : List ℕ) (q : ℕ) → s.processes ≤ q → from new q ≡ more (λ k. get_or new k 0)
     unfolding choice_cubes
-    choice-end new q l =
+    choice_end new q l =
         ap (λ (k : ℕ). for_each (choices_from place (suc d) k q (λ k. get_or new k 0)) more) {x = s.processes - q} {y = 0} (omega arith)
         ∙ each_one (λ k. get_or new k 0) more
 
@@ -116,13 +116,13 @@ module _ (s : Shape) (leaf : Leaf) where
     picked : (new : ℕ → ℕ) (b c : Bool) → b ≡ c → ◌≡◌ {A = List Configuration} (elim b [ true ↦ after new | false ↦ [] ]) (elim c [ true ↦ after new | false ↦ [] ])
     picked new b c e = rw e refl
 
-    pub choice-refused : (new : List ℕ) (q : ℕ) → s.processes ≤ q → allows new ≡ false → from new q ≡ []
-    choice-refused new q l e = choice-end new q l ∙ picked (λ k. get_or new k 0) (allows new) false e
+    pub choice_refused : (new : List ℕ) (q : ℕ) → s.processes ≤ q → allows new ≡ false → from new q ≡ []
+    choice_refused new q l e = choice_end new q l ∙ picked (λ k. get_or new k 0) (allows new) false e
 
-    pub choice-allowed : (new : List ℕ) (q : ℕ) → s.processes ≤ q → allows new ≡ true → d < length ms → from new q ≡ outline_cubes s leaf (set ms d next) (d + 1) new
+    pub choice_allowed : (new : List ℕ) (q : ℕ) → s.processes ≤ q → allows new ≡ true → d < length ms → from new q ≡ outline_cubes s leaf (set ms d next) (d + 1) new
     unfolding outline_cubes
-    choice-allowed new q l e m =
-        choice-end new q l ∙ picked (λ k. get_or new k 0) (allows new) true e
+    choice_allowed new q l e m =
+        choice_end new q l ∙ picked (λ k. get_or new k 0) (allows new) true e
         ∙ ap (λ (seen : List Message). for_each (outlines S (longest S - d) (suc d) seen (λ k. get_or new k 0)) (cubes_after leaf (take d ms ++ (next ∷ []))))
         (ap₂ {A = Message} {B = List Message} (λ x xs. x ∷ xs) (sym (get_or-set_same ms d next no_message m))
         (channel_equal ms (set ms d next) d (λ i j. sym (get_or-set_other ms d i next no_message (λ n. omega arith)))))
@@ -158,34 +158,34 @@ module _ (s : Shape) (leaf : Leaf) where
     opened : (fuel : ℕ) (b c : Bool) → b ≡ c → ◌≡◌ {A = List Outline} (elim b [ true ↦ record { channel = []; place = at_place } ∷ [] | false ↦ labels fuel ]) (elim c [ true ↦ record { channel = []; place = at_place } ∷ [] | false ↦ labels fuel ])
     opened fuel b c e = rw e refl
 
-    fuel-left : d ≤ longest S → outline_cubes s leaf ms d places ≡ for_each (elim placed [ true ↦ record { channel = []; place = at_place } ∷ [] | false ↦ labels (longest S - d) ]) group
+    fuel_left : d ≤ longest S → outline_cubes s leaf ms d places ≡ for_each (elim placed [ true ↦ record { channel = []; place = at_place } ∷ [] | false ↦ labels (longest S - d) ]) group
     unfolding outline_cubes
-    fuel-left l = ap (λ (fuel : ℕ). for_each (outlines S fuel d (channel_of ms d) at_place) group) {x = suc (longest S) - d} {y = suc (longest S - d)} (omega arith)
+    fuel_left l = ap (λ (fuel : ℕ). for_each (outlines S fuel d (channel_of ms d) at_place) group) {x = suc (longest S) - d} {y = suc (longest S - d)} (omega arith)
 
-    pub outline-done : d ≤ longest S → placed ≡ true → outline_cubes s leaf ms d places ≡ leaf (outline_of ms d places)
-    outline-done l e =
-        fuel-left l ∙ ap (λ (os : List Outline). for_each os group) (opened (longest S - d) placed true e)
+    pub outline_done : d ≤ longest S → placed ≡ true → outline_cubes s leaf ms d places ≡ leaf (outline_of ms d places)
+    outline_done l e =
+        fuel_left l ∙ ap (λ (os : List Outline). for_each os group) (opened (longest S - d) placed true e)
         ∙ each_one (record { channel = []; place = at_place }) group
         ∙ ap (λ (xs : List Message). leaf (record { channel = xs; place = at_place })) (append-nil (take d ms))
 
-    open-labels : d ≤ longest S → placed ≡ false → outline_cubes s leaf ms d places ≡ for_each (labels (longest S - d)) group
-    open-labels l e = fuel-left l ∙ ap (λ (os : List Outline). for_each os group) (opened (longest S - d) placed false e)
+    open_labels : d ≤ longest S → placed ≡ false → outline_cubes s leaf ms d places ≡ for_each (labels (longest S - d)) group
+    open_labels l e = fuel_left l ∙ ap (λ (os : List Outline). for_each os group) (opened (longest S - d) placed false e)
 
     no_body : (p v : ℕ) (new : ℕ → ℕ) (b : Bool) → ◌≡◌ {A = List Outline} (elim b [ true ↦ map (longer p v) (outlines S 0 (suc d) (any_message S p v ∷ channel_of ms d) new) | false ↦ [] ]) []
     no_body p v new true = refl
     no_body p v new false = refl
 
     -- no channel is as long
-    pub outline-over : d ≤ longest S → placed ≡ false → longest S ≤ d → outline_cubes s leaf ms d places ≡ []
-    outline-over l e m =
-        open-labels l e
+    pub outline_over : d ≤ longest S → placed ≡ false → longest S ≤ d → outline_cubes s leaf ms d places ≡ []
+    outline_over l e m =
+        open_labels l e
         ∙ ap (λ (fuel : ℕ). for_each (labels fuel) group) {x = longest S - d} {y = 0} (omega arith)
         ∙ ap (λ (os : List Outline). for_each os group) (below_none s.processes _ (λ p. below_none s.variables _ (λ v. each_none (choices s.processes at_place (suc d)) (body 0 p v)
         (λ new. no_body p v new (allowed S (channel_of ms d) at_place new p v)))))
 
     -- a message before those of an outline
-    one-longer : (p v : ℕ) (o : Outline) → group (longer p v o) ≡ cubes_after leaf (take d ms ++ (any_message S p v ∷ [])) o
-    one-longer p v o = ap (λ (xs : List Message). leaf (record { channel = xs; place = o.place }))
+    one_longer : (p v : ℕ) (o : Outline) → group (longer p v o) ≡ cubes_after leaf (take d ms ++ (any_message S p v ∷ [])) o
+    one_longer p v o = ap (λ (xs : List Message). leaf (record { channel = xs; place = o.place }))
         (sym (append_snoc (take d ms) (any_message S p v) o.channel))
 
     body_is : (p v : ℕ) (new : ℕ → ℕ) → for_each (body (longest S - d) p v new) group ≡ label_cubes s leaf ms d places p v new
@@ -195,25 +195,25 @@ module _ (s : Shape) (leaf : Leaf) where
             ≡ (elim b [ true ↦ for_each (outlines S (longest S - d) (suc d) (any_message S p v ∷ channel_of ms d) new) (cubes_after leaf (take d ms ++ (any_message S p v ∷ []))) | false ↦ [] ])
         at true =
             each_map (longer p v) (outlines S (longest S - d) (suc d) (any_message S p v ∷ channel_of ms d) new) group
-            ∙ ap (for_each (outlines S (longest S - d) (suc d) (any_message S p v ∷ channel_of ms d) new)) (fun_ext (one-longer p v))
+            ∙ ap (for_each (outlines S (longest S - d) (suc d) (any_message S p v ∷ channel_of ms d) new)) (fun_ext (one_longer p v))
         at false = refl
 
-    choices-are : (p v : ℕ) → for_each (for_each (choices s.processes at_place (suc d)) (body (longest S - d) p v)) group ≡ choice_cubes s leaf ms d places p v places 0
+    choices_are : (p v : ℕ) → for_each (for_each (choices s.processes at_place (suc d)) (body (longest S - d) p v)) group ≡ choice_cubes s leaf ms d places p v places 0
     unfolding choice_cubes
-    choices-are p v =
+    choices_are p v =
         each_each (choices s.processes at_place (suc d)) (body (longest S - d) p v) group
         ∙ ap (for_each (choices s.processes at_place (suc d))) (fun_ext (body_is p v))
         ∙ ap (λ (ns : List (ℕ → ℕ)). for_each ns (label_cubes s leaf ms d places p v)) (choices_all s.processes (suc d) at_place)
         ∙ ap (λ (k : ℕ). for_each (choices_from at_place (suc d) k 0 at_place) (label_cubes s leaf ms d places p v)) {x = s.processes} {y = s.processes - 0} (omega arith)
 
-    pub outline-labels : d ≤ longest S → placed ≡ false
+    pub outline_labels : d ≤ longest S → placed ≡ false
         → outline_cubes s leaf ms d places ≡ for_below s.processes (λ p. for_below s.variables (λ v. choice_cubes s leaf ms d places p v places 0))
-    outline-labels l e =
-        open-labels l e
+    outline_labels l e =
+        open_labels l e
         ∙ each_below s.processes (λ p. for_below s.variables (λ v. for_each (choices s.processes at_place (suc d)) (body (longest S - d) p v))) group
         ∙ ap (for_below s.processes) (fun_ext (λ p.
         each_below s.variables (λ v. for_each (choices s.processes at_place (suc d)) (body (longest S - d) p v)) group
-        ∙ ap (for_below s.variables) (fun_ext (choices-are p))))
+        ∙ ap (for_below s.variables) (fun_ext (choices_are p))))
 
   -- ---- all of them
 

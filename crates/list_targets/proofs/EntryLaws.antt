@@ -27,7 +27,7 @@ use Rattle.file_contents.specs.declared.entry.Cube.{Cube}
 use Rattle.file_contents.specs.declared.entry.Loaded.{Loaded}
 use Rattle.file_contents.specs.Tally.{queue_at}
 use Rattle.file_contents.specs.Cube.{no_queue, empty_queue, channel_of, queue_of, configuration_of, pushed, loads_message, loads_waiting, nothing_loaded, more_message, more_waiting, load_from, loaded, load_entry}
-use Rattle.file_contents.proofs.CubeLaws.{load-message, load-waiting, load-ends, loaded_nothing}
+use Rattle.file_contents.proofs.CubeLaws.{load_message, load_waiting, load_ends, loaded_nothing}
 use Rattle.file_contents.proofs.CubeParts.{channel_length, channel_equal, queue_of_lem, queue_none}
 use Rattle.file_again.specs.Again.{offset_at, cube_at, entries_of}
 use Rattle.list_key.proofs.RoleLaws.{labels}
@@ -67,11 +67,11 @@ load_room (suc bytes) f at l r = go (load_room bytes) (loads_message f at l.coun
   where
     go : ((f : List ℕ) (at : ℕ) (l : Loaded) → Room l.queues → Room (load_from bytes f at l).queues) → (b : Bool) → loads_message f at l.count ≡ b → (d : Bool) → loads_waiting f at ≡ d
         → Room (load_from (suc bytes) f at l).queues
-    go rec true e d x = subst (λ (k : Loaded). Room k.queues) (sym (load-message f at l bytes e)) (rec f (at + 7) (more_message f at l) r)
+    go rec true e d x = subst (λ (k : Loaded). Room k.queues) (sym (load_message f at l bytes e)) (rec f (at + 7) (more_message f at l) r)
     go rec false e true x =
-        subst (λ (k : Loaded). Room k.queues) (sym (load-waiting f at l bytes e x))
+        subst (λ (k : Loaded). Room k.queues) (sym (load_waiting f at l bytes e x))
         (rec f (at + 4) (more_waiting f at l) (put_room l.queues (queue_at f at) (pushed (get_or l.queues (queue_at f at) no_queue) (byte f (at + 3))) (push_room (get_or l.queues (queue_at f at) no_queue) (byte f (at + 3)) (r (queue_at f at))) r))
-    go rec false e false x = subst (λ (k : Loaded). Room k.queues) (sym (load-ends f at l (suc bytes) e x)) r
+    go rec false e false x = subst (λ (k : Loaded). Room k.queues) (sym (load_ends f at l (suc bytes) e x)) r
 
 nothing_room : Room nothing_loaded.queues
 nothing_room i = elim (dec_lt i 16) [

@@ -41,17 +41,17 @@ module _ {s : Shape} {c : Cube} {p v : ℕ} (w : AtQueue s c p v) where
     narrow : v < 4
     narrow = omega (arith, w.small.variables)
 
-    pub next-waiting : {full : Cube} → full ≡ with_waiting c p v → AtQueue s full p (v + 1)
-    next-waiting g = subst (λ (x : Cube). AtQueue s x p (v + 1)) (sym g) (record { small = w.small; process = w.process; variable = omega arith; roomy = roomy_waiting c p v low narrow w.roomy })
+    pub next_waiting : {full : Cube} → full ≡ with_waiting c p v → AtQueue s full p (v + 1)
+    next_waiting g = subst (λ (x : Cube). AtQueue s x p (v + 1)) (sym g) (record { small = w.small; process = w.process; variable = omega arith; roomy = roomy_waiting c p v low narrow w.roomy })
 
     module _ {f list sum : List ℕ} {k : ℕ} {a : Bool} (empty : Judges f list sum k s (queue_cubes s (configuration_of c) p (v + 1)) a) where
-      pub empty-not : a ≡ false → Judges f list sum k s (queue_cubes s (configuration_of c) p v) a
-      empty-not e =
+      pub empty_not : a ≡ false → Judges f list sum k s (queue_cubes s (configuration_of c) p v) a
+      empty_not e =
           judges_is (sym e)
           (judges_same (cubes_branch s c p v low narrow w.roomy.queues l) (judges_first (queue_cubes s (configuration_of (with_waiting c p v)) p (v + 1)) (judges_is e empty)))
 
-      pub waiting-too : {b : Bool} {full : Cube} → a ≡ true → full ≡ with_waiting c p v → Judges f list sum k s (queue_cubes s (configuration_of full) p (v + 1)) b → Judges f list sum k s (queue_cubes s (configuration_of c) p v) b
-      waiting-too {b} e g x =
+      pub waiting_too : {b : Bool} {full : Cube} → a ≡ true → full ≡ with_waiting c p v → Judges f list sum k s (queue_cubes s (configuration_of full) p (v + 1)) b → Judges f list sum k s (queue_cubes s (configuration_of c) p v) b
+      waiting_too {b} e g x =
           judges_same (cubes_branch s c p v low narrow w.roomy.queues l)
           (judges_both (judges_is e empty) (subst (λ (y : Cube). Judges f list sum k s (queue_cubes s (configuration_of y) p (v + 1)) b) g x))
 

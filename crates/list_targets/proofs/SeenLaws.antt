@@ -3,7 +3,7 @@ use Prim.Native.Nat.{ℕ, zero, suc, ◌+◌, ◌*◌, ◌-◌, ◌<◌, ◌≤�
 use mathlib.Core.Path.{fun_ext, ◌≡◌, refl, sym, ap, ap₂, subst, ◌∙◌}
 use mathlib.Core.Bool.{Bool, true, false, cond, not, ◌&&◌}
 use mathlib.Core.List.Memᴰ
-use mathlib.Core.List.{List, [], ◌∷◌, ◌++◌, map, map-append, Memᴰ}
+use mathlib.Core.List.{List, [], ◌∷◌, ◌++◌, map, map_append, Memᴰ}
 use native.Mathlib.Omega.{arith}
 use native.Mathlib.Numerals.{add-one}
 use lib.ListN.{length, get_or}
@@ -109,25 +109,25 @@ module _ {s : Shape} {c : Cube} {ws : List ℕ} {aim : Aim} (w : Seeing s c ws a
     pub value_before : (i : ℕ) {l : ℕ} → l ≡ get_or ws (4 * aim.process + aim.variable) 0 → i + 1 < l → Judges f list sum n s (valued_at (configuration_of c) aim i) true
     value_before i e m = judges_same (none_kept (configuration_of c) (leb (last_of c aim) (i + 1)) (with_seen c aim i) (lt-leb (last_of c aim) (i + 1) (subst (λ (k : ℕ). i + 1 < k) (last_is e) m))) judges_none
 
-    pub value-one : (i : ℕ) {l : ℕ} {r : Cube} {a : Bool} → l ≡ get_or ws (4 * aim.process + aim.variable) 0 → l ≤ i + 1 → CubeFor r (with_memory (configuration_of c) (with_seen c aim i))
+    pub value_one : (i : ℕ) {l : ℕ} {r : Cube} {a : Bool} → l ≡ get_or ws (4 * aim.process + aim.variable) 0 → l ≤ i + 1 → CubeFor r (with_memory (configuration_of c) (with_seen c aim i))
         → (Searchable f list sum n s r → a ≡ held (shape_of s) (entries_of f list n) (configuration_of r)) → Judges f list sum n s (valued_at (configuration_of c) aim i) a
-    value-one i e m d q =
+    value_one i e m d q =
         judges_same (one_kept (configuration_of c) (leb (last_of c aim) (i + 1)) (with_seen c aim i) (le-leb (last_of c aim) (i + 1) (subst (λ (k : ℕ). k ≤ i + 1) (last_is e) m))) (judges_for d q)
 
     module _ (i p v : ℕ) {l o : ℕ} {b : Bool} (x : p < s.processes) (y : v < s.variables) (d : l ≡ get_or ws (4 * aim.process + aim.variable) 0) (e : o ≡ get_or ws (4 * p + v) 0)
         (t : b ≡ (ltb l (i + 1) && leb (i + 1) o)) where
-      pub witness-none : b ≡ false → Judges f list sum n s (witnessed_at (shape_of s) (configuration_of c) aim i p v) true
-      witness-none z =
+      pub witness_none : b ≡ false → Judges f list sum n s (witnessed_at (shape_of s) (configuration_of c) aim i p v) true
+      witness_none z =
           judges_same (none_kept (configuration_of c) (ltb (last_of c aim) (i + 1) && leb (i + 1) (last_write (configuration_of c).memory p v)) (with_witness s c aim i p v) (sym (tested i p v x y d e t) ∙ z)) judges_none
 
-      pub witness-one : {r : Cube} {a : Bool} → b ≡ true → CubeFor r (with_memory (configuration_of c) (with_witness s c aim i p v))
+      pub witness_one : {r : Cube} {a : Bool} → b ≡ true → CubeFor r (with_memory (configuration_of c) (with_witness s c aim i p v))
           → (Searchable f list sum n s r → a ≡ held (shape_of s) (entries_of f list n) (configuration_of r)) → Judges f list sum n s (witnessed_at (shape_of s) (configuration_of c) aim i p v) a
-      witness-one z g q =
+      witness_one z g q =
           judges_same (one_kept (configuration_of c) (ltb (last_of c aim) (i + 1) && leb (i + 1) (last_write (configuration_of c).memory p v)) (with_witness s c aim i p v) (sym (tested i p v x y d e t) ∙ z)) (judges_for g q)
 
-    pub label-unheld : (i p v : ℕ) {a : Bool} → p < s.processes → v < s.variables → Judges f list sum n s (witnessed_at (shape_of s) (configuration_of c) aim i p v) a → a ≡ false
+    pub label_unheld : (i p v : ℕ) {a : Bool} → p < s.processes → v < s.variables → Judges f list sum n s (witnessed_at (shape_of s) (configuration_of c) aim i p v) a → a ≡ false
         → Judges f list sum n s (labelled_at (shape_of s) (configuration_of c) aim i) a
-    label-unheld i p v x y j z =
+    label_unheld i p v x y j z =
         below_not s.processes (λ r. for_below s.variables (witnessed_at (shape_of s) (configuration_of c) aim i r)) p x
         (below_not s.variables (witnessed_at (shape_of s) (configuration_of c) aim i p) v y j z) z
 
@@ -157,9 +157,9 @@ module _ (s : Shape) (aim : Aim) (c : Cube) where
 
   whole_is : whole ≡ for_below c.count (valued_at (configuration_of c) aim) ++ for_below c.count (labelled_at (shape_of s) (configuration_of c) aim)
   whole_is =
-      map-append (with_memory (configuration_of c)) (for_below (length (configuration_of c).memory.channel) (λ i. valued aim.process aim.variable aim.value (configuration_of c).memory (suc i)))
+      map_append (with_memory (configuration_of c)) (for_below (length (configuration_of c).memory.channel) (λ i. valued aim.process aim.variable aim.value (configuration_of c).memory (suc i)))
       (for_below (length (configuration_of c).memory.channel) (λ i. for_below s.processes (λ r. for_below s.variables (λ u. witnessed (shape_of s) aim.process aim.variable aim.value (configuration_of c).memory (suc i) r u))))
-      ∙ ap₂ {A = List Configuration} {B = List Configuration} ◌++◌ values_are witnesses-are
+      ∙ ap₂ {A = List Configuration} {B = List Configuration} ◌++◌ values_are witnesses_are
     where
       values_are : map (with_memory (configuration_of c)) (for_below (length (configuration_of c).memory.channel) (λ i. valued aim.process aim.variable aim.value (configuration_of c).memory (suc i)))
           ≡ for_below c.count (valued_at (configuration_of c) aim)
@@ -168,31 +168,31 @@ module _ (s : Shape) (aim : Aim) (c : Cube) where
           ∙ ap₂ {A = ℕ} {B = ℕ → List Configuration} for_below size
           (fun_ext (λ i. ap (λ (k : ℕ). map (with_memory (configuration_of c)) (valued aim.process aim.variable aim.value (configuration_of c).memory k)) (sym (add-one i))))
 
-      witnesses-are : map (with_memory (configuration_of c)) (for_below (length (configuration_of c).memory.channel) (λ i. for_below s.processes (λ r. for_below s.variables (λ u. witnessed (shape_of s) aim.process aim.variable aim.value (configuration_of c).memory (suc i) r u))))
+      witnesses_are : map (with_memory (configuration_of c)) (for_below (length (configuration_of c).memory.channel) (λ i. for_below s.processes (λ r. for_below s.variables (λ u. witnessed (shape_of s) aim.process aim.variable aim.value (configuration_of c).memory (suc i) r u))))
           ≡ for_below c.count (labelled_at (shape_of s) (configuration_of c) aim)
-      witnesses-are =
+      witnesses_are =
           map_below (with_memory (configuration_of c)) (length (configuration_of c).memory.channel) (λ i. for_below s.processes (λ r. for_below s.variables (λ u. witnessed (shape_of s) aim.process aim.variable aim.value (configuration_of c).memory (suc i) r u)))
           ∙ ap₂ {A = ℕ} {B = ℕ → List Configuration} for_below size (fun_ext (λ i. labels_are (suc i) ∙ ap labels (sym (add-one i))))
 
   module _ {b : Bool} (e : b ≡ room_for aim c.count) where
-    room-is : b ≡ room_for aim (length (configuration_of c).memory.channel)
-    room-is = e ∙ ap (room_for aim) (sym size)
+    room_is : b ≡ room_for aim (length (configuration_of c).memory.channel)
+    room_is = e ∙ ap (room_for aim) (sym size)
 
     pub no_room : {f list sum : List ℕ} {n : ℕ} → b ≡ false → Judges f list sum n s (seen_at (shape_of s) aim (configuration_of c)) true
-    no_room z = judges_same (dropped whole (room_for aim (length (configuration_of c).memory.channel)) (sym room-is ∙ z)) judges_none
+    no_room z = judges_same (dropped whole (room_for aim (length (configuration_of c).memory.channel)) (sym room_is ∙ z)) judges_none
 
     seen_parts : {f list sum : List ℕ} {n : ℕ} {a : Bool} → b ≡ true
         → Judges f list sum n s (for_below c.count (valued_at (configuration_of c) aim) ++ for_below c.count (labelled_at (shape_of s) (configuration_of c) aim)) a
         → Judges f list sum n s (seen_at (shape_of s) aim (configuration_of c)) a
-    seen_parts z j = judges_same (kept whole (room_for aim (length (configuration_of c).memory.channel)) (sym room-is ∙ z) ∙ whole_is) j
+    seen_parts z j = judges_same (kept whole (room_for aim (length (configuration_of c).memory.channel)) (sym room_is ∙ z) ∙ whole_is) j
 
-    pub values-unheld : {f list sum : List ℕ} {n : ℕ} {a : Bool} → b ≡ true → Judges f list sum n s (for_below c.count (valued_at (configuration_of c) aim)) a → a ≡ false
+    pub values_unheld : {f list sum : List ℕ} {n : ℕ} {a : Bool} → b ≡ true → Judges f list sum n s (for_below c.count (valued_at (configuration_of c) aim)) a → a ≡ false
         → Judges f list sum n s (seen_at (shape_of s) aim (configuration_of c)) a
-    values-unheld z j t = seen_parts z (judges_is (sym t) (judges_first (for_below c.count (labelled_at (shape_of s) (configuration_of c) aim)) (judges_is t j)))
+    values_unheld z j t = seen_parts z (judges_is (sym t) (judges_first (for_below c.count (labelled_at (shape_of s) (configuration_of c) aim)) (judges_is t j)))
 
-    pub values-held : {f list sum : List ℕ} {n : ℕ} {t a : Bool} → b ≡ true → Judges f list sum n s (for_below c.count (valued_at (configuration_of c) aim)) t → t ≡ true
+    pub values_held : {f list sum : List ℕ} {n : ℕ} {t a : Bool} → b ≡ true → Judges f list sum n s (for_below c.count (valued_at (configuration_of c) aim)) t → t ≡ true
         → Judges f list sum n s (for_below c.count (labelled_at (shape_of s) (configuration_of c) aim)) a → Judges f list sum n s (seen_at (shape_of s) aim (configuration_of c)) a
-    values-held z j t k = seen_parts z (judges_both (judges_is t j) k)
+    values_held z j t k = seen_parts z (judges_both (judges_is t j) k)
 
     pub seeing : {ws : List ℕ} → b ≡ true → Movable s c → LastWrites ws (memory_of (channel_of c.messages (min c.count 20)) (by_number c.pointers)) → Seeing s c ws aim
     seeing {ws} z m g =
@@ -243,11 +243,11 @@ module _ {f list sum : List ℕ} {n : ℕ} {s : Shape} {a : Bool} (aim : Aim) (s
   leaf_target e j = judges_same (ap (λ (i : ℕ). leaf_for f list s states aim i aim.sees o) e) j
 
   module _ (k : ℕ) (e : suc k ≡ aim.rep) where
-    pub leaf-family : aim.sees ≡ false → Judges f list sum n s (family_leaf s (cube_at f list k) o) a → Judges f list sum n s (leaf_of f list s states aim o) a
-    leaf-family z j = judges_same (ap₂ (λ (i : ℕ) (b : Bool). leaf_for f list s states aim i b o) (sym e) z) j
+    pub leaf_family : aim.sees ≡ false → Judges f list sum n s (family_leaf s (cube_at f list k) o) a → Judges f list sum n s (leaf_of f list s states aim o) a
+    leaf_family z j = judges_same (ap₂ (λ (i : ℕ) (b : Bool). leaf_for f list s states aim i b o) (sym e) z) j
 
-    pub leaf-seen : aim.sees ≡ true → Judges f list sum n s (seen_leaf s aim (cube_at f list k) o) a → Judges f list sum n s (leaf_of f list s states aim o) a
-    leaf-seen z j = judges_same (ap₂ (λ (i : ℕ) (b : Bool). leaf_for f list s states aim i b o) (sym e) z) j
+    pub leaf_seen : aim.sees ≡ true → Judges f list sum n s (seen_leaf s aim (cube_at f list k) o) a → Judges f list sum n s (leaf_of f list s states aim o) a
+    leaf_seen z j = judges_same (ap₂ (λ (i : ℕ) (b : Bool). leaf_for f list s states aim i b o) (sym e) z) j
 
 -- entry k is number k + 1 of an aim
 pub from_one : {f list sum : List ℕ} {n : ℕ} {s : Shape} {a : Bool} (states : List ℕ) (k : ℕ) (b : Bool) (p v x : ℕ)

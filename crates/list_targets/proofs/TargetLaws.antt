@@ -19,7 +19,7 @@ use Rattle.file_again.proofs.Tables.{table_length, table_number}
 use Rattle.file_contents.specs.Cube.{configuration_of}
 use Rattle.file_again.specs.Again.{cube_at, entries_of}
 use Rattle.list_theory.specs.Family.{family_cubes}
-use Rattle.list_theory.proofs.FamilyFull.{cubes-fit}
+use Rattle.list_theory.proofs.FamilyFull.{cubes_fit}
 use Rattle.list_targets.specs.Walk.{Searches, Judges, Leaf, target_leaf, family_leaf, outline_cubes, all_cubes}
 use Rattle.list_targets.proofs.ChannelWalk.{walk_all, target_cubes, family_cubes_lem, shapes_fit}
 use Rattle.list_targets.proofs.JudgeLaws.{judges_same}
@@ -59,5 +59,5 @@ pub family_is : (s : Shape) (k : ℕ) (f list sum : List ℕ) (n : ℕ) (r : Boo
     → Searches f list sum n s → r ≡ every (held (shape_of s) (entries_of f list n)) (family_cubes (shape_of s) (configuration_of (cube_at f list k)))
 family_is s k f list sum n r l j h =
     let w = family_cubes_lem s (cube_at f list k) in
-    j.judged h (λ c m. cubes-fit (shape_of s) h.shape.well_formed (entries_of f list n) (listed (shape_of s) f list n h.entries) (configuration_of (cube_at f list k)) (h.entries k l) c (subst (Memᴰ c) (sym w) m))
+    j.judged h (λ c m. cubes_fit (shape_of s) h.shape.well_formed (entries_of f list n) (listed (shape_of s) f list n h.entries) (configuration_of (cube_at f list k)) (h.entries k l) c (subst (Memᴰ c) (sym w) m))
     ∙ ap (every (held (shape_of s) (entries_of f list n))) (sym w)

@@ -22,7 +22,7 @@ use Rattle.list_theory.specs.Cases.{program_with, goes, one, free, entry_with, R
 use Rattle.list_theory.proofs.Computed.{computed, verdicts_computed}
 use Rattle.list_theory.proofs.Lists.{every_yes}
 use Rattle.list_theory.proofs.Cubes.{message_any}
-use Rattle.list_theory.proofs.Verdict.{verdict-judged}
+use Rattle.list_theory.proofs.Verdict.{verdict_judged}
 
 -- ---- what the rows are made of is in range
 
@@ -125,7 +125,7 @@ holds r R t e =
     let q = r.state in
     let f : ℕ × List ℕ → Configuration = λ d. entry_with q d.0 d.1 in
     subst (ListJudged P (targets_of r) (entries_of r)) e
-    (verdict-judged P R (entries_of r) (by_number (EntryOf P) f r.entries (λ d i. entry_of ts q d l (every_yes fine r.entries w.1 d i))) (targets_of r)
+    (verdict_judged P R (entries_of r) (by_number (EntryOf P) f r.entries (λ d i. entry_of ts q d l (every_yes fine r.entries w.1 d i))) (targets_of r)
     (elim [ zero ↦ λ a. states_of_lem ts q l | suc k ↦ λ a. absurd (omega arith) ])
     (by_number (λ c. (p : ℕ) × (p < 1) × (c.memory.pointer p ≡ 1)) f r.entries (λ d i. (0, omega arith, refl))) (λ v l. omega arith))
 

@@ -28,7 +28,7 @@ use Rattle.list_theory.specs.Predecessors.{Kind, undone, waited, inside, on_top,
 use Rattle.list_theory.proofs.Lists.{in_below}
 use Rattle.list_theory.proofs.Cubes.{inside_yes, label_exists, take_has}
 use Rattle.list_theory.proofs.NoneMissing.{none_missing}
-use Rattle.list_theory.proofs.NoneExtra.{none_extra, filling-configuration}
+use Rattle.list_theory.proofs.NoneExtra.{none_extra, filling_configuration}
 
 -- every configuration that the step leads above the entry is above the list
 abbrev pub StepClosed : Program → List Configuration → Configuration → Step → Type 0
@@ -44,7 +44,7 @@ kinds_step P R es e oe s H c oc t A =
 pub step_kinds : (P : Program) → WellFormed P → NoValueIsFF P.shape → (es : List Configuration) (e : Configuration) → EntryOf P e → (s : Step)
     → StepClosed P es e s ↔ ((k : Kind) → T (has P e s k) → Held P.shape es (cube P e s k))
 step_kinds P R N es e oe s = (
-  λ C k t qs ms F. let a = none_extra P R e oe N s k t qs ms F in C (filled (cube P e s k) qs ms) (filling-configuration P R e oe s k t qs ms F) a.may a.above,
+  λ C k t qs ms F. let a = none_extra P R e oe N s k t qs ms F in C (filled (cube P e s k) qs ms) (filling_configuration P R e oe s k t qs ms F) a.may a.above,
   kinds_step P R es e oe s,
 )
 

@@ -216,11 +216,11 @@ module _ (S : Shape) (R : WellFormedShape S) (e d : Configuration) (oe : Fits (V
     chosen_is p v (yes a) (no b) x y = absurd (b y)
     chosen_is p v (no a) b x y = absurd (a x)
 
-    chosen-absent : (p v : ℕ) (a : Dec (p < S.processes)) (b : Dec (v < S.variables)) → (S.processes ≤ p) ⊎ (S.variables ≤ v) → chosen p v a b ≡ []
+    chosen_absent : (p v : ℕ) (a : Dec (p < S.processes)) (b : Dec (v < S.variables)) → (S.processes ≤ p) ⊎ (S.variables ≤ v) → chosen p v a b ≡ []
     unfolding chosen
-    chosen-absent p v (yes a) (yes b) w = absurd (⊎_elim (λ l. omega arith) (λ l. omega arith) w)
-    chosen-absent p v (yes a) (no b) w = refl
-    chosen-absent p v (no a) b w = refl
+    chosen_absent p v (yes a) (yes b) w = absurd (⊎_elim (λ l. omega arith) (λ l. omega arith) w)
+    chosen_absent p v (yes a) (no b) w = refl
+    chosen_absent p v (no a) b w = refl
 
     abbrev qs : ℕ → ℕ → List ℕ
     qs p v = chosen p v (dec_lt p S.processes) (dec_lt v S.variables)
@@ -228,8 +228,8 @@ module _ (S : Shape) (R : WellFormedShape S) (e d : Configuration) (oe : Fits (V
     is : (p v : ℕ) → p < S.processes → v < S.variables → FillValues (e.queue p v) (qs p v) × Queued (qs p v) (d.queue p v)
     is p v = chosen_is p v (dec_lt p S.processes) (dec_lt v S.variables)
 
-    match-above : Above S e d
-    match-above =
+    match_above : Above S e d
+    match_above =
         let z = e.memory.pointer in
         let k = picked M.channel in
         let f = filled_channel S R e.memory e.memory.channel k.0 oe.memory.messages (pointwise_map (λ x y t. (tag_match fills x y).0 t) k.1) in
@@ -254,7 +254,7 @@ module _ (S : Shape) (R : WellFormedShape S) (e d : Configuration) (oe : Fits (V
                       queues =
                           record {
                             values = λ p v a b. all_below (ValueOf S v) (is p v a b).1 (od.queues.values p v a b);
-                            absent = λ p v l. chosen-absent p v (dec_lt p S.processes) (dec_lt v S.variables) l;
+                            absent = λ p v l. chosen_absent p v (dec_lt p S.processes) (dec_lt v S.variables) l;
                           };
                     };
               };
@@ -263,11 +263,11 @@ module _ (S : Shape) (R : WellFormedShape S) (e d : Configuration) (oe : Fits (V
 
   -- T1 with FFs
   pub above_match : Above S e d ↔ Match S fills e d
-  above_match = (λ A. over_match A.below.states (over_above A), match-above)
+  above_match = (λ A. over_match A.below.states (over_above A), match_above)
 
   -- a filling below can be had with values in range
   pub above_over : ((p : ℕ) → p < S.processes → e.state p ≡ d.state p) → Over S e.queue e.memory d.queue d.memory → Above S e d
-  above_over s O = match-above (over_match s O)
+  above_over s O = match_above (over_match s O)
 
 -- ---- section 6
 

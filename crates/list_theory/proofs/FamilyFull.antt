@@ -59,28 +59,28 @@ module _ (S : Shape) (R : WellFormedShape S) (es : List Configuration) (oes : (k
     newest_in : MessageIn (ValueOrFF S) S (topmost e.memory.channel)
     newest_in = subst (MessageIn (ValueOrFF S) S) (sym (top_newest e.memory.channel oe.memory.some)) (oe.memory.messages (length e.memory.channel) oe.memory.some (omega arith))
 
-    topped-in : (ms : List Message) → ((i : ℕ) → 1 ≤ i → i ≤ length ms → MessageIn (ValueOrFF S) S (message ms i))
+    topped_in : (ms : List Message) → ((i : ℕ) → 1 ≤ i → i ≤ length ms → MessageIn (ValueOrFF S) S (message ms i))
         → (i : ℕ) → 1 ≤ i → i ≤ length (topped values ms) → MessageIn (ValueOrFF S) S (message (topped values ms) i)
-    topped-in [] f i a b = absurd (omega arith)
-    topped-in (m ∷ ms) f i a b =
+    topped_in [] f i a b = absurd (omega arith)
+    topped_in (m ∷ ms) f i a b =
         let n = subst (MessageIn (ValueOrFF S) S) (message_new m ms) (f (suc (length ms)) (omega arith) (omega arith)) in
         message_each (MessageIn (ValueOrFF S) S) (with_values m values) ms i b
         (record { process = n.process; variable = n.variable; room = newest_in.room; values = newest_in.values; absent = newest_in.absent })
         (λ l. subst (MessageIn (ValueOrFF S) S) (message_old m ms i l) (f i a (omega arith)))
 
-    topped-length : (xs : List ℕ) (ms : List Message) → length (topped xs ms) ≡ length ms
-    topped-length xs [] = refl
-    topped-length xs (m ∷ ms) = refl
+    topped_length : (xs : List ℕ) (ms : List Message) → length (topped xs ms) ≡ length ms
+    topped_length xs [] = refl
+    topped_length xs (m ∷ ms) = refl
 
-    pub family-fits : (m : Memory) → MemoryIn (ValueOrFF S) S m → Fits (ValueOrFF S) S (family_cube e m)
-    family-fits m o =
+    pub family_fits : (m : Memory) → MemoryIn (ValueOrFF S) S m → Fits (ValueOrFF S) S (family_cube e m)
+    family_fits m o =
         record {
           memory =
               record {
-                some = omega (arith, o.some, topped-length values m.channel);
+                some = omega (arith, o.some, topped_length values m.channel);
                 low = o.low;
-                high = λ p l. omega (arith, o.high p l, topped-length values m.channel);
-                messages = topped-in m.channel o.messages;
+                high = λ p l. omega (arith, o.high p l, topped_length values m.channel);
+                messages = topped_in m.channel o.messages;
                 absent = o.absent;
               };
           queues = oe.queues;
@@ -90,8 +90,8 @@ module _ (S : Shape) (R : WellFormedShape S) (es : List Configuration) (oes : (k
       abbrev bare : Memory → Configuration
       bare m = record { state = d.state; queue = λ p v. []; memory = m }
 
-      bare-fits : {Val : ℕ → ℕ → Type 0} (m : Memory) → MemoryIn Val S m → Fits Val S (bare m)
-      bare-fits m o = record { memory = o; queues = record { values = λ p v a b. tt; absent = λ p v l. refl } }
+      bare_fits : {Val : ℕ → ℕ → Type 0} (m : Memory) → MemoryIn Val S m → Fits Val S (bare m)
+      bare_fits m o = record { memory = o; queues = record { values = λ p v a b. tt; absent = λ p v l. refl } }
 
       -- d is above the cube with one of the irreducible memories
       pub record Shaped : Type 0 where
@@ -99,8 +99,8 @@ module _ (S : Shape) (R : WellFormedShape S) (es : List Configuration) (oes : (k
         pub in_shapes : Memᴰ memory (memory_shapes S)
         pub above : Above S (family_cube e memory) d
 
-      family-shape : Shaped
-      family-shape =
+      family_shape : Shaped
+      family_shape =
           let w = smaller S 0 R.some_process d od in
           let m = w.memory in
           let om = w.fits.memory in
@@ -111,8 +111,8 @@ module _ (S : Shape) (R : WellFormedShape S) (es : List Configuration) (oes : (k
           ∙ sym (top_newest m.channel om.some) in
           let f = topped_fill values k.fill (pairwise_values values (topmost m.channel).snapshot
           (subst (λ (x : Message). T (pairwise fills values x.snapshot)) same i.clue)) in
-          let of = family-fits k.shape (memory_shape S R k.shape k.in_shapes) in
-          let A = above_over S R (bare (family_cube e k.shape).memory) (bare d.memory) (bare-fits _ of.memory) (bare-fits _ od.memory) (λ p l. refl)
+          let of = family_fits k.shape (memory_shape S R k.shape k.in_shapes) in
+          let A = above_over S R (bare (family_cube e k.shape).memory) (bare d.memory) (bare_fits _ of.memory) (bare_fits _ od.memory) (λ p l. refl)
           (record {
             queues = λ p v. [];
             fill = λ p v a b. values_nil;
@@ -125,28 +125,28 @@ module _ (S : Shape) (R : WellFormedShape S) (es : List Configuration) (oes : (k
                   maps = subst (λ (y : ℕ → ℕ). Maps S (memory_of m.channel y) d.memory w.below.h) (sym k.pointer) w.below.maps;
                 };
           }) in
-          let M = (above_match S R (bare (family_cube e k.shape).memory) (bare d.memory) (bare-fits _ of.memory) (bare-fits _ od.memory)).0 A in
+          let M = (above_match S R (bare (family_cube e k.shape).memory) (bare d.memory) (bare_fits _ of.memory) (bare_fits _ od.memory)).0 A in
           record {
             memory = k.shape;
             in_shapes = k.in_shapes;
             above = (above_match S R (family_cube e k.shape) d of od).1 (record { states = i.states; queues = i.queues; channel = M.channel });
           }
 
-    pub family-shapes : ((m : Memory) → Memᴰ m (memory_shapes S) → Held S es (family_cube e m)) → FamilyHeld S es newest e
-    family-shapes H d od i =
-        let w = family-shape d od i in
+    pub family_shapes : ((m : Memory) → Memᴰ m (memory_shapes S) → Held S es (family_cube e m)) → FamilyHeld S es newest e
+    family_shapes H d od i =
+        let w = family_shape d od i in
         list_up (H w.memory w.in_shapes w.above.queues w.above.channel w.above.filling) w.above.below
 
-    pub cubes-fit : (c : Configuration) → Memᴰ c (family_cubes S e) → Fits (ValueOrFF S) S c
-    cubes-fit c j =
+    pub cubes_fit : (c : Configuration) → Memᴰ c (family_cubes S e) → Fits (ValueOrFF S) S c
+    cubes_fit c j =
         let r = Memᴰ.of_map (family_cube e) (memory_shapes S) j in
-        subst (Fits (ValueOrFF S) S) r.2 (family-fits r.0 (memory_shape S R r.0 r.1))
+        subst (Fits (ValueOrFF S) S) r.2 (family_fits r.0 (memory_shape S R r.0 r.1))
 
     -- all of its cubes are held
-    pub family-full : every (held S es) (family_cubes S e) ≡ true → FamilyHeld S es newest e
-    family-full y = family-shapes (λ m j.
+    pub family_full : every (held S es) (family_cubes S e) ≡ true → FamilyHeld S es newest e
+    family_full y = family_shapes (λ m j.
         let k = Memᴰ.map (family_cube e) j in
-        decided_yes (held_decided S R es oes (family_cube e m) (cubes-fit (family_cube e m) k)) (every_yes (held S es) (family_cubes S e) (subst T (sym y) tt) (family_cube e m) k))
+        decided_yes (held_decided S R es oes (family_cube e m) (cubes_fit (family_cube e m) k)) (every_yes (held S es) (family_cubes S e) (subst T (sym y) tt) (family_cube e m) k))
 
 -- An update leaves local states, queues and the channel as they are, and takes no LastWrite down: none leads in from outside.
 clued_update : (S : Shape) (q : Clue) (e m : Memory) (p : ℕ) → Clued S q e (point m p (suc (m.pointer p))) → Clued S q e m

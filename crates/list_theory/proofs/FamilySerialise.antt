@@ -121,8 +121,8 @@ module _ (S : Shape) (R : WellFormedShape S) (c m : Memory) (p v y : ℕ) (oc : 
       (channel_at F (length c.channel))
 
   -- it is the one that shows x, and the newest of m shows it too
-  seen-newest : (r t x : ℕ) → r < S.processes → t < S.variables → x < 4 → get_or (set own.snapshot v FF) t 0 ≡ x → Sees S r t x m
-  seen-newest r t x a b l e =
+  seen_newest : (r t x : ℕ) → r < S.processes → t < S.variables → x < 4 → get_or (set own.snapshot v FF) t 0 ≡ x → Sees S r t x m
+  seen_newest r t x a b l e =
       record { process = a; variable = b; small = l; at = length m.channel; from = (is_last S m (proper om) r t a).high; upto = omega arith; is = shown (ℕ_discrete t v) }
     where
       room : length own.snapshot ≡ S.room
@@ -138,8 +138,8 @@ module _ (S : Shape) (R : WellFormedShape S) (c m : Memory) (p v y : ℕ) (oc : 
   changed = memory_of (message_of p v (set own.snapshot v FF) ∷ older c.channel) c.pointer
 
   -- an older one does: it stands in c, and is mapped to one before the newest
-  seen-older : (r t x : ℕ) (s : Sees S r t x changed) → s.at < length c.channel → Sees S r t x m
-  seen-older r t x s a =
+  seen_older : (r t x : ℕ) (s : Sees S r t x changed) → s.at < length c.channel → Sees S r t x m
+  seen_older r t x s a =
       let e : last_write filling r t ≤ s.at =
       omega (arith, s.from, label_replaced c.channel p v (set own.snapshot v FF) r t oc.some newest_is.process newest_is.variable, channel_last F r t) in
       let k : Live S filling (last_write filling r t) = live_last S filling (proper of) r t s.process in
@@ -165,10 +165,10 @@ module _ (S : Shape) (R : WellFormedShape S) (c m : Memory) (p v y : ℕ) (oc : 
             (ap (λ (w : Message). get_or w.snapshot t 0) (sym (message_replaced c.channel (message_of p v (set own.snapshot v FF)) s.at a)) ∙ s.is);
       }
 
-  sees-serialise : (r t x : ℕ) → Sees S r t x changed → Sees S r t x m
-  sees-serialise r t x s = elim (dec_lt s.at (length c.channel)) [
-    | yes l ↦ seen-older r t x s l
-    | no l ↦ seen-newest r t x s.process s.variable s.small
+  sees_serialise : (r t x : ℕ) → Sees S r t x changed → Sees S r t x m
+  sees_serialise r t x s = elim (dec_lt s.at (length c.channel)) [
+    | yes l ↦ seen_older r t x s l
+    | no l ↦ seen_newest r t x s.process s.variable s.small
         (ap (λ (w : Message). get_or w.snapshot t 0) (sym (ap (message changed.channel) {x = s.at} {y = suc (length (older c.channel))} (omega (arith, s.upto, older_length c.channel oc.some))
         ∙ message_new (message_of p v (set own.snapshot v FF)) (older c.channel))) ∙ s.is)
   ]
@@ -196,8 +196,8 @@ module _ (P : Program) (R : WellFormed P) (N : NoValueIsFF P.shape) (es : List C
         (pairwise_at values (set (topmost d.memory.channel).snapshot v y) v fitted
         (omega (arith, room, R.shape.variables, pairwise_length values (set (topmost d.memory.channel).snapshot v y) fitted, length-set (topmost d.memory.channel).snapshot v y)))
 
-    queue-before : (q u : ℕ) → q < S.processes → u < S.variables → QueueMatch fills ((cube P c (Serialise p v) (on_top v)).queue q u) (d.queue q u)
-    queue-before q u a b = elim (both q u) [
+    queue_before : (q u : ℕ) → q < S.processes → u < S.variables → QueueMatch fills ((cube P c (Serialise p v) (on_top v)).queue q u) (d.queue q u)
+    queue_before q u a b = elim (both q u) [
       | yes e ↦ subst₂ (QueueMatch fills)
           (sym (ap (λ (i : ℕ). (cube P c (Serialise p v) (on_top v)).queue i u) e.0 ∙ ap ((cube P c (Serialise p v) (on_top v)).queue p) e.1 ∙ put_queue_same c.queue p v (get_or values v 0 ∷ c.queue p v)))
           (sym (ap (λ (i : ℕ). d.queue i u) e.0 ∙ ap (d.queue p) e.1 ∙ front (d.queue p v) m))
@@ -218,7 +218,7 @@ module _ (P : Program) (R : WellFormed P) (N : NoValueIsFF P.shape) (es : List C
     serialise_in =
         record {
           states = J.states;
-          queues = queue-before;
+          queues = queue_before;
           clue = pairwise_freed values (topmost d.memory.channel).snapshot v y fitted;
         }
 
@@ -227,10 +227,10 @@ module _ (P : Program) (R : WellFormed P) (N : NoValueIsFF P.shape) (es : List C
     abbrev top : Configuration
     top = cube P c (Serialise p v) (on_top v)
 
-    clued-serialise : (q : Clue) (e : Memory) → InFamily S family.newest top d → Clued S q e top.memory → Clued S q e d.memory
-    clued-serialise family.newest e i y = pairwise_trans (topmost e.channel).snapshot (topmost top.memory.channel).snapshot (topmost d.memory.channel).snapshot y i.clue
-    clued-serialise (family.sees r t x) e i y =
-        sees-serialise S R.shape c.memory d.memory p v (get_or (d.queue p v) 0 0) o.fits.memory w.fits.memory u after-fits.memory A.channel A.filling.channel A.filling.fits.memory A.below.h
+    clued_serialise : (q : Clue) (e : Memory) → InFamily S family.newest top d → Clued S q e top.memory → Clued S q e d.memory
+    clued_serialise family.newest e i y = pairwise_trans (topmost e.channel).snapshot (topmost top.memory.channel).snapshot (topmost d.memory.channel).snapshot y i.clue
+    clued_serialise (family.sees r t x) e i y =
+        sees_serialise S R.shape c.memory d.memory p v (get_or (d.queue p v) 0 0) o.fits.memory w.fits.memory u after-fits.memory A.channel A.filling.channel A.filling.fits.memory A.below.h
         A.below.maps r t x y
 
   pub family_serialise : (q : Clue) (e c : Configuration) (p v : ℕ) → FamilyHeld S es q e → InFamily S q e (cube P c (Serialise p v) (on_top v)) → EntryOf P c → every (held S es) (predecessors P c (Serialise p v)) ≡ true
@@ -240,4 +240,4 @@ module _ (P : Program) (R : WellFormed P) (N : NoValueIsFF P.shape) (es : List C
       let f = (step_configuration P R d w (Serialise p v) m).fits in
       let u = ltb-true v S.variables (T_true _ z.1) in
       let j = serialise_in c d p v w x.1 u (family_above S R.shape c (after P d (Serialise p v)) o.fits f A) in
-      H d w.fits (family_trans i j (clued-serialise c d p v o w u f A q e.memory j i.clue)))
+      H d w.fits (family_trans i j (clued_serialise c d p v o w u f A q e.memory j i.clue)))

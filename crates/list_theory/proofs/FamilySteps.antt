@@ -18,7 +18,7 @@ use Rattle.list_theory.specs.Predecessors.{cube, predecessors}
 use Rattle.list_theory.specs.Decision.{held}
 use Rattle.list_theory.proofs.Lists.{T_true, every_no}
 use Rattle.list_theory.proofs.Cubes.{entry_cube}
-use Rattle.list_theory.proofs.NoneExtra.{none_extra, filling-configuration}
+use Rattle.list_theory.proofs.NoneExtra.{none_extra, filling_configuration}
 use Rattle.list_theory.proofs.Closed.{predecessor_of}
 use Rattle.list_theory.proofs.Splitting.{held_decided, decided_no}
 
@@ -32,5 +32,5 @@ shut_step P R N es oes c o s h =
     let fits = subst (Fits (ValueOrFF P.shape) P.shape) (sym p.2) (entry_cube P R c o s p.0 p.1).fits in
     let x = subst (Outside P.shape es) p.2 (decided_no (held_decided P.shape R.shape es oes q.0 fits) q.2) in
     let a = none_extra P R c o N s p.0 p.1 x.queues x.channel x.filling in
-    absurd (x.outside (h (filled (cube P c s p.0) x.queues x.channel) (filling-configuration P R c o s p.0 p.1 x.queues x.channel x.filling) a.may a.above)))
+    absurd (x.outside (h (filled (cube P c s p.0) x.queues x.channel) (filling_configuration P R c o s p.0 p.1 x.queues x.channel x.filling) a.may a.above)))
     (T_or_not (every (held P.shape es) (predecessors P c s)))

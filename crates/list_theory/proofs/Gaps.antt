@@ -97,53 +97,53 @@ module _ (S : Shape) (m n : Memory) (gm : Proper S m) (h : ℕ → ℕ) (C : Car
         | no d ↦ above i (omega arith) (record { who = l.who; exists = l.exists; from = omega arith; upto = omega (arith, J.len) })
       ]
 
-  h-below : (i : ℕ) → i < k → via h k t i ≡ h i
-  h-below i l = rw (le-leb i k (omega arith), lt-leb k i l)
+  h_below : (i : ℕ) → i < k → via h k t i ≡ h i
+  h_below i l = rw (le-leb i k (omega arith), lt-leb k i l)
 
-  h-middle : via h k t k ≡ t
-  h-middle = rw (le-leb k k (omega arith))
+  h_middle : via h k t k ≡ t
+  h_middle = rw (le-leb k k (omega arith))
 
-  h-above : (i : ℕ) → k ≤ i → via h k t (suc i) ≡ h i
-  h-above i l = rw (lt-leb (suc i) k (omega arith)) (ap h (omega arith))
+  h_above : (i : ℕ) → k ≤ i → via h k t (suc i) ≡ h i
+  h_above i l = rw (lt-leb (suc i) k (omega arith)) (ap h (omega arith))
 
-  h-up : (i : ℕ) → via h k t (up k i) ≡ h i
-  h-up i = ⊎_elim (λ r. ap (via h k t) r.1 ∙ h-below i r.0) (λ r. ap (via h k t) r.1 ∙ h-above i r.0) (up_cases k i)
+  h_up : (i : ℕ) → via h k t (up k i) ≡ h i
+  h_up i = ⊎_elim (λ r. ap (via h k t) r.1 ∙ h_below i r.0) (λ r. ap (via h k t) r.1 ∙ h_above i r.0) (up_cases k i)
 
   land : {i : ℕ} → From' i → Live S n (via h k t i)
-  land (below i b l) = rw (h-below i b) (C.lands i l)
-  land middle = rw h-middle lt
-  land (above i b l) = rw (h-above i b) (C.lands i l)
+  land (below i b l) = rw (h_below i b) (C.lands i l)
+  land middle = rw h_middle lt
+  land (above i b l) = rw (h_above i b) (C.lands i l)
 
   rise : {i j : ℕ} → From' i → From' j → i < j → via h k t i < via h k t j
-  rise (below i b l) (below j b' l') c = rw (h-below i b, h-below j b') (C.rises i j l l' c)
-  rise (below i b l) middle c = rw (h-below i b, h-middle) (G.under i l b)
-  rise (below i b l) (above j b' l') c = rw (h-below i b, h-above j b') (C.rises i j l l' (omega arith))
+  rise (below i b l) (below j b' l') c = rw (h_below i b, h_below j b') (C.rises i j l l' c)
+  rise (below i b l) middle c = rw (h_below i b, h_middle) (G.under i l b)
+  rise (below i b l) (above j b' l') c = rw (h_below i b, h_above j b') (C.rises i j l l' (omega arith))
   rise middle (below j b' l') c = absurd (omega arith)
   rise middle middle c = absurd (omega arith)
-  rise middle (above j b' l') c = rw (h-middle, h-above j b') (G.over j l' b')
+  rise middle (above j b' l') c = rw (h_middle, h_above j b') (G.over j l' b')
   rise (above i b l) (below j b' l') c = absurd (omega arith)
   rise (above i b l) middle c = absurd (omega arith)
-  rise (above i b l) (above j b' l') c = rw (h-above i b, h-above j b') (C.rises i j l l' (omega arith))
+  rise (above i b l) (above j b' l') c = rw (h_above i b, h_above j b') (C.rises i j l l' (omega arith))
 
   same : {i : ℕ} → From' i → message (put_message m.channel k (message n.channel t)) i ≡ message n.channel (via h k t i)
-  same (below i b l) = J.lo i b ∙ C.equal i l ∙ ap (message n.channel) (sym (h-below i b))
-  same middle = J.mid ∙ ap (message n.channel) (sym h-middle)
-  same (above i b l) = J.hi i b l.upto ∙ C.equal i l ∙ ap (message n.channel) (sym (h-above i b))
+  same (below i b l) = J.lo i b ∙ C.equal i l ∙ ap (message n.channel) (sym (h_below i b))
+  same middle = J.mid ∙ ap (message n.channel) (sym h_middle)
+  same (above i b l) = J.hi i b l.upto ∙ C.equal i l ∙ ap (message n.channel) (sym (h_above i b))
 
-  pub semi-gap : Semi S gapped n (via h k t)
-  semi-gap =
+  pub semi_gap : Semi S gapped n (via h k t)
+  semi_gap =
       record {
         lands = λ i l. land (source i l);
         rises = λ i j a b. rise (source i a) (source j b);
         equal = λ i l. same (source i l);
         pointers = λ p e. ⊎_elim
-            (λ r. r.1 ∙ sym (ap (via h k t) r.0 ∙ h-up (m.pointer p)))
-            (λ r. r.2 ∙ sym (ap (via h k t) r.0 ∙ h-middle))
+            (λ r. r.1 ∙ sym (ap (via h k t) r.0 ∙ h_up (m.pointer p)))
+            (λ r. r.2 ∙ sym (ap (via h k t) r.0 ∙ h_middle))
             (moved p e);
       }
 
-  pub hit-gap : {s : ℕ} → Hit S m h s → Hit S gapped (via h k t) s
-  hit-gap r =
+  pub hit_gap : {s : ℕ} → Hit S m h s → Hit S gapped (via h k t) s
+  hit_gap r =
       let l = r.lives in
       let u = live_up S m gm k G.lo G.hi (message n.channel t) r.at l in
       record {
@@ -156,11 +156,11 @@ module _ (S : Shape) (m n : Memory) (gm : Proper S m) (h : ℕ → ℕ) (C : Car
                   (moved l.who l.exists);
               upto = u.upto;
             };
-        hits = h-up r.at ∙ r.hits;
+        hits = h_up r.at ∙ r.hits;
       }
 
-  pub hit-new : (p : ℕ) → p < S.processes → w p ≤ k → Hit S gapped (via h k t) t
-  hit-new p e l = record { at = k; lives = record { who = p; exists = e; from = l; upto = omega (arith, J.len, G.hi) }; hits = h-middle }
+  pub hit_new : (p : ℕ) → p < S.processes → w p ≤ k → Hit S gapped (via h k t) t
+  hit_new p e l = record { at = k; lives = record { who = p; exists = e; from = l; upto = omega (arith, J.len, G.hi) }; hits = h_middle }
 
 -- ---- a message put in at or before a LastWrite of its label is nobody's LastWrite
 

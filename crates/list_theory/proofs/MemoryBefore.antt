@@ -28,7 +28,7 @@ use Rattle.list_theory.proofs.Lists.{yes_all}
 use Rattle.list_theory.proofs.Fillings.{fill_alike, fill_at, fill_each, fill_back, channel_length, channel_last, fill_labelled, channel_insert, newest_meet}
 use Rattle.list_theory.proofs.Covering.{FilledMemory}
 use Rattle.list_theory.proofs.Gaps.{Gap, labelled_is, via}
-use Rattle.list_theory.proofs.Undoing.{proper_point, proper_cons, UpdateBack, lowered, fresh, update-back, top-is, pointers-low, proper-low, append-hit, append-place, gap-past, gap-labelled, gap-proper, append-gap}
+use Rattle.list_theory.proofs.Undoing.{proper_point, proper_cons, UpdateBack, lowered, fresh, update_back, top_is, pointers_low, proper_low, append_hit, append_place, gap_past, gap_labelled, gap_proper, append_gap}
 use Rattle.list_theory.proofs.Cubes.{any_length, any_exists, any_absent}
 
 -- any message fills one that is free
@@ -62,7 +62,7 @@ module _ (S : Shape) (R : WellFormedShape S) (n : Memory) (on : MemoryIn (ValueO
 
   pub update_missing : (e : Memory) {fs : List Message} → FillChannel e.channel fs → Proper S (memory_of fs e.pointer) → n.pointer p < length n.channel
       → (h : ℕ → ℕ) → Maps S (memory_of fs e.pointer) (point n p (suc (n.pointer p))) h → UpdateMissing e
-  update_missing e {fs} ce gf room h M = go (update-back S (memory_of fs e.pointer) n gf gn p pe room h M)
+  update_missing e {fs} ce gf room h M = go (update_back S (memory_of fs e.pointer) n gf gn p pe room h M)
     where
       μ : Message
       μ = message n.channel (n.pointer p)
@@ -115,17 +115,17 @@ module _ (S : Shape) (R : WellFormedShape S) (n : Memory) (on : MemoryIn (ValueO
     e = memory_of (en ∷ es) z
 
     low : (q : ℕ) → q < S.processes → z q ≤ length fs
-    low = pointers-low S fn fs z n p v x pe ve gf gn h M
+    low = pointers_low S fn fs z n p v x pe ve gf gn h M
 
     g₀ : Proper S (memory_of fs z)
-    g₀ = proper-low S fn fs z n p v x pe ve gf gn h M
+    g₀ = proper_low S fn fs z n p v x pe ve gf gn h M
 
     some : 1 ≤ length fs
     some = omega (arith, low p pe, gf.low p pe)
 
     serialised_is : (k : Kind) → T (serialise_kind e p v k) → FilledMemory S (serialise_memory S e p v k) n → SerialiseMissing e v x
     serialised_is k t F =
-        let is = top-is S fn fs z n p v x pe ve gf gn h M in
+        let is = top_is S fn fs z n p v x pe ve gf gn h M in
         record {
           kind = k;
           serialised = yes_and (ltb 1 (suc (length es)) && labelled en p v) (all_below S.processes (λ q. not (at_newest e q)))
@@ -137,11 +137,11 @@ module _ (S : Shape) (R : WellFormedShape S) (n : Memory) (on : MemoryIn (ValueO
         }
 
     was_free : FillValues (set en.snapshot v FF) ν.snapshot
-    was_free = was en fn te v x ve (top-is S fn fs z n p v x pe ve gf gn h M) FF (inl refl)
+    was_free = was en fn te v x ve (top_is S fn fs z n p v x pe ve gf gn h M) FF (inl refl)
 
     hit : Hit S (memory_of fs z) h (last_write n p v) → SerialiseMissing e v x
     hit r =
-        let N = append-hit S fn fs z n p v x pe ve gf gn h M r in
+        let N = append_hit S fn fs z n p v x pe ve gf gn h M r in
         let a = newest_meet (set en.snapshot v FF) ce some (rw (maps_newest S (memory_of fs z) n g₀ gn h N p pe) was_free) in
         serialised_is undone a.0 (record { channel = fs; fill = a.1; h = h; maps = N })
 
@@ -150,9 +150,9 @@ module _ (S : Shape) (R : WellFormedShape S) (n : Memory) (on : MemoryIn (ValueO
         let i = last_write n p v in
         let μ = message n.channel i in
         let f₀ : Memory = memory_of fs z in
-        let lab = labelled_is μ p v (gap-labelled S fn fs z n p v x pe ve gf gn h M k G) in
-        let good = gap-proper S fn fs z n p v x pe ve gf gn h M k G in
-        let N = append-gap S fn fs z n p v x pe ve gf gn h M k G in
+        let lab = labelled_is μ p v (gap_labelled S fn fs z n p v x pe ve gf gn h M k G) in
+        let good = gap_proper S fn fs z n p v x pe ve gf gn h M k G in
+        let N = append_gap S fn fs z n p v x pe ve gf gn h M k G in
         let new : newest (put_message fs k μ) ≡ ν = maps_newest S (insert_into f₀ k μ) n good gn (via h k i) N p pe in
         let l = live_last S n gn p v pe in
         elim (dec_le k (length fs)) [
@@ -161,7 +161,7 @@ module _ (S : Shape) (R : WellFormedShape S) (n : Memory) (on : MemoryIn (ValueO
               serialised_is (inside k)
               (yes_and (alike_newest es (set en.snapshot v FF)) (ltb (last_write (without_newest e) p v) k && leb k (length es)) a.0
               (yes_and (ltb (last_write (without_newest e) p v) k) (leb k (length es))
-              (lt→ltb (last_write (without_newest e) p v) k (rw (channel_last ce p v) (gap-past S fn fs z n p v x pe ve gf gn h M k G)))
+              (lt→ltb (last_write (without_newest e) p v) k (rw (channel_last ce p v) (gap_past S fn fs z n p v x pe ve gf gn h M k G)))
               (le→leb k (length es) (omega (arith, channel_length ce)))))
               (record {
                 channel = put_message fs k μ;
@@ -183,7 +183,7 @@ module _ (S : Shape) (R : WellFormedShape S) (n : Memory) (on : MemoryIn (ValueO
         ]
 
     serialise_cons : SerialiseMissing e v x
-    serialise_cons = ⊎_elim hit (λ r. gap r.0 r.1) (append-place S fn fs z n p v x pe ve gf gn h M)
+    serialise_cons = ⊎_elim hit (λ r. gap r.0 r.1) (append_place S fn fs z n p v x pe ve gf gn h M)
 
   pub serialise_missing : {es fs : List Message} → FillChannel es fs → (z : ℕ → ℕ) (v x : ℕ) → v < S.variables → Proper S (memory_of fs z)
       → (h : ℕ → ℕ) → Maps S (memory_of fs z) (append n p v x) h → SerialiseMissing (memory_of es z) v x
@@ -264,8 +264,8 @@ module _ (S : Shape) (R : WellFormedShape S) (n : Memory) (on : MemoryIn (ValueO
     arw_lowered g two K =
         let w = put z p (z p - 1) in
         let gw = proper_point gf p (z p - 1) (omega arith) (omega (arith, gf.high p pe)) in
-        let g₀ = proper-low S fn fs w n p v new pe ve gw gn g K in
-        let N = append-hit S fn fs w n p v new pe ve gw gn g K (pointer_hit g g₀ (K.pointers p pe)) in
+        let g₀ = proper_low S fn fs w n p v new pe ve gw gn g K in
+        let N = append_hit S fn fs w n p v new pe ve gw gn g K (pointer_hit g g₀ (K.pointers p pe)) in
         let a = newest_meet (set en.snapshot v old) ce (omega (arith, at_top)) (rw (maps_newest S (memory_of fs w) n g₀ gn g N p pe) was_old) in
         swapped_is undone a.0
         (record { channel = fs; fill = a.1; h = g; maps = subst (λ (i : ℕ). Maps S (memory_of fs (put z p i)) n g) (omega (arith, at_top, channel_length ce)) N })
@@ -283,8 +283,8 @@ module _ (S : Shape) (R : WellFormedShape S) (n : Memory) (on : MemoryIn (ValueO
         (omega (arith, gf.high p pe, (ins (fn ∷ fs) (z p) μ (gf.low p pe) (omega (arith, at_top))).len)) in
         let gw : Proper S (memory_of (fn ∷ μ ∷ fs) w) = subst (λ (ms : List Message). Proper S (memory_of ms w)) at gi in
         let K' : Maps S (memory_of (fn ∷ μ ∷ fs) w) n₁ g = subst (λ (ms : List Message). Maps S (memory_of ms w) n₁ g) at K in
-        let g₀ = proper-low S fn (μ ∷ fs) w n p v new pe ve gw gn g K' in
-        let N = append-hit S fn (μ ∷ fs) w n p v new pe ve gw gn g K' (pointer_hit g g₀ (K'.pointers p pe)) in
+        let g₀ = proper_low S fn (μ ∷ fs) w n p v new pe ve gw gn g K' in
+        let N = append_hit S fn (μ ∷ fs) w n p v new pe ve gw gn g K' (pointer_hit g g₀ (K'.pointers p pe)) in
         let same : (q : ℕ) → q < S.processes → w q ≡ z q = λ q a. elim (ℕ_discrete q p) [
           | yes c ↦ rw (c, put_same (λ q. up (z p) (z q)) p (z p))
           | no c ↦ put_other (λ q. up (z p) (z q)) p (z p) q c ∙ up_low (z p) (z q) (omega (arith, at_top, gf.high q a, others_low q a c))
@@ -307,7 +307,7 @@ module _ (S : Shape) (R : WellFormedShape S) (n : Memory) (on : MemoryIn (ValueO
         })
 
     arw_cons : ArwMissing e₂ v old new
-    arw_cons = go (update-back S f n₁ gf gn₁ p pe (omega (arith, here)) h (subst (λ (i : ℕ). Maps S f (point n₁ p (suc i)) h) (sym here) M))
+    arw_cons = go (update_back S f n₁ gf gn₁ p pe (omega (arith, here)) h (subst (λ (i : ℕ). Maps S f (point n₁ p (suc i)) h) (sym here) M))
       where
         go : UpdateBack S f n₁ p → ArwMissing e₂ v old new
         go (lowered a g K) = arw_lowered g a K

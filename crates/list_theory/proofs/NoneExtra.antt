@@ -87,13 +87,13 @@ module _ (S : Shape) (e : Memory) (ge : Proper S e) (p : ℕ) (pe : p < S.proces
         let last : suc (length ns) ≤ last_write (memory_of (c ∷ ns) z) p v = rw (T_true (labelled c p v) (labelled_self c)) (omega arith) in
         more_filled S e ge k lo μ (rw a pe) (rw b ve) r (rw (a, b) (omega arith)) (insert_under c ns k μ hi is) w same
 
-    serialise-ahead : (k : Kind) → T (serialise_kind e p v k) → (ms : List Message) → FillChannel (serialise_memory S e p v k).channel ms
+    serialise_ahead : (k : Kind) → T (serialise_kind e p v k) → (ms : List Message) → FillChannel (serialise_memory S e p v k).channel ms
         → FilledMemory S e (append (memory_of ms (serialise_memory S e p v k).pointer) p v y)
-    serialise-ahead undone t ms F =
+    serialise_ahead undone t ms F =
         let a = meet_newest_lem (older e.channel) (before e v FF) t F in
         same_filled S e z (copied ms v FF y label a.1 value a.0) (λ q i. refl)
-    serialise-ahead waited t ms F = absurd t
-    serialise-ahead (inside k) t ms F =
+    serialise_ahead waited t ms F = absurd t
+    serialise_ahead (inside k) t ms F =
         let i = inside_yes e p v k t in
         let J = insert_channel (meet_newest (older e.channel) (before e v FF)) k (any_message S p v) F in
         let a = meet_newest_lem (older e.channel) (before e v FF) i.0 J.rest in
@@ -102,12 +102,12 @@ module _ (S : Shape) (e : Memory) (ge : Proper S e) (p : ℕ) (pe : p < S.proces
         let top = ap newest J.is ∙ newest_insert J.channel k J.one lo hi in
         under ms J.channel k J.one (λ q. up k (z q)) (copied ms v FF y label (rw top a.1) value a.0) lo (omega arith) (sym J.fills.process)
         (sym J.fills.variable) (sym J.is) (λ q i. refl)
-    serialise-ahead (on_top u) t ms (channel_cons {m = μ} {ms = ns} f r) =
+    serialise_ahead (on_top u) t ms (channel_cons {m = μ} {ms = ns} f r) =
         let n = suc (length ns) in
         under (μ ∷ ns) ns n μ z (copied (μ ∷ ns) v FF y label (rw (message_new μ ns) f.snapshot) value r) (omega arith) (omega arith) (sym f.process)
         (sym f.variable ∙ eqb_yes t)
         (insert_top ns n μ refl) (λ q i. up_low n (z q) (omega (arith, low q i, channel_length r)))
-    serialise-ahead (pointed r u) t ms F = absurd t
+    serialise_ahead (pointed r u) t ms F = absurd t
 
   pub record ArwAhead (v old new : ℕ) (m : Memory) : Type 0 where
     pub here : m.pointer p ≡ length m.channel
@@ -306,11 +306,11 @@ module _ (P : Program) (R : WellFormed P) (e : Configuration) (oe : EntryOf P e)
     m = filled (cube P e s k) qs ms
 
     -- a filling is a configuration of the program
-    pub filling-configuration : ConfigurationOf P m
-    filling-configuration = record { states = (entry_cube P R e oe s k t).states; fits = F.fits }
+    pub filling_configuration : ConfigurationOf P m
+    filling_configuration = record { states = (entry_cube P R e oe s k t).states; fits = F.fits }
 
     ahead : T (may P m s) → ((p : ℕ) → p < S.processes → e.state p ≡ (after P m s).state p) → Over S e.queue e.memory (after P m s).queue (after P m s).memory → Ahead P e s m
-    ahead y st O = record { may = y; above = above_over S R.shape e (after P m s) oe.fits (step_configuration P R m filling-configuration s y).fits st O }
+    ahead y st O = record { may = y; above = above_over S R.shape e (after P m s) oe.fits (step_configuration P R m filling_configuration s y).fits st O }
 
   pub none_extra : NoValueIsFF S → (s : Step) (k : Kind) → T (has P e s k) → (qs : ℕ → ℕ → List ℕ) (ms : List Message) → Filling S (cube P e s k) qs ms → Ahead P e s (filled (cube P e s k) qs ms)
   none_extra N (Take n) k t qs ms F =
@@ -336,7 +336,7 @@ module _ (P : Program) (R : WellFormed P) (e : Configuration) (oe : EntryOf P e)
         queues = put_queue qs p v (without_oldest (qs p v));
         fill = λ q u a b. unput FillValues e.queue qs p v xs (without_oldest (qs p v)) front.2 q u (F.queues q u a b);
         below = λ q u a b. queue_refl (put_queue qs p v (without_oldest (qs p v)) q u);
-        memory = serialise-ahead S e.memory g p x.0 v (get_or (qs p v) 0 0) x.1 m.1
+        memory = serialise_ahead S e.memory g p x.0 v (get_or (qs p v) 0 0) x.1 m.1
             (λ q a. omega (arith, g.high q a, m.2 q a, older_length e.memory.channel (omega (arith, m.0)))) front.1 k y.1 ms F.channel;
       })
   none_extra N (Update p) k t qs ms F =

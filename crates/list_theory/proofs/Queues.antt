@@ -114,12 +114,12 @@ written_last (k ∷ j ∷ []) a x n (values_cons f (values_cons g values_nil)) t
 written_last (k ∷ j ∷ i ∷ xs) a x n (values_cons f (values_cons g r)) t = values_cons f (written_last (j ∷ i ∷ xs) a x n (values_cons g r) t)
 
 pub last_below : (xs ys : List ℕ) (a x : ℕ) → T (ends_alike (newest_waiting xs) x) → FillValues (with_last xs a) ys → Queued (with_last ys x) (ys ++ (x ∷ []))
-last_below xs ys a x t r = go ys (subst T (ap not (some-last xs a t ∙ fill_empty r)) tt)
+last_below xs ys a x t r = go ys (subst T (ap not (some_last xs a t ∙ fill_empty r)) tt)
   where
-    some-last : (xs : List ℕ) (a : ℕ) → T (ends_alike (newest_waiting xs) x) → false ≡ is_empty (with_last xs a)
-    some-last [] a t = absurd t
-    some-last (k ∷ []) a t = refl
-    some-last (k ∷ j ∷ xs) a t = refl
+    some_last : (xs : List ℕ) (a : ℕ) → T (ends_alike (newest_waiting xs) x) → false ≡ is_empty (with_last xs a)
+    some_last [] a t = absurd t
+    some_last (k ∷ []) a t = refl
+    some_last (k ∷ j ∷ xs) a t = refl
 
     go : (ys : List ℕ) → T (not (is_empty ys)) → Queued (with_last ys x) (ys ++ (x ∷ []))
     go [] t = absurd t

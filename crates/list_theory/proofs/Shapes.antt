@@ -158,28 +158,28 @@ module _ (S : Shape) (m : Memory) (g : Proper S m) (ir : Irreducible S m) where
     abbrev unmoved : Bool
     unmoved = all_below S.processes (λ q. eqb (new q) (place q))
 
-    abbrev isSeen : Bool
-    isSeen = any_of (λ y. labelled y x.process x.variable) seen
+    abbrev is_seen : Bool
+    is_seen = any_of (λ y. labelled y x.process x.variable) seen
 
     abbrev Allowed : Type 0
-    Allowed = T (not unmoved || (not isSeen && eqb (place x.process) 0))
+    Allowed = T (not unmoved || (not is_seen && eqb (place x.process) 0))
 
-    by-pointer : (p : ℕ) → p < S.processes → m.pointer p ≡ suc k → Allowed
-    by-pointer p pe e = or_left (not unmoved) (not isSeen && eqb (place x.process) 0) (not_T unmoved (λ t.
+    by_pointer : (p : ℕ) → p < S.processes → m.pointer p ≡ suc k → Allowed
+    by_pointer p pe e = or_left (not unmoved) (not is_seen && eqb (place x.process) 0) (not_T unmoved (λ t.
         let q = eqb→eq (new p) (place p) (all_yes S.processes (λ q. eqb (new q) (place q)) t p pe) in
         omega (arith, s p pe, s' p pe, spot_open (suc k) p (omega arith), spot_placed k p (omega arith))))
 
     by_last : (p v : ℕ) → p < S.processes → IsLast m.channel (m.pointer p) p v (suc k) → Allowed
-    by_last p v pe l = ⊎_elim (λ e. by-pointer p pe (sym e))
-        (λ t. or_right (not unmoved) (not isSeen && eqb (place x.process) 0) (yes_and (not isSeen) (eqb (place x.process) 0)
-        (not_T isSeen (λ y. let u = sn x.process x.variable y in l.free u.0 u.1 u.2 (same_label x (message m.channel u.0) p v t u.3)))
+    by_last p v pe l = ⊎_elim (λ e. by_pointer p pe (sym e))
+        (λ t. or_right (not unmoved) (not is_seen && eqb (place x.process) 0) (yes_and (not is_seen) (eqb (place x.process) 0)
+        (not_T is_seen (λ y. let u = sn x.process x.variable y in l.free u.0 u.1 u.2 (same_label x (message m.channel u.0) p v t u.3)))
         (yes_eqb (ap place (labelled_is x p v t).0 ∙ s p pe ∙ spot_open (suc k) p l.low))))
         l.hit
 
     allow : T (allowed S seen place new x.process x.variable)
     allow =
         let r = role_is S m (suc k) (ir (suc k) (omega arith) b) in
-        ⊎_elim (by-pointer r.0 r.1) (λ w. by_last r.0 w.0 r.1 (subst (IsLast m.channel (m.pointer r.0) r.0 w.0) w.2 (is_last S m g r.0 w.0 r.1))) r.2
+        ⊎_elim (by_pointer r.0 r.1) (λ w. by_last r.0 w.0 r.1 (subst (IsLast m.channel (m.pointer r.0) r.0 w.0) w.2 (is_last S m g r.0 w.0 r.1))) r.2
 
   -- an outline with the labels of xs, and m's places
   record Outlined (xs : List Message) (os : List Outline) : Type 0 where

@@ -55,8 +55,8 @@ module _ (P : Program) (R : WellFormed P) (t : ℕ → ℕ) where
     ShapesHeld = (d : Configuration) → Memᴰ d (shape_cubes S t) → Held S es d
 
     -- this way the target's states need not exist
-    pub shapes-target : ShapesHeld → TargetHeld P es t
-    shapes-target H c o e =
+    pub shapes_target : ShapesHeld → TargetHeld P es t
+    shapes_target H c o e =
         let w = smaller S 0 R.shape.some_process c o.fits in
         let m = w.memory in
         let om = w.fits.memory in
@@ -80,8 +80,8 @@ module _ (P : Program) (R : WellFormed P) (t : ℕ → ℕ) where
           maps = subst (λ (y : ℕ → ℕ). Maps S (memory_of m.channel y) c.memory w.below.h) z w.below.maps;
         })
 
-    pub target-shapes : StatesOf P t → TargetHeld P es t ↔ ShapesHeld
-    target-shapes o = (
+    pub target_shapes : StatesOf P t → TargetHeld P es t ↔ ShapesHeld
+    target_shapes o = (
       λ A d i qs ms F. A (filled d qs ms) (record { states = (shape_entry o d i).states; fits = F.fits }) (shape_target d i qs ms),
-      shapes-target,
+      shapes_target,
     )

@@ -20,7 +20,7 @@ use Rattle.machine_pws.proofs.Moves.{maps_top}
 use Rattle.machine_pws.proofs.Insertion.{Hit, semi_of, semi_le, semi_back, maps_hit, ins, up_low, proper_insert}
 use Rattle.list_theory.specs.Cubes.{memory_of}
 use Rattle.list_theory.proofs.Lists.{T_false}
-use Rattle.list_theory.proofs.Gaps.{Carries, Gap, place, via, Moved, semi-gap, hit-gap, hit-new}
+use Rattle.list_theory.proofs.Gaps.{Carries, Gap, place, via, Moved, semi_gap, hit_gap, hit_new}
 
 -- ---- memories that stay proper
 
@@ -79,11 +79,11 @@ module _ (S : Shape) (f n : Memory) (gf : Proper S f) (gn : Proper S n) (p : ℕ
   le : (i j : ℕ) → Live S f i → Live S f j → h i ≤ h j → i ≤ j
   le = semi_back S f (point n p (suc t)) gf gn' h (semi_of M)
 
-  at-k : suc t ≡ h k
-  at-k = sym (put_same n.pointer p (suc t)) ∙ M.pointers p pe
+  at_k : suc t ≡ h k
+  at_k = sym (put_same n.pointer p (suc t)) ∙ M.pointers p pe
 
-  live-k : Live S f k
-  live-k = live_pointer S f gf p pe
+  live_k : Live S f k
+  live_k = live_pointer S f gf p pe
 
   other : (q u : ℕ) → q < S.processes → u < S.variables → q ≢ p → last_write n q u ≡ h (last_write f q u)
   other q u qe ue d = ap (λ (z : ℕ). max z (last_labelled n.channel q u)) (sym (put_other n.pointer p (suc t) q d)) ∙ M.last_writes q u qe ue
@@ -106,8 +106,8 @@ module _ (S : Shape) (f n : Memory) (gf : Proper S f) (gn : Proper S n) (p : ℕ
   ]
 
   -- p's message is the image of the one before
-  back-lowered : Live S f (k - 1) → h (k - 1) ≡ t → UpdateBack S f n p
-  back-lowered l at =
+  back_lowered : Live S f (k - 1) → h (k - 1) ≡ t → UpdateBack S f n p
+  back_lowered l at =
       let m = point f p (k - 1) in
       let lo : 1 ≤ k - 1 = omega (arith, gf.low l.who l.exists, l.from) in
       let less : (q : ℕ) → put f.pointer p (k - 1) q ≤ f.pointer q = λ q. put_each (λ q z. z ≤ f.pointer q) f.pointer p (k - 1) q (omega arith) (λ d. omega arith) in
@@ -127,19 +127,19 @@ module _ (S : Shape) (f n : Memory) (gf : Proper S f) (gn : Proper S n) (p : ℕ
       (hits m h (λ s y. record { at = y.at; lives = wide y.at y.lives; hits = y.hits }) (record { at = k - 1; lives = wide (k - 1) l; hits = at })))
 
   -- it is no image
-  back-fresh : (Live S f (k - 1) → h (k - 1) ≢ t) → UpdateBack S f n p
-  back-fresh apart =
+  back_fresh : (Live S f (k - 1) → h (k - 1) ≢ t) → UpdateBack S f n p
+  back_fresh apart =
       let miss : (i : ℕ) → Live S f i → h i ≢ t = λ i l e. elim (dec_le k i) [
-        | yes a ↦ omega (arith, semi_le S f (point n p (suc t)) gf gn' h (semi_of M) k i live-k l a, at-k)
+        | yes a ↦ omega (arith, semi_le S f (point n p (suc t)) gf gn' h (semi_of M) k i live_k l a, at_k)
         | no a ↦
             let m : Live S f (k - 1) = record { who = l.who; exists = l.exists; from = omega (arith, l.from); upto = omega (arith, gf.high p pe) } in
-            elim (ℕ_discrete i (k - 1)) [ yes d ↦ apart m (ap h (sym d) ∙ e) | no d ↦ omega (arith, at-k, M.rises i (k - 1) l m (omega arith), M.rises (k - 1) k m live-k (omega arith)) ]
+            elim (ℕ_discrete i (k - 1)) [ yes d ↦ apart m (ap h (sym d) ∙ e) | no d ↦ omega (arith, at_k, M.rises i (k - 1) l m (omega arith), M.rises (k - 1) k m live_k (omega arith)) ]
       ] in
       let gap : Gap S f h t k = record {
         lo = gf.low p pe;
         hi = omega (arith, gf.high p pe);
-        under = λ i l a. omega (arith, M.rises i k l live-k a, at-k, miss i l);
-        over = λ i l a. omega (arith, semi_le S f (point n p (suc t)) gf gn' h (semi_of M) k i live-k l a, at-k);
+        under = λ i l a. omega (arith, M.rises i k l live_k a, at_k, miss i l);
+        over = λ i l a. omega (arith, semi_le S f (point n p (suc t)) gf gn' h (semi_of M) k i live_k l a, at_k);
       } in
       let w = put (λ q. up k (f.pointer q)) p k in
       let moved : (q : ℕ) → q < S.processes → Moved f n h t k w q = λ q qe. elim (ℕ_discrete q p) [
@@ -158,17 +158,17 @@ module _ (S : Shape) (f n : Memory) (gf : Proper S f) (gn : Proper S n) (p : ℕ
             let s = is_last S n gn μ.process μ.variable re in
             let b : t ≤ last_write n μ.process μ.variable = elim (dec_le t (last_write n μ.process μ.variable))
             [ yes a ↦ a | no a ↦ absurd (s.free t (omega arith) (omega arith) (labelled_self μ)) ] in
-            le k i live-k l (omega (arith, at-k, miss i l, other μ.process μ.variable re ve d))
+            le k i live_k l (omega (arith, at_k, miss i l, other μ.process μ.variable re ve d))
       ] in
       fresh covered (via h k t)
-      (maps_hit S (point (insert_into f k μ) p k) n g gn (via h k t) (semi-gap S f n gf h carries t k gap live-t w moved)
-      (hits (point (insert_into f k μ) p k) (via h k t) (λ s y. hit-gap S f n gf h carries t k gap live-t w moved y)
-      (hit-new S f n gf h carries t k gap live-t w moved p pe (omega (arith, put_same (λ q. up k (f.pointer q)) p k)))))
+      (maps_hit S (point (insert_into f k μ) p k) n g gn (via h k t) (semi_gap S f n gf h carries t k gap live-t w moved)
+      (hits (point (insert_into f k μ) p k) (via h k t) (λ s y. hit_gap S f n gf h carries t k gap live-t w moved y)
+      (hit_new S f n gf h carries t k gap live-t w moved p pe (omega (arith, put_same (λ q. up k (f.pointer q)) p k)))))
 
-  pub update-back : UpdateBack S f n p
-  update-back = ⊎_elim
-      (λ l. elim (ℕ_discrete (h (k - 1)) t) [ yes e ↦ back-lowered l e | no e ↦ back-fresh (λ m. e) ])
-      (λ x. back-fresh (λ l. absurd (x l)))
+  pub update_back : UpdateBack S f n p
+  update_back = ⊎_elim
+      (λ l. elim (ℕ_discrete (h (k - 1)) t) [ yes e ↦ back_lowered l e | no e ↦ back_fresh (λ m. e) ])
+      (λ x. back_fresh (λ l. absurd (x l)))
       (dec_live S f (k - 1) (omega (arith, gf.high p pe)))
 
 -- ---- before a message is appended
@@ -196,8 +196,8 @@ module _ (S : Shape) (fn : Message) (fs : List Message) (z : ℕ → ℕ) (n : M
   top_at : h (suc (length fs)) ≡ suc N
   top_at = maps_top S f (append n p v x) gf (proper_cons (copy_with n.channel p v x) gn pe ve) h M p pe
 
-  pub top-is : fn ≡ copy_with n.channel p v x
-  top-is = sym (message_new fn fs) ∙ M.equal (suc (length fs)) top_live ∙ ap (message (append n p v x).channel) top_at ∙ message_new (copy_with n.channel p v x) n.channel
+  pub top_is : fn ≡ copy_with n.channel p v x
+  top_is = sym (message_new fn fs) ∙ M.equal (suc (length fs)) top_live ∙ ap (message (append n p v x).channel) top_at ∙ message_new (copy_with n.channel p v x) n.channel
 
   wide : (i : ℕ) → Live S f₀ i → Live S f i
   wide i l = record { who = l.who; exists = l.exists; from = l.from; upto = omega (arith, l.upto) }
@@ -207,14 +207,14 @@ module _ (S : Shape) (fn : Message) (fs : List Message) (z : ℕ → ℕ) (n : M
       record { who = l.who; exists = l.exists; from = l.from; upto = elim (ℕ_discrete i (suc (length fs))) [ yes e ↦ absurd (omega (arith, ap h e, top_at)) | no e ↦ omega (arith, l.upto) ] }
 
   -- no process points at the newest message
-  pub pointers-low : (q : ℕ) → q < S.processes → z q ≤ length fs
-  pointers-low q e = (narrow (z q) (live_pointer S f gf q e) (omega (arith, M.pointers q e, gn.high q e))).upto
+  pub pointers_low : (q : ℕ) → q < S.processes → z q ≤ length fs
+  pointers_low q e = (narrow (z q) (live_pointer S f gf q e) (omega (arith, M.pointers q e, gn.high q e))).upto
 
-  pub proper-low : Proper S f₀
-  proper-low =
+  pub proper_low : Proper S f₀
+  proper_low =
       record {
         low = gf.low;
-        high = pointers-low;
+        high = pointers_low;
         process = λ i a b. rw (← (message_old fn fs i b)) (gf.process i a (omega arith));
         variable = λ i a b. rw (← (message_old fn fs i b)) (gf.variable i a (omega arith));
       }
@@ -234,8 +234,8 @@ module _ (S : Shape) (fn : Message) (fs : List Message) (z : ℕ → ℕ) (n : M
   L = last_write n p v
 
   -- every LastWrite is hit, if what f₀ hits is, and that of p and v
-  every-hit : (m : Memory) (g : ℕ → ℕ) → ((s : ℕ) → Hit S f₀ h s → Hit S m g s) → Hit S m g L → (q u : ℕ) → q < S.processes → u < S.variables → Hit S m g (last_write n q u)
-  every-hit m g lift r q u qe ue = elim (ℕ_discrete q p) [
+  every_hit : (m : Memory) (g : ℕ → ℕ) → ((s : ℕ) → Hit S f₀ h s → Hit S m g s) → Hit S m g L → (q u : ℕ) → q < S.processes → u < S.variables → Hit S m g (last_write n q u)
+  every_hit m g lift r q u qe ue = elim (ℕ_discrete q p) [
     | yes a ↦ elim (ℕ_discrete u v) [ yes b ↦ rw (a, b) r | no b ↦ rest (λ y. b y.1) ]
     | no a ↦ rest (λ y. a y.0)
   ]
@@ -247,45 +247,45 @@ module _ (S : Shape) (fn : Message) (fs : List Message) (z : ℕ → ℕ) (n : M
           lift (last_write n q u) (record { at = last_write f q u; lives = narrow (last_write f q u) (live_last S f gf q u qe) (omega (arith, s.high)); hits = sym e })
 
   -- the LastWrite of p and v is an image: the newest message is left out
-  pub append-hit : Hit S f₀ h L → Maps S f₀ n h
-  append-hit r = maps_hit S f₀ n proper-low gn h (record { lands = low.lands; rises = low.rises; equal = low.equal; pointers = M.pointers }) (every-hit f₀ h (λ s y. y) r)
+  pub append_hit : Hit S f₀ h L → Maps S f₀ n h
+  append_hit r = maps_hit S f₀ n proper_low gn h (record { lands = low.lands; rises = low.rises; equal = low.equal; pointers = M.pointers }) (every_hit f₀ h (λ s y. y) r)
 
-  pub append-place : Hit S f₀ h L ⊎ ((k : ℕ) × Gap S f₀ h L k)
-  append-place = place S f₀ n proper-low h low L
+  pub append_place : Hit S f₀ h L ⊎ ((k : ℕ) × Gap S f₀ h L k)
+  append_place = place S f₀ n proper_low h low L
 
   -- it is not: it is put in, past the LastWrite there
   module _ (j : ℕ) (G : Gap S f₀ h L j) where
     last : IsLast n.channel (n.pointer p) p v L
     last = is_last S n gn p v pe
 
-    gap-pointer : z p < j
-    gap-pointer = elim (dec_lt (z p) j) [ yes a ↦ a | no a ↦ absurd (omega (arith, G.over (z p) (live_pointer S f₀ proper-low p pe) (omega arith), M.pointers p pe, last.low)) ]
+    gap_pointer : z p < j
+    gap_pointer = elim (dec_lt (z p) j) [ yes a ↦ a | no a ↦ absurd (omega (arith, G.over (z p) (live_pointer S f₀ proper_low p pe) (omega arith), M.pointers p pe, last.low)) ]
 
-    pub gap-past : last_write f₀ p v < j
-    gap-past =
+    pub gap_past : last_write f₀ p v < j
+    gap_past =
         let i = last_write f₀ p v in
-        let r = is_last S f₀ proper-low p v pe in
+        let r = is_last S f₀ proper_low p v pe in
         elim (dec_lt i j) [
           | yes a ↦ a
           | no a ↦ absurd (⊎_elim
-              (λ e. omega (arith, gap-pointer))
-              (λ t. let l = live_last S f₀ proper-low p v pe in last.free (h i) (G.over i l (omega arith)) (short i l) (rw (low.equal i l) at t)) r.hit)
+              (λ e. omega (arith, gap_pointer))
+              (λ t. let l = live_last S f₀ proper_low p v pe in last.free (h i) (G.over i l (omega arith)) (short i l) (rw (low.equal i l) at t)) r.hit)
         ]
 
-    pub gap-labelled : T (labelled (message n.channel L) p v)
-    gap-labelled = ⊎_elim (λ e. absurd (omega (arith, G.under (z p) (live_pointer S f₀ proper-low p pe) gap-pointer, M.pointers p pe))) (λ t. t) last.hit
+    pub gap_labelled : T (labelled (message n.channel L) p v)
+    gap_labelled = ⊎_elim (λ e. absurd (omega (arith, G.under (z p) (live_pointer S f₀ proper_low p pe) gap_pointer, M.pointers p pe))) (λ t. t) last.hit
 
-    pub gap-proper : Proper S (insert_into f₀ j (message n.channel L))
-    gap-proper =
+    pub gap_proper : Proper S (insert_into f₀ j (message n.channel L))
+    gap_proper =
         let l = live_last S n gn p v pe in
         let a : 1 ≤ L = omega (arith, gn.low p pe, last.low) in
-        proper_insert S f₀ proper-low j G.lo G.hi (message n.channel L) (gn.process L a l.upto) (gn.variable L a l.upto)
+        proper_insert S f₀ proper_low j G.lo G.hi (message n.channel L) (gn.process L a l.upto) (gn.variable L a l.upto)
 
-    pub append-gap : Maps S (insert_into f₀ j (message n.channel L)) n (via h j L)
-    append-gap =
+    pub append_gap : Maps S (insert_into f₀ j (message n.channel L)) n (via h j L)
+    append_gap =
         let w : ℕ → ℕ = λ q. up j (z q) in
         let l = live_last S n gn p v pe in
         let moved : (q : ℕ) → q < S.processes → Moved f₀ n h L j w q = λ q e. inl (refl, M.pointers q e) in
-        maps_hit S (insert_into f₀ j (message n.channel L)) n gap-proper gn (via h j L) (semi-gap S f₀ n proper-low h low L j G l w moved)
-        (every-hit (insert_into f₀ j (message n.channel L)) (via h j L) (λ s y. hit-gap S f₀ n proper-low h low L j G l w moved y)
-        (hit-new S f₀ n proper-low h low L j G l w moved p pe (omega (arith, up_low j (z p) gap-pointer, gap-pointer))))
+        maps_hit S (insert_into f₀ j (message n.channel L)) n gap_proper gn (via h j L) (semi_gap S f₀ n proper_low h low L j G l w moved)
+        (every_hit (insert_into f₀ j (message n.channel L)) (via h j L) (λ s y. hit_gap S f₀ n proper_low h low L j G l w moved y)
+        (hit_new S f₀ n proper_low h low L j G l w moved p pe (omega (arith, up_low j (z p) gap_pointer, gap_pointer))))

@@ -27,10 +27,10 @@ use Rattle.list_theory.specs.Decision.{held, target_held, looks_started, closed,
 use Rattle.list_theory.proofs.Lists.{every_yes, every_no, Lowest, fails, passes, lowest_is}
 use Rattle.list_theory.proofs.Cubes.{entry_cube}
 use Rattle.list_theory.proofs.NoneMissing.{none_missing}
-use Rattle.list_theory.proofs.NoneExtra.{none_extra, filling-configuration}
+use Rattle.list_theory.proofs.NoneExtra.{none_extra, filling_configuration}
 use Rattle.list_theory.proofs.Closed.{step_in, predecessor_of, cubes_step, cubes_closed}
 use Rattle.list_theory.proofs.StepOrder.{before_or, steps_order, first_fails, first_lower}
-use Rattle.list_theory.proofs.Targets.{shape_entry, shape_target, shapes-target}
+use Rattle.list_theory.proofs.Targets.{shape_entry, shape_target, shapes_target}
 use Rattle.list_theory.proofs.Starts.{start_above, no_start_above}
 use Rattle.list_theory.proofs.Splitting.{Decided, held_decided, decided_yes, decided_no}
 
@@ -128,7 +128,7 @@ module _ (P : Program) (R : WellFormed P) (es : List Configuration) (oes : (k : 
 
   -- number 9
   pub target_yes : (t : ℕ → ℕ) → StatesOf P t → T (target_held P es t) → TargetHeld P es t
-  target_yes t o y = shapes-target P R t es (λ d i. decided_yes (decided d (shape_entry P R t o d i)) (every_yes (held S es) (shape_cubes S t) y d i))
+  target_yes t o y = shapes_target P R t es (λ d i. decided_yes (decided d (shape_entry P R t o d i)) (every_yes (held S es) (shape_cubes S t) y d i))
 
   pub target_no : (t : ℕ → ℕ) → StatesOf P t → T (not (target_held P es t)) → TargetMissed P es t
   target_no t o y =
@@ -164,7 +164,7 @@ module _ (P : Program) (R : WellFormed P) (es : List Configuration) (oes : (k : 
       let a = none_extra P R e o N s p.0 p.1 x.queues x.channel x.filling in
       record {
         configuration = filled (cube P e s p.0) x.queues x.channel;
-        of = filling-configuration P R e o s p.0 p.1 x.queues x.channel x.filling;
+        of = filling_configuration P R e o s p.0 p.1 x.queues x.channel x.filling;
         permitted = a.may;
         above = a.above;
         outside = x.outside;
@@ -213,33 +213,33 @@ module _ (P : Program) (R : WellFormed P) (es : List Configuration) (oes : (k : 
         record { exists = l; lower = λ j i. target_yes (target ts j) (ots j (omega arith)) (a j i); missed = target_no (target ts k) (ots k l) t }
     first ff (passes a) = second ff (λ k l. target_yes (target ts k) (ots k l) (a k l)) (lowest_is (λ e. not (looks_started P e)) no_entry es)
 
-    pub verdict-judged : NoValueIsFF S → ListJudged P ts es (verdict_of P ts es)
-    verdict-judged ff = first ff (lowest_is (target_held P es) no_target ts)
+    pub verdict_judged : NoValueIsFF S → ListJudged P ts es (verdict_of P ts es)
+    verdict_judged ff = first ff (lowest_is (target_held P es) no_target ts)
 
     -- ---- what is computed to be safe is safe, whatever the values are
 
-    safe-closed : TargetsHeld P ts es → NoneStarted P ts es → {o : Option ℕ} → Lowest (closed P es) no_entry es o → (n : ℕ)
+    safe_closed : TargetsHeld P ts es → NoneStarted P ts es → {o : Option ℕ} → Lowest (closed P es) no_entry es o → (n : ℕ)
         → elim o [ some k ↦ entered k (open_step P es (entry es k)) | none ↦ safe (length es) ] ≡ safe n → SafeList P ts es
-    safe-closed H N (fails k l t a) n e = absurd (let z : ◌≡◌ {A = ℕ} 0 1 = cc in omega arith)
-    safe-closed H N (passes a) n e = (safe_by_number P ts es).1 (H, N, λ k l. closed_yes (entry es k) (oes k l) (a k l))
+    safe_closed H N (fails k l t a) n e = absurd (let z : ◌≡◌ {A = ℕ} 0 1 = cc in omega arith)
+    safe_closed H N (passes a) n e = (safe_by_number P ts es).1 (H, N, λ k l. closed_yes (entry es k) (oes k l) (a k l))
 
-    safe-unstarted : TargetsHeld P ts es → {o : Option ℕ} → Lowest (λ e. not (looks_started P e)) no_entry es o → (n : ℕ)
+    safe_unstarted : TargetsHeld P ts es → {o : Option ℕ} → Lowest (λ e. not (looks_started P e)) no_entry es o → (n : ℕ)
         → elim o [ some k ↦ started k | none ↦ elim (lowest (closed P es) es) [ some k ↦ entered k (open_step P es (entry es k)) | none ↦ safe (length es) ] ] ≡ safe n
         → SafeList P ts es
-    safe-unstarted H (fails k l t a) n e = absurd (let z : ◌≡◌ {A = ℕ} 0 1 = cc in omega arith)
-    safe-unstarted H (passes a) n e = safe-closed H (λ k l. unstarted k l (a k l)) (lowest_is (closed P es) no_entry es) n e
+    safe_unstarted H (fails k l t a) n e = absurd (let z : ◌≡◌ {A = ℕ} 0 1 = cc in omega arith)
+    safe_unstarted H (passes a) n e = safe_closed H (λ k l. unstarted k l (a k l)) (lowest_is (closed P es) no_entry es) n e
 
-    safe-held : {o : Option ℕ} → Lowest (target_held P es) no_target ts o → (n : ℕ)
+    safe_held : {o : Option ℕ} → Lowest (target_held P es) no_target ts o → (n : ℕ)
         → elim o [
           | some k ↦ unheld k
           | none ↦ elim (lowest (λ e. not (looks_started P e)) es) [ some k ↦ started k | none ↦ elim (lowest (closed P es) es) [ some k ↦ entered k (open_step P es (entry es k)) | none ↦ safe (length es) ] ]
         ] ≡ safe n
         → SafeList P ts es
-    safe-held (fails k l t a) n e = absurd (let z : ◌≡◌ {A = ℕ} 0 1 = cc in omega arith)
-    safe-held (passes a) n e = safe-unstarted (λ k l. target_yes (target ts k) (ots k l) (a k l)) (lowest_is (λ e. not (looks_started P e)) no_entry es) n e
+    safe_held (fails k l t a) n e = absurd (let z : ◌≡◌ {A = ℕ} 0 1 = cc in omega arith)
+    safe_held (passes a) n e = safe_unstarted (λ k l. target_yes (target ts k) (ots k l) (a k l)) (lowest_is (λ e. not (looks_started P e)) no_entry es) n e
 
-    pub computed-safe : (n : ℕ) → verdict_of P ts es ≡ safe n → SafeList P ts es
-    computed-safe n e = safe-held (lowest_is (target_held P es) no_target ts) n e
+    pub computed_safe : (n : ℕ) → verdict_of P ts es ≡ safe n → SafeList P ts es
+    computed_safe n e = safe_held (lowest_is (target_held P es) no_target ts) n e
 
 -- ---- demand 3, first sentence
 

@@ -1,4 +1,4 @@
--- A list judged by computation (theory, sections 3 to 6). It is slow: that it is right is `verdict-judged`.
+-- A list judged by computation (theory, sections 3 to 6). It is slow: that it is right is `verdict_judged`.
 use Rattle.std.specs.Prelude.{ℕ, Bool, true, false, ◌&&◌, not, List, [], ◌∷◌, length, eqb}
 use Rattle.std.proofs.Math.Option.{none, some}
 use Rattle.machine_pws.specs.declared.Step.{Step}

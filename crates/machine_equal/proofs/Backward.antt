@@ -26,9 +26,9 @@ module _ (P : Program) (R : WellFormed P) where
     up_to : (p : ℕ) → p < P.shape.processes → Leads P (Waiting P d p) c
     up_to p pe = up_to_fence P R d p pe (K.deferred p) K.deferred c K.follows refl
 
-    follow-operate : (n : ℕ) → n < length P.transitions → T (may_operate_by P.shape d (transition P n))
+    follow_operate : (n : ℕ) → n < length P.transitions → T (may_operate_by P.shape d (transition P n))
         → Leads P (Related P (after_operate P.shape d (transition P n))) c
-    follow-operate n l t =
+    follow_operate n l t =
         let a = transition P n in
         let r = R.transitions n l in
         let b = and_yes (eqb (d.state a.process) a.from) (pso_may_operate P.shape d a.process a.operation) t in
@@ -43,17 +43,17 @@ module _ (P : Program) (R : WellFormed P) where
         (deferrable_or_strong a.operation)
 
     -- PWS follows a step of PSO
-    follow-step : (u : PsoStep) → T (pso_may P d u) → Leads P (Related P (pso_after P d u)) c
-    follow-step (Operate n) t =
+    follow_step : (u : PsoStep) → T (pso_may P d u) → Leads P (Related P (pso_after P d u)) c
+    follow_step (Operate n) t =
         let r = and_yes (ltb n (length P.transitions)) (may_operate_by P.shape d (transition P n)) t in
-        follow-operate n (ltb→lt n (length P.transitions) r.0) r.1
-    follow-step (UpdateVariable p v) t =
+        follow_operate n (ltb→lt n (length P.transitions) r.0) r.1
+    follow_step (UpdateVariable p v) t =
         let r = and_yes (ltb p P.shape.processes && ltb v P.shape.variables) (value_first (d.buffer p v)) t in
         let s = and_yes (ltb p P.shape.processes) (ltb v P.shape.variables) r.0 in
         let pe = ltb→lt p P.shape.processes s.0 in
         onward P (Waiting P d p) (Related P (after_update_variable d p v)) (up_to p pe)
         (follow_update P R d p pe v (ltb→lt v P.shape.variables s.1) r.1)
-    follow-step (RemoveMark p) t =
+    follow_step (RemoveMark p) t =
         let r = and_yes (ltb p P.shape.processes) (all_below P.shape.variables (λ v. mark_first (d.buffer p v))) t in
         let pe = ltb→lt p P.shape.processes r.0 in
         onward P (Waiting P d p) (Related P (after_remove_mark P.shape d p)) (up_to p pe)
@@ -67,7 +67,7 @@ module _ (P : Program) (R : WellFormed P) where
       (finish P R d.state P.shape.processes (omega arith) K.deferred c K.follows.delayed)
       (λ a F p pe. rw (F.none p pe) at (F.delayed.late p pe))
   follow_run c K (step {d = d} {e = e} u t r) =
-      onward P (Related P (pso_after P d u)) (λ a. SameStates P a e) (follow-step d c K u t) (λ a H. follow_run a H r)
+      onward P (Related P (pso_after P d u)) (λ a. SameStates P a e) (follow_step d c K u t) (λ a H. follow_run a H r)
 
 -- at the start nothing is put off
 start_related : (P : Program) (memory : List ℕ) (c : Configuration) (d : PsoConfiguration) → PwsStart P memory c → PsoStart P memory d → Related P d c

@@ -83,19 +83,19 @@ module _ (P : Program) (R : WellFormed P) (d : PsoConfiguration) where
       catch_up (length c.memory.channel - c.memory.pointer p) p pe os c F none (omega (arith, high))
 
   module _ (c : Configuration) (os : ℕ → List Deferred) (F : Follows P d os c) where
-    may-strong : (p : ℕ) → p < P.shape.processes → c.memory.pointer p ≡ length c.memory.channel → (op : Operation) → Strong op → OperationOf P.shape op
+    may_strong : (p : ℕ) → p < P.shape.processes → c.memory.pointer p ≡ length c.memory.channel → (op : Operation) → Strong op → OperationOf P.shape op
         → T (pso_may_operate P.shape d p op) → T (may_operate P.shape c p op)
-    may-strong p pe z Nop y w t = absurd y
-    may-strong p pe z (Read v x) y w t = absurd y
-    may-strong p pe z (Write v x) y w t = absurd y
-    may-strong p pe z Mfence y w t =
+    may_strong p pe z Nop y w t = absurd y
+    may_strong p pe z (Read v x) y w t = absurd y
+    may_strong p pe z (Write v x) y w t = absurd y
+    may_strong p pe z Mfence y w t =
         let free : (v : ℕ) → v < P.shape.variables → c.queue p v ≡ [] =
         λ v ve. no_item_waits (c.queue p v) (items P v (os p))
         (rw (F.buffers p v pe ve) at (all_yes P.shape.variables (λ v. no_item (d.buffer p v)) t v ve)) in
         yes_and (none_waiting P.shape c p) (at_newest c.memory p) (none_waiting_lem P.shape c p free)
         (T_eq (c.memory.pointer p) (length c.memory.channel) z)
-    may-strong p pe z Sfence y w t = absurd y
-    may-strong p pe z (Arw v x n) y w t =
+    may_strong p pe z Sfence y w t = absurd y
+    may_strong p pe z (Arw v x n) y w t =
         let r = and_yes (no_item (d.buffer p v)) (eqb (get_or d.memory v 0) x) t in
         let free : c.queue p v ≡ [] = no_item_waits (c.queue p v) (items P v (os p)) (rw (F.buffers p v pe w.0) at r.0) in
         let empty : T (is_empty (c.queue p v)) = rw free tt in
@@ -103,22 +103,22 @@ module _ (P : Program) (R : WellFormed P) (d : PsoConfiguration) where
         (yes_and (is_empty (c.queue p v)) (at_newest c.memory p) empty (T_eq (c.memory.pointer p) (length c.memory.channel) z))
         (rw F.memory r.1)
 
-    strong-buffers : (p : ℕ) (op : Operation) → Strong op → (q u : ℕ) → q < P.shape.processes → u < P.shape.variables
+    strong_buffers : (p : ℕ) (op : Operation) → Strong op → (q u : ℕ) → q < P.shape.processes → u < P.shape.variables
         → buffer_after P.shape d p op q u ≡ values (queue_after c p op q u) ++ items P u (os q)
-    strong-buffers p Nop y q u qe ue = absurd y
-    strong-buffers p (Read v x) y q u qe ue = absurd y
-    strong-buffers p (Write v x) y q u qe ue = absurd y
-    strong-buffers p Mfence y q u qe ue = F.buffers q u qe ue
-    strong-buffers p Sfence y q u qe ue = absurd y
-    strong-buffers p (Arw v x z) y q u qe ue = F.buffers q u qe ue
+    strong_buffers p Nop y q u qe ue = absurd y
+    strong_buffers p (Read v x) y q u qe ue = absurd y
+    strong_buffers p (Write v x) y q u qe ue = absurd y
+    strong_buffers p Mfence y q u qe ue = F.buffers q u qe ue
+    strong_buffers p Sfence y q u qe ue = absurd y
+    strong_buffers p (Arw v x z) y q u qe ue = F.buffers q u qe ue
 
-    strong-memory : (p : ℕ) (op : Operation) → Strong op → (newest (memory_after c.memory p op).channel).snapshot ≡ pso_memory_after d.memory op
-    strong-memory p Nop y = absurd y
-    strong-memory p (Read v x) y = absurd y
-    strong-memory p (Write v x) y = absurd y
-    strong-memory p Mfence y = F.memory
-    strong-memory p Sfence y = absurd y
-    strong-memory p (Arw v x z) y = rw (message_new (copy_with c.memory.channel p v z) c.memory.channel, F.memory)
+    strong_memory : (p : ℕ) (op : Operation) → Strong op → (newest (memory_after c.memory p op).channel).snapshot ≡ pso_memory_after d.memory op
+    strong_memory p Nop y = absurd y
+    strong_memory p (Read v x) y = absurd y
+    strong_memory p (Write v x) y = absurd y
+    strong_memory p Mfence y = F.memory
+    strong_memory p Sfence y = absurd y
+    strong_memory p (Arw v x z) y = rw (message_new (copy_with c.memory.channel p v z) c.memory.channel, F.memory)
 
   pub follow_strong : (n : ℕ) → n < length P.transitions → T (may_operate_by P.shape d (transition P n)) → Strong (transition P n).operation
       → (c : Configuration) → Ready P d (transition P n).process c → Leads P (Related P (after_operate P.shape d (transition P n))) c
@@ -133,7 +133,7 @@ module _ (P : Program) (R : WellFormed P) (d : PsoConfiguration) where
       let L : c.state p ≡ d.state p = rw W.none at (F.delayed.late p r.process) in
       let m : T (may P c (Take n)) =
       yes_take P c n l (yes_and (eqb (c.state p) a.from) (may_operate P.shape c p op) (rw L b.0)
-      (may-strong c os F p r.process W.top op y r.operation b.1)) in
+      (may_strong c os F p r.process W.top op y r.operation b.1)) in
       let own : Late P (after_take c a) p (os p) a.to = rw W.none (put_same c.state p a.to) in
       go P _ (Take n) m (stay P (Related P (after_operate P.shape d (transition P n))) (
       record {
@@ -146,8 +146,8 @@ module _ (P : Program) (R : WellFormed P) (d : PsoConfiguration) where
                     late = λ q qe. put_each (λ i x. Late P (after_take c a) i (os i) x) d.state p a.to q own
                         (λ i. late_apart P (apart_take c a q i) (os q) (d.state q) (F.delayed.late q qe));
                   };
-              buffers = strong-buffers c os F p op y;
-              memory = strong-memory c os F p op y;
+              buffers = strong_buffers c os F p op y;
+              memory = strong_memory c os F p op y;
             };
       }
       ))

@@ -37,17 +37,17 @@ module _ (P : Program) (d₀ : PsoConfiguration) where
     agrees : Agree (step_process P u) e d
     agrees = rw own a
 
-    step-may : T (pso_may P e u)
-    step-may = subst T (sym (agree_may P e d u agrees)) t
+    step_may : T (pso_may P e u)
+    step_may = subst T (sym (agree_may P e d u agrees)) t
 
-    step-agree : Agree p (pso_after P e u) (pso_after P d u)
-    step-agree = rw own at (agree_after P e d u agrees)
+    step_agree : Agree p (pso_after P e u) (pso_after P d u)
+    step_agree = rw own at (agree_after P e d u agrees)
 
-    step-state : (q : ℕ) → q ≢ p → (pso_after P e u).state q ≡ e.state q
-    step-state q n = other_state P e u q (λ x. n (x ∙ own))
+    step_state : (q : ℕ) → q ≢ p → (pso_after P e u).state q ≡ e.state q
+    step_state q n = other_state P e u q (λ x. n (x ∙ own))
 
-    step-buffer : (q : ℕ) → q ≢ p → (pso_after P e u).buffer q ≡ e.buffer q
-    step-buffer q n = other_buffer P e u q (λ x. n (x ∙ own))
+    step_buffer : (q : ℕ) → q ≢ p → (pso_after P e u).buffer q ≡ e.buffer q
+    step_buffer q n = other_buffer P e u q (λ x. n (x ∙ own))
 
   -- ---- what p does while it is at a message
 
@@ -62,16 +62,16 @@ module _ (P : Program) (d₀ : PsoConfiguration) where
   run_locals p (more {d = d} u l o t k) e r g =
       let i = run_locals p l e r g in
       let f = i.end in
-      let s = step-agree p u o f d i.own t in
+      let s = step_agree p u o f d i.own t in
       record {
         end = pso_after P f u;
-        run = reach_step u i.run (step-may p u o f d i.own t);
+        run = reach_step u i.run (step_may p u o f d i.own t);
         own = s;
         others = λ q n.
             let w : Agree q (pso_after P f u) f =
             record {
-              state = step-state p u o f d i.own t q n;
-              buffer = step-buffer p u o f d i.own t q n;
+              state = step_state p u o f d i.own t q n;
+              buffer = step_buffer p u o f d i.own t q n;
               memory = s.memory ∙ k ∙ sym i.own.memory;
             } in
             agree_then w (i.others q n);
@@ -131,15 +131,15 @@ module _ (P : Program) (d₀ : PsoConfiguration) where
     next_own p l i (other w) r z = absurd (w i)
     next_own p l i (makes {d = d} u o w t k) r z =
         let e = start.end in
-        let s = step-agree p u o e d r t in
+        let s = step_agree p u o e d r t in
         record {
           end = pso_after P e u;
-          run = reach_step u start.run (step-may p u o e d r t);
+          run = reach_step u start.run (step_may p u o e d r t);
           agree = λ q h. elim (ℕ_discrete q p) [
             | yes c ↦ at_equal N (λ x y. Agree x (pso_after P e u) (a x y)) p l (agree_then s (agree_same p (pso_after P d u) (a p l) z)) q h c
             | no c ↦
-                next_other q (pso_after P e u) (nexts q h) (λ x. c (sym x ∙ i)) (step-state p u o e d r t q c ∙ (start.agree q h).state)
-                (step-buffer p u o e d r t q c ∙ (start.agree q h).buffer) (s.memory ∙ k)
+                next_other q (pso_after P e u) (nexts q h) (λ x. c (sym x ∙ i)) (step_state p u o e d r t q c ∙ (start.agree q h).state)
+                (step_buffer p u o e d r t q c ∙ (start.agree q h).buffer) (s.memory ∙ k)
           ];
         }
 

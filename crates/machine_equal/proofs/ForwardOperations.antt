@@ -81,8 +81,8 @@ module _ (P : Program) (d₀ : PsoConfiguration) (n : ℕ) (listed : n < length 
     same_read v ve = rw (o.buffers v ve, o.memory) (ahead_sees p k v o.ahead (c.queue p v))
 
     -- what p has in its buffers after an operation that is no store-store fence
-    own-buffers : (x : Operation) → NoFence x → (u : ℕ) → u < S.variables → buffer_after S d p x p u ≡ o.held u ++ values (waiting_after (c.queue p) x u)
-    own-buffers x n u ue =
+    own_buffers : (x : Operation) → NoFence x → (u : ℕ) → u < S.variables → buffer_after S d p x p u ≡ o.held u ++ values (waiting_after (c.queue p) x u)
+    own_buffers x n u ue =
         buffer_own S d p x u ue ∙ ap (λ (is : List Item). is ++ item_of u x) (o.buffers u ue)
         ∙ append_assoc (o.held u) (values (c.queue p u)) (item_of u x)
         ∙ ap (λ (is : List Item). o.held u ++ is)
@@ -92,8 +92,8 @@ module _ (P : Program) (d₀ : PsoConfiguration) (n : ℕ) (listed : n < length 
     empty : T (none_waiting S c p) → (v : ℕ) → v < S.variables → c.queue p v ≡ []
     empty z v ve = is_nil (c.queue p v) (all_yes S.variables (λ u. is_empty (c.queue p u)) z v ve)
 
-    newest-pointed : T (at_newest c.memory p) → length ms ≡ k
-    newest-pointed z = sym (eqb→eq k (length ms) z)
+    newest_pointed : T (at_newest c.memory p) → length ms ≡ k
+    newest_pointed z = sym (eqb→eq k (length ms) z)
 
     -- an arw writes memory at once: p's run goes on to the message that it makes
     swap : (v old new : ℕ) → t.operation ≡ Arw v old new → v < S.variables → T (may_operate S c p (Arw v old new))
@@ -101,7 +101,7 @@ module _ (P : Program) (d₀ : PsoConfiguration) (n : ℕ) (listed : n < length 
     swap v old new e ve z =
         let y = and_yes (is_empty (c.queue p v) && at_newest c.memory p) (eqb (get_or (newest ms).snapshot v 0) old) z in
         let i = and_yes (is_empty (c.queue p v)) (at_newest c.memory p) y.0 in
-        let top : length ms ≡ k = newest-pointed i.1 in
+        let top : length ms ≡ k = newest_pointed i.1 in
         let r = at_newest_lem P d₀ p pe o top in
         let m = copy_with ms p v new in
         let memory : r.end.memory ≡ (newest ms).snapshot = r.memory ∙ o.memory ∙ ap (λ (j : ℕ). (message ms j).snapshot) (sym top) in
@@ -132,15 +132,15 @@ module _ (P : Program) (d₀ : PsoConfiguration) (n : ℕ) (listed : n < length 
     operate (Write v x) e w z =
         subst (Own P d₀ p ms k t.to) (sym (put_same c.queue p (put (c.queue p) v (c.queue p v ++ (x ∷ [])))))
         (stay (Write v x) e d o.state tt o.held o (put (c.queue p) v (c.queue p v ++ (x ∷ []))) o.thread.stays o.memory refl o.ahead
-        (own-buffers (Write v x) tt))
+        (own_buffers (Write v x) tt))
     operate Sfence e w z =
         stay Sfence e d o.state tt (λ v. o.held v ++ (mark ∷ [])) o (c.queue p) o.thread.stays o.memory refl (fence o.ahead)
         (λ v ve. buffer_own S d p Sfence v ve
         ∙ rw (o.buffers v ve, empty z v ve, append-nil (o.held v), append-nil (o.held v ++ (mark ∷ []))))
     operate Mfence e w z =
         let y = and_yes (none_waiting S c p) (at_newest c.memory p) z in
-        let r = at_newest_lem P d₀ p pe o (newest-pointed y.1) in
+        let r = at_newest_lem P d₀ p pe o (newest_pointed y.1) in
         stay Mfence e r.end (r.state ∙ o.state) (yes_all S.variables (λ v. no_item (r.end.buffer p v)) (λ v ve. rw (r.buffers v ve, empty y.0 v ve) tt))
-        (λ v. []) o (c.queue p) r.stays (r.memory ∙ o.memory) refl (here (newest-pointed y.1)) r.buffers
+        (λ v. []) o (c.queue p) r.stays (r.memory ∙ o.memory) refl (here (newest_pointed y.1)) r.buffers
     operate (Arw v old new) e w z =
         subst (λ (j : ℕ). Own P d₀ p (copy_with ms p v new ∷ ms) j t.to (c.queue p)) (sym (put_same c.memory.pointer p (suc (length ms)))) (swap v old new e w.0 z)

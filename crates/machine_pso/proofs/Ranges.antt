@@ -98,26 +98,26 @@ module _ (P : Program) (R : WellFormed P) (counts : List ℕ) (C : CountsOf P.sh
     memory_operation Sfence w = o.memory
     memory_operation (Arw v old new) w = within_set counts d.memory v new (named v new w.0 w.2) o.memory
 
-    buffers-operation : (p : ℕ) (x : Operation) → p < S.processes → OperationOf S x → Buffers (buffer_after S d p x)
-    buffers-operation p Nop pe w = o.buffers
-    buffers-operation p (Read v x) pe w = o.buffers
-    buffers-operation p (Write v x) pe w =
+    buffers_operation : (p : ℕ) (x : Operation) → p < S.processes → OperationOf S x → Buffers (buffer_after S d p x)
+    buffers_operation p Nop pe w = o.buffers
+    buffers_operation p (Read v x) pe w = o.buffers
+    buffers_operation p (Write v x) pe w =
         buffers_put d.buffer p v (d.buffer p v ++ (value x ∷ [])) o.buffers
         (values_more (λ y. y < get_or counts v 0) (d.buffer p v) x (o.buffers p v pe w.0) (named v x w.0 w.1))
-    buffers-operation p Mfence pe w = o.buffers
-    buffers-operation p Sfence pe w =
+    buffers_operation p Mfence pe w = o.buffers
+    buffers_operation p Sfence pe w =
         buffers_each d.buffer p (λ is. is ++ (mark ∷ [])) (λ u is a. values_marked (λ y. y < get_or counts u 0) is a) o.buffers
-    buffers-operation p (Arw v old new) pe w = o.buffers
+    buffers_operation p (Arw v old new) pe w = o.buffers
 
-    pub step-in-ranges : (u : PsoStep) → T (pso_may P d u) → PsoInRanges S counts (pso_after P d u)
-    step-in-ranges (Operate n) t =
+    pub step_in_ranges : (u : PsoStep) → T (pso_may P d u) → PsoInRanges S counts (pso_after P d u)
+    step_in_ranges (Operate n) t =
         let q = transition P n in
         let w = R.transitions n (ltb→lt n (length P.transitions) (and_yes (ltb n (length P.transitions)) (may_operate_by S d q) t).0) in
         record {
           memory = memory_operation q.operation w.operation;
-          buffers = buffers-operation q.process q.operation w.process w.operation;
+          buffers = buffers_operation q.process q.operation w.process w.operation;
         }
-    step-in-ranges (UpdateVariable p v) t =
+    step_in_ranges (UpdateVariable p v) t =
         let r = and_yes (ltb p S.processes && ltb v S.variables) (value_first (d.buffer p v)) t in
         let l = and_yes (ltb p S.processes) (ltb v S.variables) r.0 in
         let a = o.buffers p v (ltb→lt p S.processes l.0) (ltb→lt v S.variables l.1) in
@@ -125,7 +125,7 @@ module _ (P : Program) (R : WellFormed P) (counts : List ℕ) (C : CountsOf P.sh
           memory = within_set counts d.memory v (oldest_value (d.buffer p v)) (values_oldest (λ y. y < get_or counts v 0) (d.buffer p v) r.1 a) o.memory;
           buffers = buffers_put d.buffer p v (without_first (d.buffer p v)) o.buffers (values_rest (λ y. y < get_or counts v 0) (d.buffer p v) a);
         }
-    step-in-ranges (RemoveMark p) t =
+    step_in_ranges (RemoveMark p) t =
         record {
           memory = o.memory;
           buffers = buffers_each d.buffer p without_first (λ u is a. values_rest (λ y. y < get_or counts u 0) is a) o.buffers;
@@ -143,11 +143,11 @@ module _ (P : Program) (R : WellFormed P) (counts : List ℕ) (C : CountsOf P.sh
 
   visited_in_ranges : {d e : PsoConfiguration} {us : List PsoStep} → PsoInRanges S counts d → PsoVisited P d us e → PsoInRanges S counts e
   visited_in_ranges o start = o
-  visited_in_ranges {d} o (later u t r) = visited_in_ranges (step-in-ranges d o u t) r
+  visited_in_ranges {d} o (later u t r) = visited_in_ranges (step_in_ranges d o u t) r
 
   pub pso_keeps_ranges : PsoKeepsRanges P counts
   pso_keeps_ranges =
       record {
-        steps = λ d u o t. step-in-ranges d o u t;
+        steps = λ d u o t. step_in_ranges d o u t;
         visited = λ memory d s us e v. visited_in_ranges (start_in_ranges memory d s) v;
       }

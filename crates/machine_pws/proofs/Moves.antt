@@ -79,53 +79,53 @@ module _ (S : Shape) (m n : Memory) (gm : Proper S m) (gn : Proper S n) (h : ℕ
       (subst (λ (x : ℕ). IsLast n.channel (n.pointer p) p v x) (M.last_writes p v e f) (is_last S n gn p v e))
 
   module _ (p k : ℕ) (pe : p < S.processes) (up : m.pointer p ≤ k) (fit : k ≤ length m.channel) where
-    point-up : (q : ℕ) → m.pointer q ≤ put m.pointer p k q
-    point-up q = put_each (λ q z. m.pointer q ≤ z) m.pointer p k q up (λ d. omega arith)
+    point_up : (q : ℕ) → m.pointer q ≤ put m.pointer p k q
+    point_up q = put_each (λ q z. m.pointer q ≤ z) m.pointer p k q up (λ d. omega arith)
 
-    point-live : (i : ℕ) → Live S (point m p k) i → Live S m i
-    point-live i l = live l.who i l.exists (omega (arith, point-up l.who, l.from)) l.upto
+    point_live : (i : ℕ) → Live S (point m p k) i → Live S m i
+    point_live i l = live l.who i l.exists (omega (arith, point_up l.who, l.from)) l.upto
 
-    point-pointers : (q : ℕ) → q < S.processes → put n.pointer p (h k) q ≡ h (put m.pointer p k q)
-    point-pointers q e = elim (ℕ_discrete q p) [
+    point_pointers : (q : ℕ) → q < S.processes → put n.pointer p (h k) q ≡ h (put m.pointer p k q)
+    point_pointers q e = elim (ℕ_discrete q p) [
       | yes d ↦ rw (d, put_same n.pointer p (h k), put_same m.pointer p k)
       | no d ↦ rw (put_other n.pointer p (h k) q d, put_other m.pointer p k q d) (M.pointers q e)
     ]
 
     point_at : (q : ℕ) → q < S.processes → Live S m (put m.pointer p k q)
-    point_at q e = live q (put m.pointer p k q) e (point-up q) (put_each (λ q z. z ≤ length m.channel) m.pointer p k q fit (λ d. gm.high q e))
+    point_at q e = live q (put m.pointer p k q) e (point_up q) (put_each (λ q z. z ≤ length m.channel) m.pointer p k q fit (λ d. gm.high q e))
 
-    point-last : (q v : ℕ) → q < S.processes → v < S.variables → last_write (point n p (h k)) q v ≡ h (last_write (point m p k) q v)
-    point-last q v qe ve =
+    point_last : (q v : ℕ) → q < S.processes → v < S.variables → last_write (point n p (h k)) q v ≡ h (last_write (point m p k) q v)
+    point_last q v qe ve =
         let i = last_write m q v in
         let z = put m.pointer p k q in
         let r = is_last S m gm q v qe in
         let s = last_mapped q v qe ve in
         let lz = point_at q qe in
         let li = live_last S m gm q v qe in
-        rw (point-pointers q qe) (elim (dec_le z i) [
+        rw (point_pointers q qe) (elim (dec_le z i) [
           | yes l ↦
-              last_eq (last_kept s (maps_le (m.pointer q) z (live_pointer S m gm q qe) lz (point-up q)) (maps_le z i lz li l))
-              ∙ ap h (sym (last_eq (last_kept r (point-up q) l)))
+              last_eq (last_kept s (maps_le (m.pointer q) z (live_pointer S m gm q qe) lz (point_up q)) (maps_le z i lz li l))
+              ∙ ap h (sym (last_eq (last_kept r (point_up q) l)))
           | no l ↦
               last_eq (last_passed s (maps_le i z li lz (omega arith)) (M.lands z lz).upto)
               ∙ ap h (sym (last_eq (last_passed r (omega arith) lz.upto)))
         ])
 
     -- a pointer moved up in m, and to the matching message in n
-    pub point-maps : Maps S (point m p k) (point n p (h k)) h
-    point-maps =
+    pub point_maps : Maps S (point m p k) (point n p (h k)) h
+    point_maps =
         record {
           lands = λ i l.
               record {
                 who = l.who;
                 exists = l.exists;
-                from = rw (point-pointers l.who l.exists) (maps_le _ i (point_at l.who l.exists) (point-live i l) l.from);
-                upto = (M.lands i (point-live i l)).upto;
+                from = rw (point_pointers l.who l.exists) (maps_le _ i (point_at l.who l.exists) (point_live i l) l.from);
+                upto = (M.lands i (point_live i l)).upto;
               };
-          rises = λ i j a b. M.rises i j (point-live i a) (point-live j b);
-          equal = λ i l. M.equal i (point-live i l);
-          pointers = point-pointers;
-          last_writes = point-last;
+          rises = λ i j a b. M.rises i j (point_live i a) (point_live j b);
+          equal = λ i l. M.equal i (point_live i l);
+          pointers = point_pointers;
+          last_writes = point_last;
         }
 
 -- ns is the channel ms with one or more messages of label (p, v), the newest of which has x in v
@@ -195,15 +195,15 @@ module _ (S : Shape) (m n : Memory) (gm : Proper S m) (gn : Proper S n) (h : ℕ
   upper i l = record { who = l.who; exists = l.exists; from = l.from; upto = omega (arith, l.upto, g.longer) }
 
   -- the new messages match
-  append-equal : message (append m p v x).channel top ≡ newest ns
-  append-equal =
+  append_equal : message (append m p v x).channel top ≡ newest ns
+  append_equal =
       message_new (copy_with m.channel p v x) m.channel
       ∙ ap (λ (y : Message). record { process = p; variable = v; snapshot = set y.snapshot v x }) (maps_newest S m n gm gn h M p pe)
       ∙ sym g.top
 
-  append-last : (q u : ℕ) → q < S.processes → u < S.variables
+  append_last : (q u : ℕ) → q < S.processes → u < S.variables
       → last_write (record { channel = ns; pointer = n.pointer }) q u ≡ h' (last_write (append m p v x) q u)
-  append-last q u qe ue =
+  append_last q u qe ue =
       let one = grown_one m.channel p v x in
       let r = is_last S m gm q u qe in
       let s = is_last S n gn q u qe in
@@ -215,8 +215,8 @@ module _ (S : Shape) (m n : Memory) (gm : Proper S m) (gn : Proper S n) (h : ℕ
       (T_or_not (eqb p q && eqb v u))
 
   -- one message appended to m, and one or more of its label to n, the newest with the same value
-  pub append-maps : Maps S (append m p v x) (record { channel = ns; pointer = n.pointer }) h'
-  append-maps =
+  pub append_maps : Maps S (append m p v x) (record { channel = ns; pointer = n.pointer }) h'
+  append_maps =
       record {
         lands = λ i l. elim (dec_le i (length m.channel)) [
           | yes a ↦ rw (old i a) (upper (h i) (M.lands i (down i l a)))
@@ -237,8 +237,8 @@ module _ (S : Shape) (m n : Memory) (gm : Proper S m) (gn : Proper S n) (h : ℕ
               ∙ sym (g.old (h i) (M.lands i (down i l a)).upto) ∙ ap (message ns) (sym (old i a))
           | no a ↦
               let e : i ≡ top = omega (arith, l.upto) in
-              ap (message (append m p v x).channel) e ∙ append-equal ∙ ap (message ns) (sym new) ∙ ap (λ (k : ℕ). message ns (h' k)) (sym e)
+              ap (message (append m p v x).channel) e ∙ append_equal ∙ ap (message ns) (sym new) ∙ ap (λ (k : ℕ). message ns (h' k)) (sym e)
         ];
         pointers = λ q e. M.pointers q e ∙ sym (old (m.pointer q) (gm.high q e));
-        last_writes = append-last;
+        last_writes = append_last;
       }

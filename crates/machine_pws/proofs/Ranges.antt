@@ -62,37 +62,37 @@ module _ (P : Program) (R : WellFormed P) (counts : List ℕ) (C : CountsOf P.sh
   named v x ve l = omega (arith, C.present v ve)
 
   module _ (c : Configuration) (o : InRanges counts c) where
-    sent-operation : (p : ℕ) (x : Operation) → OperationOf P.shape x → Sent (memory_after c.memory p x).channel
-    sent-operation p Nop w = o.snapshots
-    sent-operation p (Read v x) w = o.snapshots
-    sent-operation p (Write v x) w = o.snapshots
-    sent-operation p Mfence w = o.snapshots
-    sent-operation p Sfence w = o.snapshots
-    sent-operation p (Arw v old new) w = sent_append c.memory.channel p v new o.snapshots (named v new w.0 w.2)
+    sent_operation : (p : ℕ) (x : Operation) → OperationOf P.shape x → Sent (memory_after c.memory p x).channel
+    sent_operation p Nop w = o.snapshots
+    sent_operation p (Read v x) w = o.snapshots
+    sent_operation p (Write v x) w = o.snapshots
+    sent_operation p Mfence w = o.snapshots
+    sent_operation p Sfence w = o.snapshots
+    sent_operation p (Arw v old new) w = sent_append c.memory.channel p v new o.snapshots (named v new w.0 w.2)
 
-    waits-operation : (p : ℕ) (x : Operation) → OperationOf P.shape x → Waits (queue_after c p x)
-    waits-operation p Nop w = o.queues
-    waits-operation p (Read v x) w = o.queues
-    waits-operation p (Write v x) w =
+    waits_operation : (p : ℕ) (x : Operation) → OperationOf P.shape x → Waits (queue_after c p x)
+    waits_operation p Nop w = o.queues
+    waits_operation p (Read v x) w = o.queues
+    waits_operation p (Write v x) w =
         waits_put c.queue p v (c.queue p v ++ (x ∷ [])) o.queues
         (all_snoc (λ y. y < get_or counts v 0) (c.queue p v) x (o.queues p v) (named v x w.0 w.1))
-    waits-operation p Mfence w = o.queues
-    waits-operation p Sfence w = o.queues
-    waits-operation p (Arw v old new) w = o.queues
+    waits_operation p Mfence w = o.queues
+    waits_operation p Sfence w = o.queues
+    waits_operation p (Arw v old new) w = o.queues
 
-    pub step-in-ranges : (s : Step) → T (may P c s) → InRanges counts (after P c s)
-    step-in-ranges (Take n) t =
+    pub step_in_ranges : (s : Step) → T (may P c s) → InRanges counts (after P c s)
+    step_in_ranges (Take n) t =
         let q = transition P n in
         let w = (R.transitions n (take_yes P c n t).0).operation in
-        record { snapshots = sent-operation q.process q.operation w; queues = waits-operation q.process q.operation w }
-    step-in-ranges (Serialise p v) t =
+        record { snapshots = sent_operation q.process q.operation w; queues = waits_operation q.process q.operation w }
+    step_in_ranges (Serialise p v) t =
         let r = serialise_yes P c p v t in
         record {
           snapshots = sent_append c.memory.channel p v (get_or (c.queue p v) 0 0) o.snapshots
               (all_oldest (λ y. y < get_or counts v 0) (c.queue p v) r.2 (o.queues p v));
           queues = waits_put c.queue p v (without_oldest (c.queue p v)) o.queues (all_rest (λ y. y < get_or counts v 0) (c.queue p v) (o.queues p v));
         }
-    step-in-ranges (Update p) t = record { snapshots = o.snapshots; queues = o.queues }
+    step_in_ranges (Update p) t = record { snapshots = o.snapshots; queues = o.queues }
 
   all_map : (F G : ℕ → Type 0) (xs : List ℕ) → ((x : ℕ) → F x → G x) → All F xs → All G xs
   all_map F G [] f a = tt
@@ -117,12 +117,12 @@ module _ (P : Program) (R : WellFormed P) (counts : List ℕ) (C : CountsOf P.sh
 
   visited_in_ranges : {b c : Configuration} {ss : List Step} → InRanges counts b → Visited P b ss c → InRanges counts c
   visited_in_ranges o start = o
-  visited_in_ranges {b} o (later s t r) = visited_in_ranges (step-in-ranges b o s t) r
+  visited_in_ranges {b} o (later s t r) = visited_in_ranges (step_in_ranges b o s t) r
 
   pub keeps_ranges : KeepsRanges P counts
   keeps_ranges =
       record {
-        steps = λ c s o t. step-in-ranges c o s t;
+        steps = λ c s o t. step_in_ranges c o s t;
         visited = λ c b ss d v. visited_in_ranges (configuration_in_ranges c b.configuration) v;
       }
 

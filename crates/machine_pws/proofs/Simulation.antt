@@ -48,7 +48,7 @@ use Rattle.machine_pws.specs.Sequences.{Takes, done, step, Answer, none, each, S
 use Rattle.machine_pws.proofs.Facts.{T_eq, put_same, put_put, put_queue_same, put_queue_other, put_queue_each, Proper, proper, live_last}
 use Rattle.machine_pws.proofs.Queues.{Queued, nothing, keep, skip, queue_to, queue_of_lem, queued_snoc, queued_empty}
 use Rattle.machine_pws.proofs.Steps.{take_yes, yes_take, serialise_yes, yes_serialise, update_yes, yes_update, memory_append, step_configuration, takes_configuration}
-use Rattle.machine_pws.proofs.Moves.{maps_top, maps_newest, point-maps, Grown, grown_one, grown_more, h', new, append-maps}
+use Rattle.machine_pws.proofs.Moves.{maps_top, maps_newest, point_maps, Grown, grown_one, grown_more, h', new, append_maps}
 
 -- an answer that leads above c
 pub record Follow (P : Program) (c d : Configuration) : Type 0 where
@@ -146,7 +146,7 @@ module _ (P : Program) (R : WellFormed P) (c d : Configuration) (oc : Configurat
               states = B.states;
               queues = B.queues;
               h = h;
-              maps = point-maps S c.memory d.memory gc gd h B.maps p (suc z) r.0 (omega arith) r.1;
+              maps = point_maps S c.memory d.memory gc gd h B.maps p (suc z) r.0 (omega arith) r.1;
             };
       }
 
@@ -166,7 +166,7 @@ module _ (P : Program) (R : WellFormed P) (c d : Configuration) (oc : Configurat
               queues = λ q u qe ue. put_queue_each c.queue p v (without_oldest (c.queue p v)) (λ q u ys. QueueBelow ys (k.Q q u)) q u
                   (rw e (queue_of_lem k.here)) (λ n. rw (k.other q u n) (B.queues q u qe ue));
               h = h' S c.memory d.memory gc gd B.h B.maps p v x pe ve k.ns k.grown;
-              maps = rw e (append-maps S c.memory d.memory gc gd B.h B.maps p v x pe ve k.ns k.grown);
+              maps = rw e (append_maps S c.memory d.memory gc gd B.h B.maps p v x pe ve k.ns k.grown);
             };
       }
 
@@ -233,11 +233,11 @@ module _ (P : Program) (R : WellFormed P) (c d : Configuration) (oc : Configurat
       let g = grown_one n.channel p v y in
       let k = suc (length m.channel) in
       let h = h' S m n gc gd B.h B.maps p v y pe w.0 ns g in
-      let M : Maps S (append m p v y) (append n p v y) h = append-maps S m n gc gd B.h B.maps p v y pe w.0 ns g in (
+      let M : Maps S (append m p v y) (append n p v y) h = append_maps S m n gc gd B.h B.maps p v y pe w.0 ns g in (
         h,
         subst (λ (i : ℕ). Maps S (point (append m p v y) p k) (point (append n p v y) p i) h)
             (new S m n gc gd B.h B.maps p v y pe w.0 ns g)
-            (point-maps S (append m p v y) (append n p v y)
+            (point_maps S (append m p v y) (append n p v y)
             (proper (memory_append R.shape.variables oc.fits.memory p v y pe w.0 w.2))
             (proper (memory_append R.shape.variables od.fits.memory p v y pe w.0 w.2)) h M p k pe
             (omega (arith, gc.high p pe)) (omega arith)),

@@ -61,17 +61,17 @@ module _ (s : Shape) (few : s.processes ≤ 4) (counts f list sum : List ℕ) (n
   -- its 13 decides the first half of the test whether a is within pattern k
   module _ (small : s.variables ≤ 4) (a : Pattern) (states newest : List ℕ) (h : (p : ℕ) → p < s.processes → get_or states p 0 ≡ a.state p)
       (j : (v : ℕ) → v < s.variables → asked (get_or newest v 0) ≡ a.newest v) where
-    pattern-value : (k : ℕ) → k < n → (v : ℕ) → v < s.variables → (pattern_of ps k).newest v ≡ asked (get_or (values_at f list k) v 0)
-    pattern-value k l v i =
+    pattern_value : (k : ℕ) → k < n → (v : ℕ) → v < s.variables → (pattern_of ps k).newest v ≡ asked (get_or (values_at f list k) v 0)
+    pattern_value k l v i =
         let A = stand.each k l in
         let e : newest_at s f (offset_at list k) v ≡ asked (byte f (offset_at list k + (5 + v))) = rw (lt-ltb v s.variables i) in
         ap (λ (b : Pattern). b.newest v) A.same ∙ ap (λ (g : ℕ → Option ℕ). g v) A.values ∙ e ∙ ap asked (sym (values_are f list k v (omega arith)))
 
-    pub head-is : (k : ℕ) → k < n → head_holds s f list states newest k
+    pub head_is : (k : ℕ) → k < n → head_holds s f list states newest k
         ≡ (all_below s.processes (λ p. eqb (a.state p) ((pattern_of ps k).state p)) && all_below s.variables (λ v. newest_within (a.newest v) ((pattern_of ps k).newest v)))
     unfolding head_holds
-    head-is k l =
+    head_is k l =
         ap₂ ◌&&◌
         (few_all s.processes _ few ∙ all_equal s.processes _ _ (λ p i. ap₂ eqb (h p i) (sym (pattern_state k l p i))))
         (few_all s.variables _ small
-        ∙ all_equal s.variables _ _ (λ v i. value_holds_lem (get_or newest v 0) (get_or (values_at f list k) v 0) ∙ ap₂ newest_within (j v i) (sym (pattern-value k l v i))))
+        ∙ all_equal s.variables _ _ (λ v i. value_holds_lem (get_or newest v 0) (get_or (values_at f list k) v 0) ∙ ap₂ newest_within (j v i) (sym (pattern_value k l v i))))

@@ -304,15 +304,15 @@ indexed_length f upper s at n = go (leb at (length upper)) refl (leb n ((length 
 
 module _ (s : Shape) (f list states newest : List ℕ) (k : ℕ) (own : List ℕ) (m : Bool) (a : own ≡ states_at f list s k)
     (b : m ≡ all_below (min s.processes 4) (λ p. eqb (get_or states p 0) (get_or own p 0))) where
-  first-half : m ≡ all_below (min s.processes 4) (λ p. eqb (get_or states p 0) (get_or (states_at f list s k) p 0))
-  first-half = b ∙ ap (λ (own : List ℕ). all_below (min s.processes 4) (λ p. eqb (get_or states p 0) (get_or own p 0))) a
+  first_half : m ≡ all_below (min s.processes 4) (λ p. eqb (get_or states p 0) (get_or (states_at f list s k) p 0))
+  first_half = b ∙ ap (λ (own : List ℕ). all_below (min s.processes 4) (λ p. eqb (get_or states p 0) (get_or own p 0))) a
 
-  pub head-not : m ≡ false → false ≡ head_holds s f list states newest k
+  pub head_not : m ≡ false → false ≡ head_holds s f list states newest k
   unfolding head_holds
-  head-not c = rw (sym first-half ∙ c)
+  head_not c = rw (sym first_half ∙ c)
 
-  pub head-rest : m ≡ true → (values : List ℕ) (r : Bool) → values ≡ values_at f list k
+  pub head_rest : m ≡ true → (values : List ℕ) (r : Bool) → values ≡ values_at f list k
       → r ≡ all_below (min s.variables 4) (λ v. value_holds (get_or newest v 0) (get_or values v 0)) → r ≡ head_holds s f list states newest k
   unfolding head_holds
-  head-rest c values r d e =
-      rw (sym first-half ∙ c) (e ∙ ap (λ (values : List ℕ). all_below (min s.variables 4) (λ v. value_holds (get_or newest v 0) (get_or values v 0))) d)
+  head_rest c values r d e =
+      rw (sym first_half ∙ c) (e ∙ ap (λ (values : List ℕ). all_below (min s.variables 4) (λ v. value_holds (get_or newest v 0) (get_or values v 0))) d)

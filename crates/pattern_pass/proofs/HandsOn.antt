@@ -176,9 +176,9 @@ module _ (x : Input) (work : List ℕ) where
   Fit P = HandsOn x area (pass_reading P) (pass_area P work) (pass_reading P).answer
 
   module _ (enough : 65536 ≤ area) (fine : (program_from x.alone x.code 0).answer ≡ Fine) (claim : unless_end f at (checked (claim_number f at) at) ≡ Fine) where
-    read-listed : read_patterns x area ≡ evidence_read x p (read_in L)
+    read_listed : read_patterns x area ≡ evidence_read x p (read_in L)
     unfolding read_patterns evidence_from
-    read-listed = rw (le-ltb area 65536 enough, fine, claim, same_patterns p.shape p.states f (entries_allowed area) (at + 2) [] [])
+    read_listed = rw (le-ltb area 65536 enough, fine, claim, same_patterns p.shape p.states f (entries_allowed area) (at + 2) [] [])
 
     module _ (q : L.answer ≡ Fine) where
       more : More p.shape p.states f (entries_allowed area) (at + 2) [] [] L
@@ -195,8 +195,8 @@ module _ (x : Input) (work : List ℕ) where
           subst (λ (os : List ℕ). Following p.shape p.states f (entries_allowed area) (at + 2) os L.patterns) (sym more.same)
           (subst (Following p.shape p.states f (entries_allowed area) (at + 2) more.offsets) (sym more.alike) more.following)
 
-      few-patterns : length L.offsets ≤ entries_allowed area
-      few-patterns = let c = following_count in_order in omega (arith, c.0, c.1)
+      few_patterns : length L.offsets ≤ entries_allowed area
+      few_patterns = let c = following_count in_order in omega (arith, c.0, c.1)
 
       near : at ≤ 22547
       near = go x.alone
@@ -234,8 +234,8 @@ module _ (x : Input) (work : List ℕ) where
           }
 
     handed : (y : Checked) → L.answer ≡ y → Fit (listed p L)
-    handed (Refused r) q = rw q (read-listed ∙ rw q)
-    handed Fine q = rw q (L.patterns, read-listed ∙ rw q, stands q, part_sizes x.alone x.code 0 fine refl, few-patterns q)
+    handed (Refused r) q = rw q (read_listed ∙ rw q)
+    handed Fine q = rw q (L.patterns, read_listed ∙ rw q, stands q, part_sizes x.alone x.code 0 fine refl, few_patterns q)
 
   by_claim : 65536 ≤ area → (program_from x.alone x.code 0).answer ≡ Fine → (y : Checked) → unless_end f at (checked (claim_number f at) at) ≡ y → Fit (passed_of x area)
   unfolding read_patterns evidence_from

@@ -82,9 +82,9 @@ module _ (s : Shape) (states : List ℕ) (f : List ℕ) (k : ℕ) (offsets : Lis
   list_ends (suc left) l = rw (le-leb (length f) k l)
 
   module _ (allowed n : ℕ) (inside : k < length f) where
-    pub head-stops : (r : Refusal) → checked (pattern_number s states f k (leb allowed n)) k ≡ Refused r → listed_from (allowed - n) s states f k offsets ps ≡ stopped_at offsets ps r
+    pub head_stops : (r : Refusal) → checked (pattern_number s states f k (leb allowed n)) k ≡ Refused r → listed_from (allowed - n) s states f k offsets ps ≡ stopped_at offsets ps r
     unfolding listed_from
-    head-stops r q = elim (dec_lt n allowed) [
+    head_stops r q = elim (dec_lt n allowed) [
       | yes l ↦
           let a : allowed - n ≡ suc (allowed - suc n) = omega arith in
           let q' : checked (pattern_number s states f k false) k ≡ Refused r = rw (lt-leb allowed n l) at q in
@@ -96,23 +96,23 @@ module _ (s : Shape) (states : List ℕ) (f : List ℕ) (k : ℕ) (offsets : Lis
     ]
 
     module _ (q : checked (pattern_number s states f k (leb allowed n)) k ≡ Fine) where
-      pub head-room : n < allowed
-      head-room = leb-false allowed n (head_fine f k s states (leb allowed n) q).2
+      pub head_room : n < allowed
+      head_room = leb-false allowed n (head_fine f k s states (leb allowed n) q).2
 
       fine : checked (pattern_number s states f k false) k ≡ Fine
-      fine = rw (lt-leb allowed n head-room) at q
+      fine = rw (lt-leb allowed n head_room) at q
 
       left_one : allowed - n ≡ suc (allowed - (n + 1))
-      left_one = omega (arith, head-room)
+      left_one = omega (arith, head_room)
 
-      pub pattern-refused : (r : Refusal) → read_pattern s f k ≡ bad r → listed_from (allowed - n) s states f k offsets ps ≡ stopped_at offsets ps r
+      pub pattern_refused : (r : Refusal) → read_pattern s f k ≡ bad r → listed_from (allowed - n) s states f k offsets ps ≡ stopped_at offsets ps r
       unfolding listed_from
-      pattern-refused r d = rw (left_one, lt-leb (length f) k inside, fine, d)
+      pattern_refused r d = rw (left_one, lt-leb (length f) k inside, fine, d)
 
-      pub pattern-accepted : (g : Given) (next : ℕ) → read_pattern s f k ≡ whole g next
+      pub pattern_accepted : (g : Given) (next : ℕ) → read_pattern s f k ≡ whole g next
           → listed_from (allowed - n) s states f k offsets ps ≡ listed_from (allowed - (n + 1)) s states f next (offsets ++ (k ∷ [])) (ps ++ (pattern_of g ∷ []))
       unfolding listed_from
-      pattern-accepted g next d = rw (left_one, lt-leb (length f) k inside, fine, d)
+      pattern_accepted g next d = rw (left_one, lt-leb (length f) k inside, fine, d)
 
 -- ---- offsets
 
@@ -153,8 +153,8 @@ listed_next {s} {states} {f} {at} {allowed} {list₀} {list} {list'} {k} {n} {ne
     record {
       offsets = L.offsets ++ (k ∷ []);
       patterns = L.patterns ++ (pattern_of g ∷ []);
-      reads = sym (pattern-accepted s states f k L.offsets L.patterns allowed n l q g next d) ∙ L.reads;
+      reads = sym (pattern_accepted s states f k L.offsets L.patterns allowed n l q g next d) ∙ L.reads;
       count = ap (λ (m : ℕ). m + 1) L.count ∙ sym (length-append L.offsets (k ∷ []));
-      most = omega (arith, head-room s states f k L.offsets L.patterns allowed n l q);
+      most = omega (arith, head_room s states f k L.offsets L.patterns allowed n l q);
       wrote = w ∙ ap₂ (λ (x : List ℕ) (p : ℕ). put32 x p k) L.wrote h ∙ wrote_next L.offsets k n list₀ L.count;
     }

@@ -163,15 +163,15 @@ module _ (s : Shape) (few : s.processes ≤ 4) (small : s.variables ≤ 4) (f : 
     abbrev owned : List ℕ
     owned = cond (eqb (get_or t.reads p 0) 0) (set t.own p (byte f (at + 4))) t.own
 
-    owned-length : length owned ≡ 4
-    owned-length = go (eqb (get_or t.reads p 0) 0)
+    owned_length : length owned ≡ 4
+    owned_length = go (eqb (get_or t.reads p 0) 0)
       where
         go : (b : Bool) → length (cond b (set t.own p (byte f (at + 4))) t.own) ≡ 4
         go true = length-set t.own p (byte f (at + 4)) ∙ T.places.3
         go false = T.places.3
 
-    owned-here : get_or owned p 0 ≡ own_seen (g.path p ++ (read_at f at ∷ []))
-    owned-here =
+    owned_here : get_or owned p 0 ≡ own_seen (g.path p ++ (read_at f at ∷ []))
+    owned_here =
         go (eqb (get_or t.reads p 0) 0) ∙ ap (λ (n : ℕ). cond (eqb n 0) (cond (eqb (byte f (at + 4)) 1) 1 0) (own_seen (g.path p))) (T.reads p a)
         ∙ own_next (g.path p) (read_at f at)
       where
@@ -192,7 +192,7 @@ module _ (s : Shape) (few : s.processes ≤ 4) (small : s.variables ≤ 4) (f : 
         let n = get_or t.reads p 0 + 1 in
         let rs = g.path p ++ (read_at f at ∷ []) in
         record {
-          places = (T.places.0, T.places.1, length-set t.reads p n ∙ T.places.2, owned-length);
+          places = (T.places.0, T.places.1, length-set t.reads p n ∙ T.places.2, owned_length);
           words = T.words;
           marks = T.marks;
           reads = λ q i. elim (ℕ_discrete q p) [
@@ -202,7 +202,7 @@ module _ (s : Shape) (few : s.processes ≤ 4) (small : s.variables ≤ 4) (f : 
             | no e ↦ rw (get_or-set_other t.reads p q n 0 e, put_other g.path p rs q e) (T.reads q i)
           ];
           own = λ q i. elim (ℕ_discrete q p) [
-            | yes e ↦ rw (e, put_same g.path p rs) owned-here
+            | yes e ↦ rw (e, put_same g.path p rs) owned_here
             | no e ↦ rw (put_other g.path p rs q e) (owned_other q e ∙ T.own q i)
           ];
         }
@@ -293,21 +293,21 @@ module _ (s : Shape) (few : s.processes ≤ 4) (small : s.variables ≤ 4) (f : 
     fine : checked (body_number s f k F.given) k ≡ Fine
     fine = ap (λ (n : ℕ). checked n k) (sym number_is) ∙ d
 
-    pub sofar-room : SeenRoom f k t
-    sofar-room = room s few small f k t F.given F.seen (body_says s f k F.given fine)
+    pub sofar_room : SeenRoom f k t
+    sofar_room = room s few small f k t F.given F.seen (body_says s f k F.given fine)
 
-    pub sofar-fits : (k + body_size f k ≤ length f) × (4 ≤ body_size f k) × (body_size f k ≤ 5)
-    sofar-fits = body_fits s f k F.given (body_says s f k F.given fine)
+    pub sofar_fits : (k + body_size f k ≤ length f) × (4 ≤ body_size f k) × (body_size f k ≤ 5)
+    sofar_fits = body_fits s f k F.given (body_says s f k F.given fine)
 
-    pub sofar-next : Sofar s f start (seen_more f k t) (k + body_size f k)
-    sofar-next =
+    pub sofar_next : Sofar s f start (seen_more f k t) (k + body_size f k)
+    sofar_next =
         record {
           given = extended f k F.given;
           bytes = F.bytes - 1;
           seen = seen_next s few small f k t F.given F.seen (body_says s f k F.given fine);
           reads = sym (pattern_next s f start k F.given (F.bytes - 1) b fine) ∙ ap (λ (n : ℕ). pattern_from n s f start k F.given) (sym (some_bytes b)) ∙ F.reads;
-          enough = omega (arith, some_bytes b, F.enough, sofar-fits.1);
-          upto = sofar-fits.0;
+          enough = omega (arith, some_bytes b, F.enough, sofar_fits.1);
+          upto = sofar_fits.0;
         }
 
   pub sofar_stops : (r : Refusal) → at_boundary f k ≡ false → checked (seen_number s f k t) k ≡ Refused r → read_pattern s f start ≡ bad r

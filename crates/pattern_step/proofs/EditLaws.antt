@@ -135,28 +135,28 @@ module _ {s : Shape} {k l : ℕ} {a : Pattern} {e : patterns.Pattern} (w : Stand
     emptied zero = a.clues
     emptied (suc m) = set (emptied m) (4 * p + m) c
 
-    emptied-length : (m : ℕ) → length (emptied m) ≡ 16
-    emptied-length zero = h
-    emptied-length (suc m) = length-set (emptied m) (4 * p + m) c ∙ emptied-length m
+    emptied_length : (m : ℕ) → length (emptied m) ≡ 16
+    emptied_length zero = h
+    emptied_length (suc m) = length-set (emptied m) (4 * p + m) c ∙ emptied_length m
 
-    emptied-words : (m : ℕ) → m ≤ 4 → (j : ℕ) → j < 16 → (get_or (emptied m) j no_clue).count ≤ k
-    emptied-words zero o j d = w.words j d
-    emptied-words (suc m) o j d = set_each (λ y. y.count ≤ k) (emptied m) (4 * p + m) c no_clue 16 (emptied-length m) (omega (arith, w.processes)) (omega arith) (emptied-words m (omega arith)) j d
+    emptied_words : (m : ℕ) → m ≤ 4 → (j : ℕ) → j < 16 → (get_or (emptied m) j no_clue).count ≤ k
+    emptied_words zero o j d = w.words j d
+    emptied_words (suc m) o j d = set_each (λ y. y.count ≤ k) (emptied m) (4 * p + m) c no_clue 16 (emptied_length m) (omega (arith, w.processes)) (omega arith) (emptied_words m (omega arith)) j d
 
-    emptied-other : (m : ℕ) (j : ℕ) → m ≤ 4 → ((v : ℕ) → v < 4 → j ≢ 4 * p + v) → get_or (emptied m) j no_clue ≡ get_or a.clues j no_clue
-    emptied-other zero j o d = refl
-    emptied-other (suc m) j o d = get_or-set_other (emptied m) (4 * p + m) j c no_clue (d m (omega arith)) ∙ emptied-other m j (omega arith) d
+    emptied_other : (m : ℕ) (j : ℕ) → m ≤ 4 → ((v : ℕ) → v < 4 → j ≢ 4 * p + v) → get_or (emptied m) j no_clue ≡ get_or a.clues j no_clue
+    emptied_other zero j o d = refl
+    emptied_other (suc m) j o d = get_or-set_other (emptied m) (4 * p + m) j c no_clue (d m (omega arith)) ∙ emptied_other m j (omega arith) d
 
-    emptied-here : (m v : ℕ) → m ≤ 4 → v < m → get_or (emptied m) (4 * p + v) no_clue ≡ c
-    emptied-here zero v o d = absurd (omega arith)
-    emptied-here (suc m) v o d = elim (ℕ_discrete v m) [
-      | yes g ↦ ap (λ (u : ℕ). get_or (emptied (suc m)) (4 * p + u) no_clue) g ∙ get_or-set_same (emptied m) (4 * p + m) c no_clue (omega (arith, emptied-length m, w.processes))
-      | no g ↦ get_or-set_other (emptied m) (4 * p + m) (4 * p + v) c no_clue (λ t. g (omega arith)) ∙ emptied-here m v (omega arith) (omega arith)
+    emptied_here : (m v : ℕ) → m ≤ 4 → v < m → get_or (emptied m) (4 * p + v) no_clue ≡ c
+    emptied_here zero v o d = absurd (omega arith)
+    emptied_here (suc m) v o d = elim (ℕ_discrete v m) [
+      | yes g ↦ ap (λ (u : ℕ). get_or (emptied (suc m)) (4 * p + u) no_clue) g ∙ get_or-set_same (emptied m) (4 * p + m) c no_clue (omega (arith, emptied_length m, w.processes))
+      | no g ↦ get_or-set_other (emptied m) (4 * p + m) (4 * p + v) c no_clue (λ t. g (omega arith)) ∙ emptied_here m v (omega arith) (omega arith)
     ]
 
-    pub none-stands : Stands s k l
+    pub none_stands : Stands s k l
         (record { states = a.states; newest = a.newest; clues = set (set (set (set a.clues (4 * p) c) (4 * p + 1) c) (4 * p + 2) c) (4 * p + 3) c; paths = a.paths }) (with_none_waiting e p)
-    none-stands = subst (λ (cs : List Clue). Stands s k l (record { states = a.states; newest = a.newest; clues = cs; paths = a.paths }) (with_none_waiting e p)) first got
+    none_stands = subst (λ (cs : List Clue). Stands s k l (record { states = a.states; newest = a.newest; clues = cs; paths = a.paths }) (with_none_waiting e p)) first got
       where
         first : emptied 4 ≡ set (set (set (set a.clues (4 * p) c) (4 * p + 1) c) (4 * p + 2) c) (4 * p + 3) c
         first = ap (λ (o : ℕ). set (set (set (set a.clues o c) (4 * p + 1) c) (4 * p + 2) c) (4 * p + 3) c) (let z : 4 * p + 0 ≡ 4 * p = omega arith in z)
@@ -168,14 +168,14 @@ module _ {s : Shape} {k l : ℕ} {a : Pattern} {e : patterns.Pattern} (w : Stand
               variables = w.variables;
               state = w.state;
               clue = λ q v j o. elim (ℕ_discrete q p) [
-                | yes g ↦ ap clue_of (ap (λ (u : ℕ). get_or (emptied 4) (4 * u + v) no_clue) g ∙ emptied-here 4 v (omega arith) (omega (arith, w.variables))) ∙ i
+                | yes g ↦ ap clue_of (ap (λ (u : ℕ). get_or (emptied 4) (4 * u + v) no_clue) g ∙ emptied_here 4 v (omega arith) (omega (arith, w.variables))) ∙ i
                     ∙ sym (ap (λ (t : ℕ → patterns.Clue). t v) (put_same e.clue p (λ x. empty) q g))
-                | no g ↦ ap clue_of (emptied-other 4 (4 * q + v) (omega arith) (λ u d t. g (omega (arith, w.variables)))) ∙ w.clue q v j o
+                | no g ↦ ap clue_of (emptied_other 4 (4 * q + v) (omega arith) (λ u d t. g (omega (arith, w.variables)))) ∙ w.clue q v j o
                     ∙ sym (ap (λ (t : ℕ → patterns.Clue). t v) (put_other e.clue p (λ x. empty) q g))
               ];
               newest = w.newest;
               path = w.path;
-              words = emptied-words 4 (omega arith);
+              words = emptied_words 4 (omega arith);
               lengths = w.lengths;
               fine = w.fine;
             }

@@ -223,8 +223,8 @@ module _ (s : Shape) (a : Pattern) (e : patterns.Pattern) (p : ℕ) (rs : List P
     abbrev numbered : List patterns.Pattern
     numbered = message_numbered n e.newest e.path p x k to j
 
-    pub none-starts : all_below (min n 4) starts ≡ false → [] ≡ numbered
-    none-starts h = sym (picked_none (places_more e.path p) (cuts_at x e.path p k) n j f.0 after l (cut_other f.0 l (λ d. off d) false no_start))
+    pub none_starts : all_below (min n 4) starts ≡ false → [] ≡ numbered
+    none_starts h = sym (picked_none (places_more e.path p) (cuts_at x e.path p k) n j f.0 after l (cut_other f.0 l (λ d. off d) false no_start))
       where
         f : (i : ℕ) × (i < min n 4) × T (not (starts i))
         f = all_no (min n 4) starts (subst (λ (t : Bool). T (not t)) (sym h) tt)
@@ -245,8 +245,8 @@ module _ (s : Shape) (a : Pattern) (e : patterns.Pattern) (p : ℕ) (rs : List P
       all_start : (q : ℕ) → q < n → starts q ≡ true
       all_start q l = all_here (min n 4) starts h q (omega (arith, w.processes))
 
-      chosen-all : numbered ≡ after (chosen (places_more e.path p) (cuts_at x e.path p k) K n)
-      chosen-all = picked_all (places_more e.path p) (cuts_at x e.path p k) K n j after (λ q l. elim (ℕ_discrete q p) [
+      chosen_all : numbered ≡ after (chosen (places_more e.path p) (cuts_at x e.path p k) K n)
+      chosen_all = picked_all (places_more e.path p) (cuts_at x e.path p k) K n j after (λ q l. elim (ℕ_discrete q p) [
         | yes d ↦ cut_own q d
         | no d ↦ cut_other q l d true (sym (ap (λ (t : Bool). t || starts_at x (path_at a.paths q) (place q)) (ne_eqb q p d)) ∙ all_start q l)
       ])
@@ -254,19 +254,19 @@ module _ (s : Shape) (a : Pattern) (e : patterns.Pattern) (p : ℕ) (rs : List P
       abbrev g : ℕ → Cut
       g = chosen (places_more e.path p) (cuts_at x e.path p k) K n
 
-      g-is : (q : ℕ) → q < n → g q ≡ K q
-      g-is = chosen_is (places_more e.path p) (cuts_at x e.path p k) K n
+      g_is : (q : ℕ) → q < n → g q ≡ K q
+      g_is = chosen_is (places_more e.path p) (cuts_at x e.path p k) K n
 
       joined_is : joined (newest_of a.newest) (for_below (min n 4) (λ q. drop (get_or (set ds p own) q 0) (path_at a.paths q))) ≡ joined e.newest (for_below n (λ q. (g q).end))
       joined_is =
           ap₂ joined w.newest
           (ap (λ (m : ℕ). for_below m (λ q. drop (place q) (path_at a.paths q))) (let v = w.processes in let z : min n 4 ≡ n = omega arith in z)
-          ∙ for_equal n (λ q. drop (place q) (path_at a.paths q)) (λ q. (g q).end) (λ q l. ap (drop (place q)) (w.path q l) ∙ ap (λ (c : Cut). c.end) (sym (g-is q l))))
+          ∙ for_equal n (λ q. drop (place q) (path_at a.paths q)) (λ q. (g q).end) (λ q l. ap (drop (place q)) (w.path q l) ∙ ap (λ (c : Cut). c.end) (sym (g_is q l))))
 
-      pub message-given : (r : Before) (newest : List ℕ) (ends : List PathReads) {t : Bool} → given t (newest_of newest) ≡ joined (newest_of a.newest) (for_below (min n 4) (λ q. drop (get_or (set ds p own) q 0) (path_at a.paths q)))
+      pub message_given : (r : Before) (newest : List ℕ) (ends : List PathReads) {t : Bool} → given t (newest_of newest) ≡ joined (newest_of a.newest) (for_below (min n 4) (λ q. drop (get_or (set ds p own) q 0) (path_at a.paths q)))
           → ((q : ℕ) → q < 4 → (path_at ends q ≡ take (get_or (set ds p own) q 0) (path_at a.paths q)) × ((get_or ends q no_path).count ≤ (get_or a.paths q no_path).count) × (FineReads (get_or a.paths q no_path) → FineReads (get_or ends q no_path)))
           → r ≡ record { there = t; pattern = record { states = a.states; newest = newest; clues = a.clues; paths = ends } } → MessageBy s r (with_path e p rs) to numbered
-      message-given r newest ends {t} u v z = go t refl
+      message_given r newest ends {t} u v z = go t refl
         where
           end_is : given t (newest_of newest) ≡ joined e.newest (for_below n (λ q. (g q).end))
           end_is = u ∙ joined_is
@@ -279,7 +279,7 @@ module _ (s : Shape) (a : Pattern) (e : patterns.Pattern) (p : ℕ) (rs : List P
                 state = w.state;
                 clue = w.clue;
                 newest = refl;
-                path = λ q l. (v q (omega (arith, w.processes))).0 ∙ ap (take (place q)) (w.path q l) ∙ ap (λ (c : Cut). c.front) (sym (g-is q l));
+                path = λ q l. (v q (omega (arith, w.processes))).0 ∙ ap (take (place q)) (w.path q l) ∙ ap (λ (c : Cut). c.front) (sym (g_is q l));
                 words = w.words;
                 lengths = λ q l. omega (arith, (v q l).1, w.lengths q l);
                 fine = λ q l. (v q l).2 (w.fine q l);
@@ -288,12 +288,12 @@ module _ (s : Shape) (a : Pattern) (e : patterns.Pattern) (p : ℕ) (rs : List P
           go : (o : Bool) → t ≡ o → MessageBy s r (with_path e p rs) to numbered
           go true o =
               subst (MessageBy s r (with_path e p rs) to)
-              (ap (λ (y : Option (ℕ → Option ℕ)). elim y [ none ↦ [] | some z ↦ to z (λ q. (g q).front) ]) (ap (λ (i : Bool). given i (newest_of newest)) (sym o) ∙ end_is) ∙ sym chosen-all)
+              (ap (λ (y : Option (ℕ → Option ℕ)). elim y [ none ↦ [] | some z ↦ to z (λ q. (g q).front) ]) (ap (λ (i : Bool). given i (newest_of newest)) (sym o) ∙ end_is) ∙ sym chosen_all)
               (message (newest_of newest) (λ q. (g q).front) (ap (λ (y : Before). y.there) z ∙ o)
               (subst (λ (y : Pattern). Stands s 8 16 y (with_paths (with_newest (with_path e p rs) (newest_of newest)) (λ q. (g q).front))) (sym (ap (λ (y : Before). y.pattern) z)) stands))
           go false o =
               subst (MessageBy s r (with_path e p rs) to)
-              (ap (λ (y : Option (ℕ → Option ℕ)). elim y [ none ↦ [] | some z ↦ to z (λ q. (g q).front) ]) (ap (λ (i : Bool). given i (newest_of newest)) (sym o) ∙ end_is) ∙ sym chosen-all)
+              (ap (λ (y : Option (ℕ → Option ℕ)). elim y [ none ↦ [] | some z ↦ to z (λ q. (g q).front) ]) (ap (λ (i : Bool). given i (newest_of newest)) (sym o) ∙ end_is) ∙ sym chosen_all)
               (no_message_lem (ap (λ (y : Before). y.there) z ∙ o))
 
 pub no_by : {s : Shape} {r : Before} {e : patterns.Pattern} {to : (ℕ → Option ℕ) → (ℕ → List PathRead) → List patterns.Pattern} → GivenBy s r [] → MessageBy s r e to []

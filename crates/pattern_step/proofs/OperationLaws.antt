@@ -48,24 +48,24 @@ module _ {s : Shape} {k l : ℕ} {a : Pattern} {e : patterns.Pattern} (w : Stand
   in_four = omega (arith, w.processes)
 
   module _ (x : ℕ) (d : x < s.variables) where
-    pub var-four : x < 4
-    var-four = omega (arith, w.variables)
+    pub var_four : x < 4
+    var_four = omega (arith, w.variables)
 
-    pub clue-here : (c : Clue) → (p < 4 → x < 4 → c ≡ get_or a.clues (4 * p + x) no_clue) → clue_of c ≡ e.clue p x
-    clue-here c h = ap clue_of (h in_four var-four) ∙ w.clue p x b d
+    pub clue_here : (c : Clue) → (p < 4 → x < 4 → c ≡ get_or a.clues (4 * p + x) no_clue) → clue_of c ≡ e.clue p x
+    clue_here c h = ap clue_of (h in_four var_four) ∙ w.clue p x b d
 
-    pub clue-most : (c : Clue) → (p < 4 → x < 4 → c ≡ get_or a.clues (4 * p + x) no_clue) → c.count ≤ k
-    clue-most c h = subst (λ (y : Clue). y.count ≤ k) (sym (h in_four var-four)) (w.words (4 * p + x) (omega (arith, in_four, var-four)))
+    pub clue_most : (c : Clue) → (p < 4 → x < 4 → c ≡ get_or a.clues (4 * p + x) no_clue) → c.count ≤ k
+    clue_most c h = subst (λ (y : Clue). y.count ≤ k) (sym (h in_four var_four)) (w.words (4 * p + x) (omega (arith, in_four, var_four)))
 
   module _ (r : PathReads) (h : p < 4 → r ≡ get_or a.paths p no_path) where
-    pub path-here : path_of r ≡ e.path p
-    path-here = ap path_of (h in_four) ∙ w.path p b
+    pub path_here : path_of r ≡ e.path p
+    path_here = ap path_of (h in_four) ∙ w.path p b
 
-    pub path-most : r.count ≤ l
-    path-most = subst (λ (y : PathReads). y.count ≤ l) (sym (h in_four)) (w.lengths p in_four)
+    pub path_most : r.count ≤ l
+    path_most = subst (λ (y : PathReads). y.count ≤ l) (sym (h in_four)) (w.lengths p in_four)
 
-    pub path-fine : FineReads r
-    path-fine = subst FineReads (sym (h in_four)) (w.fine p in_four)
+    pub path_fine : FineReads r
+    path_fine = subst FineReads (sym (h in_four)) (w.fine p in_four)
 
 -- ---- reading a message, by number
 
@@ -77,26 +77,26 @@ module _ (x v : ℕ) (path : List PathRead) (n : ℕ) where
   numbered_free e = ap (λ (o : Option ℕ). elim o [ some u ↦ cond (eqb n 0 && eqb u v) (path ∷ []) [] | none ↦ cond (leb n (place_of x path)) (inserted_at x v path n ∷ []) [] ]) e
 
   module _ {t : Bool} (u : ℕ) (e : given t u ≡ first_own x path) where
-    own-there : t ≡ true → some u ≡ first_own x path
-    own-there h = ap (λ (b : Bool). given b u) (sym h) ∙ e
+    own_there : t ≡ true → some u ≡ first_own x path
+    own_there h = ap (λ (b : Bool). given b u) (sym h) ∙ e
 
     pub own_behind : t ≡ true → n ≢ 0 → [] ≡ read_numbered x v path n
-    own_behind h d = sym (ap (λ (b : Bool). cond (b && eqb u v) (path ∷ []) []) (ne_eqb n 0 d)) ∙ numbered_own (own-there h)
+    own_behind h d = sym (ap (λ (b : Bool). cond (b && eqb u v) (path ∷ []) []) (ne_eqb n 0 d)) ∙ numbered_own (own_there h)
 
     pub own_other : t ≡ true → n ≡ 0 → u ≢ v → [] ≡ read_numbered x v path n
-    own_other h d f = sym (ap₂ (λ (b c : Bool). cond (b && c) (path ∷ []) []) (eq-eqb n 0 d) (ne_eqb u v f)) ∙ numbered_own (own-there h)
+    own_other h d f = sym (ap₂ (λ (b c : Bool). cond (b && c) (path ∷ []) []) (eq-eqb n 0 d) (ne_eqb u v f)) ∙ numbered_own (own_there h)
 
     pub own_same : t ≡ true → n ≡ 0 → u ≡ v → path ∷ [] ≡ read_numbered x v path n
-    own_same h d f = sym (ap₂ (λ (b c : Bool). cond (b && c) (path ∷ []) []) (eq-eqb n 0 d) (eq-eqb u v f)) ∙ numbered_own (own-there h)
+    own_same h d f = sym (ap₂ (λ (b c : Bool). cond (b && c) (path ∷ []) []) (eq-eqb n 0 d) (eq-eqb u v f)) ∙ numbered_own (own_there h)
 
-    free-there : t ≡ false → none ≡ first_own x path
-    free-there h = ap (λ (b : Bool). given b u) (sym h) ∙ e
+    free_there : t ≡ false → none ≡ first_own x path
+    free_there h = ap (λ (b : Bool). given b u) (sym h) ∙ e
 
-    pub free-past : t ≡ false → place_of x path < n → [] ≡ read_numbered x v path n
-    free-past h l = sym (ap (λ (b : Bool). cond b (inserted_at x v path n ∷ []) []) (lt-leb n (place_of x path) l)) ∙ numbered_free (free-there h)
+    pub free_past : t ≡ false → place_of x path < n → [] ≡ read_numbered x v path n
+    free_past h l = sym (ap (λ (b : Bool). cond b (inserted_at x v path n ∷ []) []) (lt-leb n (place_of x path) l)) ∙ numbered_free (free_there h)
 
     pub free_in : t ≡ false → n ≤ place_of x path → inserted_at x v path n ∷ [] ≡ read_numbered x v path n
-    free_in h l = sym (ap (λ (b : Bool). cond b (inserted_at x v path n ∷ []) []) (le-leb n (place_of x path) l)) ∙ numbered_free (free-there h)
+    free_in h l = sym (ap (λ (b : Bool). cond b (inserted_at x v path n ∷ []) []) (le-leb n (place_of x path) l)) ∙ numbered_free (free_there h)
 
 pub place_most : (x : ℕ) (path : List PathRead) → place_of x path ≤ length path
 place_most x [] = omega arith

@@ -84,12 +84,12 @@ module _ (r s : Read) where
   other_variable d = rw (ne_eqb r.variable s.variable d) refl
 
   module _ (e : r.variable ≡ s.variable) where
-    pub other-value : r.value ≢ s.value → false ≡ same_read (read_of r) (read_of s)
-    other-value d = rw (eq-eqb r.variable s.variable e, ne_eqb r.value s.value d) refl
+    pub other_value : r.value ≢ s.value → false ≡ same_read (read_of r) (read_of s)
+    other_value d = rw (eq-eqb r.variable s.variable e, ne_eqb r.value s.value d) refl
 
     module _ (f : r.value ≡ s.value) where
-      pub own-goes : r.own ≡ true → s.own ≡ same_read (read_of r) (read_of s)
-      own-goes o = rw (eq-eqb r.variable s.variable e, eq-eqb r.value s.value f, o) refl
+      pub own_goes : r.own ≡ true → s.own ≡ same_read (read_of r) (read_of s)
+      own_goes o = rw (eq-eqb r.variable s.variable e, eq-eqb r.value s.value f, o) refl
 
       pub goes : r.own ≡ false → true ≡ same_read (read_of r) (read_of s)
       goes o = rw (eq-eqb r.variable s.variable e, eq-eqb r.value s.value f, o) refl
@@ -174,8 +174,8 @@ module _ (newest : List ℕ) (r : Read) where
   own_unjoined o = rw o refl
 
   module _ (o : r.own ≡ false) (l : length newest ≡ 4) (w : FineRead r) {u : ℕ} (e : u ≡ get_or newest r.variable 255) where
-    one-joined : {b : Bool} → agrees (newest_of newest r.variable) r.value ≡ b → given b (newest_of (set newest r.variable r.value)) ≡ joined (newest_of newest) (read_of r ∷ [])
-    one-joined {b} h =
+    one_joined : {b : Bool} → agrees (newest_of newest r.variable) r.value ≡ b → given b (newest_of (set newest r.variable r.value)) ≡ joined (newest_of newest) (read_of r ∷ [])
+    one_joined {b} h =
         ap (given b) is ∙ same b
         ∙ sym (ap (λ (t : Bool). elim t [ true ↦ none | false ↦ elim (agrees (newest_of newest r.variable) r.value) [ true ↦ some (put (newest_of newest) r.variable (some r.value)) | false ↦ none ] ]) o
         ∙ ap (λ (t : Bool). elim t [ true ↦ some (put (newest_of newest) r.variable (some r.value)) | false ↦ none ]) h)
@@ -189,12 +189,12 @@ module _ (newest : List ℕ) (r : Read) where
         same true = refl
         same false = refl
 
-    pub free-joined : u ≡ 255 → some (newest_of (set newest r.variable r.value)) ≡ joined (newest_of newest) (read_of r ∷ [])
-    free-joined f = one-joined {b = true} (ap (λ (x : Option ℕ). agrees x r.value) (asked_any {x = get_or newest r.variable 255} (sym e ∙ f)))
+    pub free_joined : u ≡ 255 → some (newest_of (set newest r.variable r.value)) ≡ joined (newest_of newest) (read_of r ∷ [])
+    free_joined f = one_joined {b = true} (ap (λ (x : Option ℕ). agrees x r.value) (asked_any {x = get_or newest r.variable 255} (sym e ∙ f)))
 
-    pub asked-joined : u ≢ 255 → given (eqb u r.value) (newest_of (set newest r.variable r.value)) ≡ joined (newest_of newest) (read_of r ∷ [])
-    asked-joined d =
-        one-joined {b = eqb u r.value}
+    pub asked_joined : u ≢ 255 → given (eqb u r.value) (newest_of (set newest r.variable r.value)) ≡ joined (newest_of newest) (read_of r ∷ [])
+    asked_joined d =
+        one_joined {b = eqb u r.value}
         (ap (λ (x : Option ℕ). agrees x r.value) (asked_value {x = get_or newest r.variable 255} (λ f. d (e ∙ f))) ∙ ap (λ (k : ℕ). eqb k r.value) (sym e))
 
 -- ---- places

@@ -105,13 +105,13 @@ module _ {s : Shape} {k l : ℕ} {a : Pattern} {e : patterns.Pattern} (w : Stand
   row_is p l = all_narrow (λ v. can_empty (clue_at a.clues p v)) (λ v. can_empty (e.clue p v)) (λ v m. ap can_empty (w.clue p v l m))
 
   module _ {m n : ℕ} {b : Pattern} {f : patterns.Pattern} (z : Stands s m n b f) where
-    pub four-tests : (all_below (min s.processes 4) (λ p. eqb (get_or a.states p 0) (get_or b.states p 0))
+    pub four_tests : (all_below (min s.processes 4) (λ p. eqb (get_or a.states p 0) (get_or b.states p 0))
         && all_below (min s.variables 4) (λ v. newest_within (newest_of a.newest v) (newest_of b.newest v)))
         && (all_below (min s.processes 4) (row_within s.variables a.clues b.clues)
         && all_below (min s.processes 4) (λ p. path_within (newest_of a.newest) (path_at a.paths p) (path_at b.paths p)))
         ≡ within (shape_of s) e f
     unfolding row_within
-    four-tests =
+    four_tests =
         ap₂ ◌&&◌
         (ap₂ ◌&&◌
         (all_few (λ p. eqb (get_or a.states p 0) (get_or b.states p 0)) (λ p. eqb (e.state p) (f.state p)) (λ p l. ap₂ eqb (w.state p l) (z.state p l)))

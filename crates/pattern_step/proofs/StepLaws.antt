@@ -31,21 +31,21 @@ module _ (s : Shape) (r : Before) (e : patterns.Pattern) (p j : ℕ) {o : Operat
   sfence_arm h g = subst (λ (i : Operation). GivenBy s r (operation_numbered (shape_of s) e p i j)) (sym h) g
 
   module _ (f : FineOperation (shape_of s) o) where
-    pub write-arm : {x v : ℕ} → o ≡ Write x v → (x < s.variables → GivenBy s r (before_operation (shape_of s) e p (Write x v))) → GivenBy s r (operation_numbered (shape_of s) e p o j)
-    write-arm {x} {v} h g =
+    pub write_arm : {x v : ℕ} → o ≡ Write x v → (x < s.variables → GivenBy s r (before_operation (shape_of s) e p (Write x v))) → GivenBy s r (operation_numbered (shape_of s) e p o j)
+    write_arm {x} {v} h g =
         subst (λ (i : Operation). GivenBy s r (operation_numbered (shape_of s) e p i j)) (sym h) (g (subst (FineOperation (shape_of s)) h f).0)
 
     module _ (l : s.variables ≤ 4) where
-      pub read-arm : {x v y : ℕ} → o ≡ Read x v → (x < 4 → y ≡ x) → (y < s.variables → v < 255 → GivenBy s r (read_before e p y v j)) → GivenBy s r (operation_numbered (shape_of s) e p o j)
-      read-arm {x} {v} {y} h q g =
+      pub read_arm : {x v y : ℕ} → o ≡ Read x v → (x < 4 → y ≡ x) → (y < s.variables → v < 255 → GivenBy s r (read_before e p y v j)) → GivenBy s r (operation_numbered (shape_of s) e p o j)
+      read_arm {x} {v} {y} h q g =
           let k = subst (FineOperation (shape_of s)) h f in
           let z : y ≡ x = q (omega (arith, k.0)) in
           subst (λ (i : Operation). GivenBy s r (operation_numbered (shape_of s) e p i j)) (sym h)
           (subst (λ (u : ℕ). GivenBy s r (read_before e p u v j)) z (g (subst (λ (u : ℕ). u < s.variables) (sym z) k.0) k.1))
 
-      pub arw-arm : {x old new y : ℕ} → o ≡ Arw x old new → (x < 4 → y ≡ x) → (y < s.variables → old < 255 → GivenBy s r (arw_numbered s.processes e p y old new j))
+      pub arw_arm : {x old new y : ℕ} → o ≡ Arw x old new → (x < 4 → y ≡ x) → (y < s.variables → old < 255 → GivenBy s r (arw_numbered s.processes e p y old new j))
           → GivenBy s r (operation_numbered (shape_of s) e p o j)
-      arw-arm {x} {old} {new} {y} h q g =
+      arw_arm {x} {old} {new} {y} h q g =
           let k = subst (FineOperation (shape_of s)) h f in
           let z : y ≡ x = q (omega (arith, k.0)) in
           subst (λ (i : Operation). GivenBy s r (operation_numbered (shape_of s) e p i j)) (sym h)

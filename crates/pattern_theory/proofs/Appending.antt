@@ -19,7 +19,7 @@ use Rattle.machine_pws.proofs.Facts.{T_or_not, message_old, message_new, last_is
 use Rattle.pattern_theory.specs.Patterns.{PathRead}
 use Rattle.pattern_theory.specs.Fitting.{held, ReadAt, PathFrom}
 use Rattle.pattern_theory.specs.Predecessors.{Cut, behind, cuts, own_cut}
-use Rattle.pattern_theory.proofs.Paths.{path_lower, last-upto}
+use Rattle.pattern_theory.proofs.Paths.{path_lower, last_upto}
 use Rattle.pattern_theory.proofs.Joining.{AllAt}
 
 last_high : (ms : List Message) (p v : ℕ) → last_labelled ms p v ≤ length ms
@@ -81,7 +81,7 @@ module _ (m : Memory) (p x u : ℕ) where
       record {
         from = l;
         upto = omega arith;
-        last = last-upto m q b r.variable;
+        last = last_upto m q b r.variable;
         value = sym (new_other r.variable n) ∙ a.value;
         later = λ t. absurd (none t);
         label = λ t. absurd (none t);

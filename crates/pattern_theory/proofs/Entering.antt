@@ -75,8 +75,8 @@ module _ (P : Program) (R : WellFormed P) (a : Pattern) (c : Configuration) (o :
   none_waits t v l = is_empty_lem (c.queue p v) (all_yes S.variables (λ v. is_empty (c.queue p v)) t v l)
 
   module _ (t : T (none_waiting S c p)) (f : Rest S a c.queue c.memory) where
-    can-empty : T (all_below S.variables (λ x. can_empty (a.clue p x)))
-    can-empty = yes_all S.variables (λ x. can_empty (a.clue p x)) (λ x l. empties (a.clue p x) (c.queue p x) (none_waits t x l) (f.queues p x pe l))
+    can_empty_lem : T (all_below S.variables (λ x. can_empty (a.clue p x)))
+    can_empty_lem = yes_all S.variables (λ x. can_empty (a.clue p x)) (λ x l. empties (a.clue p x) (c.queue p x) (none_waits t x l) (f.queues p x pe l))
 
     emptied : (q v : ℕ) → q < S.processes → v < S.variables → FitsClue ((with_none_waiting a p).clue q v) (c.queue q v)
     emptied q v l h =
@@ -94,7 +94,7 @@ module _ (P : Program) (R : WellFormed P) (a : Pattern) (c : Configuration) (o :
   sfence t f =
       record {
         pattern = with_none_waiting a p;
-        among = provided_in (all_below S.variables (λ x. can_empty (a.clue p x))) (can-empty t f) (Memᴰ.head refl);
+        among = provided_in (all_below S.variables (λ x. can_empty (a.clue p x))) (can_empty_lem t f) (Memᴰ.head refl);
         state = refl;
         rest = record { queues = emptied t f; newest = f.newest; paths = f.paths };
       }
@@ -107,7 +107,7 @@ module _ (P : Program) (R : WellFormed P) (a : Pattern) (c : Configuration) (o :
       let j = joins (held c.memory n) a.newest f.newest (a.path p) all in
       record {
         pattern = with_newest (with_path (with_none_waiting a p) p []) j.newer;
-        among = provided_in (all_below S.variables (λ x. can_empty (a.clue p x))) (can-empty y.0 f)
+        among = provided_in (all_below S.variables (λ x. can_empty (a.clue p x))) (can_empty_lem y.0 f)
             (option_in (joined a.newest (a.path p)) (λ newest. with_newest (with_path (with_none_waiting a p) p []) newest) j.newer j.is);
         state = refl;
         rest =

@@ -36,8 +36,8 @@ module _ (m : Memory) (p : ℕ) where
 
   -- no read of it stands past the newest message
   module _ (b : m.pointer p ≤ length m.channel) where
-    pub last-upto : (v : ℕ) → last_write m p v ≤ length m.channel
-    last-upto v = (last_is m.channel (m.pointer p) p v b).high
+    pub last_upto : (v : ℕ) → last_write m p v ≤ length m.channel
+    last_upto v = (last_is m.channel (m.pointer p) p v b).high
 
     same_read : {k i : ℕ} {r s : PathRead} → SameRead r s → ReadAt m p k s i → ReadAt m p k r i
     same_read {k} {i} {r} {s} e a =
@@ -52,29 +52,29 @@ module _ (m : Memory) (p : ℕ) where
 
     module _ (newest : ℕ → Option ℕ) (n : (v : ℕ) → Stands (newest v) (held m (length m.channel) v)) where
       -- what is asked of the newest message can be read there
-      asked-path : (rs : List PathRead) (k : ℕ) → k ≤ length m.channel → Asked newest rs → PathFrom m p k rs
-      asked-path [] k l a = tt
-      asked-path (r ∷ rs) k l a = (
+      asked_path : (rs : List PathRead) (k : ℕ) → k ≤ length m.channel → Asked newest rs → PathFrom m p k rs
+      asked_path [] k l a = tt
+      asked_path (r ∷ rs) k l a = (
         length m.channel,
         record {
           from = l;
           upto = omega arith;
-          last = last-upto r.variable;
+          last = last_upto r.variable;
           value = sym (subst (λ (x : Option ℕ). Stands x (held m (length m.channel) r.variable)) a.1 (n r.variable));
           later = λ t. absurd (T_not r.own a.0 t);
           label = λ t. absurd (T_not r.own a.0 t);
         },
-        asked-path rs (length m.channel) (omega arith) a.2,
+        asked_path rs (length m.channel) (omega arith) a.2,
       )
 
-      front-path : {front ss : List PathRead} (rest : List PathRead) → Subsequence SameRead front ss → Asked newest rest → (k : ℕ) → k ≤ length m.channel
+      front_path : {front ss : List PathRead} (rest : List PathRead) → Subsequence SameRead front ss → Asked newest rest → (k : ℕ) → k ≤ length m.channel
           → PathFrom m p k ss → PathFrom m p k (front ++ rest)
-      front-path rest nothing a k l f = asked-path rest k l a
-      front-path rest (keep e s) a k l f = (f.0, same_read e f.1, front-path rest s a f.0 f.1.upto f.2)
-      front-path {front} rest (skip s) a k l f = path_lower (front ++ rest) k f.0 f.1.from (front-path rest s a f.0 f.1.upto f.2)
+      front_path rest nothing a k l f = asked_path rest k l a
+      front_path rest (keep e s) a k l f = (f.0, same_read e f.1, front_path rest s a f.0 f.1.upto f.2)
+      front_path {front} rest (skip s) a k l f = path_lower (front ++ rest) k f.0 f.1.from (front_path rest s a f.0 f.1.upto f.2)
 
-      pub path-within : {ss rs : List PathRead} → PathWithin newest ss rs → (k : ℕ) → k ≤ length m.channel → PathFrom m p k ss → PathFrom m p k rs
-      path-within w k l f = subst (PathFrom m p k) (sym w.cut) (front-path w.rest w.read w.asked k l f)
+      pub path_within : {ss rs : List PathRead} → PathWithin newest ss rs → (k : ℕ) → k ≤ length m.channel → PathFrom m p k ss → PathFrom m p k rs
+      path_within w k l f = subst (PathFrom m p k) (sym w.cut) (front_path w.rest w.read w.asked k l f)
 
 -- a pointer that moves on leaves no more to read
 pub path_pointer : (m : Memory) (f : ℕ → ℕ) (p : ℕ) → m.pointer p ≤ f p → (rs : List PathRead) (k : ℕ)
@@ -124,5 +124,5 @@ within_fits P a b o w c g f =
         | no l ↦ subst (λ x. Stands x (held c.memory (length c.memory.channel) v)) (sym (o.absent v (omega arith))) tt
       ];
       paths = λ p l.
-          path-within c.memory p (g.fits.memory.high p l) a.newest f.newest (w.paths p l) (c.memory.pointer p) (g.fits.memory.high p l) (f.paths p l);
+          path_within c.memory p (g.fits.memory.high p l) a.newest f.newest (w.paths p l) (c.memory.pointer p) (g.fits.memory.high p l) (f.paths p l);
     }

@@ -24,7 +24,7 @@ use Rattle.pattern_theory.specs.Storing.{Stored}
 use Rattle.pattern_theory.specs.Verdict.{PatternsIn, WithinOne, PatternsSafe, PatternsJudged, pattern_verdict}
 use Rattle.pattern_theory.specs.Safety.{PatternSafety, PatternPsoSafety}
 use Rattle.pattern_theory.proofs.Paths.{within_fits}
-use Rattle.pattern_theory.proofs.Storing.{stored_start, stored-step}
+use Rattle.pattern_theory.proofs.Storing.{stored_start, stored_step}
 use Rattle.pattern_theory.proofs.Entering.{enters_pattern}
 use Rattle.pattern_theory.proofs.Verdict.{patterns_decided}
 
@@ -68,7 +68,7 @@ module _ (P : Program) (R : WellFormed P) (ts : List (ℕ → ℕ)) (ps : List P
 
   outside : {c d : Configuration} {ss : List Step} → Stored P c → (FitsList P.shape ps c → ⊥) → Visited P c ss d → Stored P d × (FitsList P.shape ps d → ⊥)
   outside i n start = (i, n)
-  outside i n (later {b = c} s t v) = outside (stored-step P R c i s t) (stays c i n s t) v
+  outside i n (later {b = c} s t v) = outside (stored_step P R c i s t) (stays c i n s t) v
 
   in_target : (k : ℕ) → k < length ts → (d : Configuration) → Stored P d → InTarget P.shape (target ts k) d → FitsList P.shape ps d
   in_target k l d i t = within_list (target_pattern (target ts k)) (S.held k l) d i (record { states = t; queues = λ p v h j. nothing; newest = λ v. tt; paths = λ p h. tt })

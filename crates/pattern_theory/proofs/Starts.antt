@@ -179,20 +179,20 @@ module _ (P : Program) (R : WellFormed P) (a : Pattern) (o : PatternIn P.shape a
     abbrev memory : List ℕ
     memory = values_from room 0 value
 
-    memory-at : (v : ℕ) → v < room → get_or memory v 0 ≡ value v
-    memory-at v l = let e : 0 + v ≡ v = omega arith in values_at room 0 value v l ∙ ap value e
+    memory_at : (v : ℕ) → v < room → get_or memory v 0 ≡ value v
+    memory_at v l = let e : 0 + v ≡ v = omega arith in values_at room 0 value v l ∙ ap value e
 
     asked_value : (v x : ℕ) → v < S.variables → newer v ≡ some x → get_or memory v 0 ≡ x
-    asked_value v x l e = memory-at v (omega (arith, R.shape.variables)) ∙ (rw (lt-ltb v S.variables l) (ap or_zero e))
+    asked_value v x l e = memory_at v (omega (arith, R.shape.variables)) ∙ (rw (lt-ltb v S.variables l) (ap or_zero e))
 
     permitted : StartingMemory S memory
     permitted =
         record {
           room = values_length room 0 value;
-          values = λ v l. rw (memory-at v (omega (arith, R.shape.variables)), lt-ltb v S.variables l)
+          values = λ v l. rw (memory_at v (omega (arith, R.shape.variables)), lt-ltb v S.variables l)
               (or_zero_lem (newer v) (S.values v) (R.shape.some_value v l) (λ x e. j.values v x l e));
           absent = λ v l. elim (dec_lt v room) [
-            | yes h ↦ memory-at v h ∙ (rw (le-ltb v S.variables l))
+            | yes h ↦ memory_at v h ∙ (rw (le-ltb v S.variables l))
             | no h ↦ let past : length memory ≤ v = omega (arith, values_length room 0 value) in get_or-eq_default memory 0 past
           ];
         }
@@ -200,9 +200,9 @@ module _ (P : Program) (R : WellFormed P) (a : Pattern) (o : PatternIn P.shape a
     abbrev first : Configuration
     first = start_with P memory 0 0
 
-    first-path : (p : ℕ) → p < S.processes → (rs : List PathRead) → ReadsOf S rs → AllAsked newer rs → (k : ℕ) → k ≤ 1 → PathFrom first.memory p k rs
-    first-path p l [] i q k h = tt
-    first-path p l (r ∷ rs) i q k h = (
+    first_path : (p : ℕ) → p < S.processes → (rs : List PathRead) → ReadsOf S rs → AllAsked newer rs → (k : ℕ) → k ≤ 1 → PathFrom first.memory p k rs
+    first_path p l [] i q k h = tt
+    first_path p l (r ∷ rs) i q k h = (
       1,
       record {
         from = h;
@@ -212,7 +212,7 @@ module _ (P : Program) (R : WellFormed P) (a : Pattern) (o : PatternIn P.shape a
         later = λ t. absurd (T_not r.own q.0 t);
         label = λ t. absurd (T_not r.own q.0 t);
       },
-      first-path p l rs i.2 q.2 1 (omega arith),
+      first_path p l rs i.2 q.2 1 (omega arith),
     )
 
     first_fits : T states → T clues → StartFits P a
@@ -229,7 +229,7 @@ module _ (P : Program) (R : WellFormed P) (a : Pattern) (o : PatternIn P.shape a
                   | yes l ↦ asked_stands (a.newest v) (get_or memory v 0) (λ x e. asked_value v x l (j.keeps v x e))
                   | no l ↦ subst (λ (u : Option ℕ). Stands u (get_or memory v 0)) (sym (o.absent v (omega arith))) tt
                 ];
-                paths = λ p l. first-path p l (a.path p) (o.reads p l) (asked_below newer S.processes a.path j.asks p l) (first.memory.pointer p)
+                paths = λ p l. first_path p l (a.path p) (o.reads p l) (asked_below newer S.processes a.path j.asks p l) (first.memory.pointer p)
                     (rw (lt-ltb p S.processes l) (omega arith));
               };
         }

@@ -85,8 +85,8 @@ module _ (P : Program) where
   clue_waits p x (contains w) q f a = word_waits p x f a
 
   module _ (c : Configuration) (o : Stored P c) where
-    may-read : (p k : ℕ) (r : PathRead) (i : ℕ) → 1 ≤ k → ReadAt c.memory p k r i → T (may_read P p r)
-    may-read p k r i l a = ⊎_elim
+    may_read_lem : (p k : ℕ) (r : PathRead) (i : ℕ) → 1 ≤ k → ReadAt c.memory p k r i → T (may_read P p r)
+    may_read_lem p k r i l a = ⊎_elim
         (λ t.
         let μ = message c.memory.channel i in
         let y = and_yes (eqb μ.process p) (eqb μ.variable r.variable) (a.label t) in
@@ -97,9 +97,9 @@ module _ (P : Program) where
         (λ t. or_left (not r.own) (does P p (is_store r.variable r.value)) t)
         (T_or_not r.own)
 
-    path-reads : (p k : ℕ) (rs : List PathRead) → 1 ≤ k → PathFrom c.memory p k rs → T (every (may_read P p) rs)
-    path-reads p k [] l f = tt
-    path-reads p k (r ∷ rs) l f = every_cons (may_read P p) r rs (may-read p k r f.0 l f.1) (path-reads p f.0 rs (omega (arith, f.1.from)) f.2)
+    path_reads : (p k : ℕ) (rs : List PathRead) → 1 ≤ k → PathFrom c.memory p k rs → T (every (may_read P p) rs)
+    path_reads p k [] l f = tt
+    path_reads p k (r ∷ rs) l f = every_cons (may_read P p) r rs (may_read_lem p k r f.0 l f.1) (path_reads p f.0 rs (omega (arith, f.1.from)) f.2)
 
     pub fits_kept : (a : Pattern) → FitsPattern P.shape a c → T (kept P a)
     fits_kept a f =
@@ -108,7 +108,7 @@ module _ (P : Program) where
         (λ p l. yes_all P.shape.variables (λ x. every (may_wait P p x) (word_of (a.clue p x)))
         (λ x h. clue_waits p x (a.clue p x) (c.queue p x) (f.queues p x l h) (o.waits p x l h))))
         (yes_all P.shape.processes (λ p. every (may_read P p) (a.path p))
-        (λ p l. path-reads p (c.memory.pointer p) (a.path p) (o.configuration.fits.memory.low p l) (f.paths p l)))
+        (λ p l. path_reads p (c.memory.pointer p) (a.path p) (o.configuration.fits.memory.low p l) (f.paths p l)))
       where
         words : Bool
         words = all_below P.shape.processes (λ p. all_below P.shape.variables (λ x. every (may_wait P p x) (word_of (a.clue p x))))
@@ -155,38 +155,38 @@ module _ (P : Program) where
           (o.configuration.fits.memory.messages (length c.memory.channel) o.configuration.fits.memory.some (omega arith)).room,
         )
 
-    sent-operation : (p : ℕ) (x : Operation) → OperationOf P.shape x → ((is : Operation → Bool) → T (is x) → T (does P p is)) → Sent (memory_after c.memory p x).channel
-    sent-operation p Nop w d = o.sent
-    sent-operation p (Read v x) w d = o.sent
-    sent-operation p (Write v x) w d = o.sent
-    sent-operation p Mfence w d = o.sent
-    sent-operation p Sfence w d = o.sent
-    sent-operation p (Arw v old new) w d =
+    sent_operation : (p : ℕ) (x : Operation) → OperationOf P.shape x → ((is : Operation → Bool) → T (is x) → T (does P p is)) → Sent (memory_after c.memory p x).channel
+    sent_operation p Nop w d = o.sent
+    sent_operation p (Read v x) w d = o.sent
+    sent_operation p (Write v x) w d = o.sent
+    sent_operation p Mfence w d = o.sent
+    sent_operation p Sfence w d = o.sent
+    sent_operation p (Arw v old new) w d =
         sent_append c.memory p v new (has_room v w.0) o.sent (d (is_store v new) (yes_and (eqb v v) (eqb new new) (eqb_refl v) (eqb_refl new)))
 
-    waits-operation : (p : ℕ) → p < P.shape.processes → (x : Operation) → OperationOf P.shape x → ((is : Operation → Bool) → T (is x) → T (does P p is))
+    waits_operation : (p : ℕ) → p < P.shape.processes → (x : Operation) → OperationOf P.shape x → ((is : Operation → Bool) → T (is x) → T (does P p is))
         → Waits (queue_after c p x)
-    waits-operation p l Nop w d = o.waits
-    waits-operation p l (Read v x) w d = o.waits
-    waits-operation p l (Write v x) w d =
+    waits_operation p l Nop w d = o.waits
+    waits_operation p l (Read v x) w d = o.waits
+    waits_operation p l (Write v x) w d =
         waits_put c.queue p v (c.queue p v ++ (x ∷ [])) o.waits
         (all_snoc (λ u. T (does P p (is_write v u))) (c.queue p v) x (o.waits p v l w.0)
         (d (is_write v x) (yes_and (eqb v v) (eqb x x) (eqb_refl v) (eqb_refl x))))
-    waits-operation p l Mfence w d = o.waits
-    waits-operation p l Sfence w d = o.waits
-    waits-operation p l (Arw v old new) w d = o.waits
+    waits_operation p l Mfence w d = o.waits
+    waits_operation p l Sfence w d = o.waits
+    waits_operation p l (Arw v old new) w d = o.waits
 
-    pub stored-step : (s : Step) → T (may P c s) → Stored P (after P c s)
-    stored-step (Take n) t =
+    pub stored_step : (s : Step) → T (may P c s) → Stored P (after P c s)
+    stored_step (Take n) t =
         let y = take_yes P c n t in
         let r = R.transitions n y.0 in
         let q = transition P n in
         record {
           configuration = step_configuration P R c o.configuration (Take n) t;
-          waits = waits-operation q.process r.process q.operation r.operation (by_transition P n y.0);
-          sent = sent-operation q.process q.operation r.operation (by_transition P n y.0);
+          waits = waits_operation q.process r.process q.operation r.operation (by_transition P n y.0);
+          sent = sent_operation q.process q.operation r.operation (by_transition P n y.0);
         }
-    stored-step (Serialise p v) t =
+    stored_step (Serialise p v) t =
         let y = serialise_yes P c p v t in
         let w = o.waits p v y.0 y.1 in
         record {
@@ -196,12 +196,12 @@ module _ (P : Program) where
               (does_more P p (is_write v (get_or (c.queue p v) 0 0)) (is_store v (get_or (c.queue p v) 0 0)) (write_store P v (get_or (c.queue p v) 0 0))
               (all_oldest (λ u. T (does P p (is_write v u))) (c.queue p v) y.2 w));
         }
-    stored-step (Update p) t =
+    stored_step (Update p) t =
         record { configuration = step_configuration P R c o.configuration (Update p) t; waits = o.waits; sent = o.sent }
 
 stored_visited : (P : Program) → WellFormed P → {b c : Configuration} {ss : List Step} → Stored P b → Visited P b ss c → Stored P c
 stored_visited P R o start = o
-stored_visited P R {b} o (later s t r) = stored_visited P R (stored-step P R b o s t) r
+stored_visited P R {b} o (later s t r) = stored_visited P R (stored_step P R b o s t) r
 
 pub runs_store : RunsStore
 runs_store P R c s ss d v = stored_visited P R (stored_start P c s) v

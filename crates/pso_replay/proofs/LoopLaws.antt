@@ -47,21 +47,21 @@ module _ (g f : List ℕ) (s : Shape) (transitions targets : Row) (steps k place
 
 module _ {g f : List ℕ} {s : Shape} {transitions targets : Row} {steps at : ℕ} {run₀ : PsoRun} {a₀ : List ℕ} {k place : ℕ} {run : PsoRun} {a : List ℕ}
     (r : Replaying g f s transitions targets steps at run₀ a₀ k place run a) where
-  pub replaying-done : steps ≤ k → last_in g targets s run.states steps ≡ run_from g f s transitions targets steps 0 at run₀ a₀ steps
-  replaying-done l = sym (run_done g f s transitions targets steps k place run a l) ∙ r.rest
+  pub replaying_done : steps ≤ k → last_in g targets s run.states steps ≡ run_from g f s transitions targets steps 0 at run₀ a₀ steps
+  replaying_done l = sym (run_done g f s transitions targets steps k place run a l) ∙ r.rest
 
-  pub replaying-stopped : (x : Answer) (cause : Cause) → k < steps → x ≡ answer_in run a s (pso_move_of g transitions (step_at f place)) → x ≡ Refused cause
+  pub replaying_stopped : (x : Answer) (cause : Cause) → k < steps → x ≡ answer_in run a s (pso_move_of g transitions (step_at f place)) → x ≡ Refused cause
       → stopped_by k x ≡ run_from g f s transitions targets steps 0 at run₀ a₀ steps
-  replaying-stopped x cause l e q =
+  replaying_stopped x cause l e q =
       let m = pso_move_of g transitions (step_at f place) in
       let goes : RunAnswer = run_from g f s transitions targets steps (k + 1) (next_step f place) (run_after run a s m) (lower_after_move a run.tails s m) (steps - (k + 1)) in
       ap (stopped_by k) q
       ∙ sym (run_step g f s transitions targets steps k place run a l ∙ ap (λ (z : Answer). answer_then z k (λ _. goes)) (sym e ∙ q)) ∙ r.rest
 
-  pub replaying-next : {place' : ℕ} {run' : PsoRun} {a' : List ℕ} (m : PsoMove) → k < steps → m ≡ pso_move_of g transitions (step_at f place)
+  pub replaying_next : {place' : ℕ} {run' : PsoRun} {a' : List ℕ} (m : PsoMove) → k < steps → m ≡ pso_move_of g transitions (step_at f place)
       → answer_in run a s m ≡ Permitted → place' ≡ next_step f place → run' ≡ run_after run a s m → a' ≡ lower_after_move a run.tails s m
       → Replaying g f s transitions targets steps at run₀ a₀ (k + 1) place' run' a'
-  replaying-next {place'} {run'} {a'} m l em e ep er ea =
+  replaying_next {place'} {run'} {a'} m l em e ep er ea =
       let goes : PsoMove → RunAnswer =
       λ x. run_from g f s transitions targets steps (k + 1) (next_step f place) (run_after run a s x) (lower_after_move a run.tails s x) (steps - (k + 1)) in
       record {

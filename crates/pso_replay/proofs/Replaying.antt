@@ -23,7 +23,7 @@ use Rattle.run_step.specs.declared.last_test.RunAnswer.{RunAnswer}
 use Rattle.run_replay.specs.Replay.{lowest_met}
 use Rattle.run_replay.specs.Answers.{last_answer, answer_then}
 use Rattle.run_replay.specs.Loop.{next_step}
-use Rattle.run_replay.proofs.Replaying.{zeros_at, steps_next, steps_length, targets-last}
+use Rattle.run_replay.proofs.Replaying.{zeros_at, steps_next, steps_length, targets_last}
 use Rattle.pso_layout.specs.declared.buffers.PsoRun.{PsoRun}
 use Rattle.pso_step.specs.Causes.{pso_step_answer}
 use Rattle.pso_replay.specs.Answers.{pso_step, pso_steps, pso_lowest_met, pso_answer_from, pso_run_answer}
@@ -80,7 +80,7 @@ module _ (g f : List ℕ) (p : Program) (R : pws.ProgramInRange (program_of g p)
       → run_from g f p.shape p.transitions p.targets n k at run a m ≡ pso_answer_from P₁ (targets_of g p) n k d (pso_steps (steps_of f at m))
   unfolding run_from steps_of
   all_steps zero k at run a d K l =
-      targets-last g p R.shape.processes run.states (states_only d) K.states n p.targets.count p.targets.at 0 (inl (omega arith))
+      targets_last g p R.shape.processes run.states (states_only d) K.states n p.targets.count p.targets.at 0 (inl (omega arith))
       ∙ ap (last_answer n) (same_lowest (shape_of p.shape) 0 (targets_of g p) d)
   all_steps (suc m) k at run a d K l =
       let s = step_at f at in

@@ -50,11 +50,11 @@ module _ (s : Shape) (pl : s.processes ≤ 4) (vl : s.variables ≤ 4) (xl : (v 
   abbrev Held : List ℕ → List ℕ → List ℕ → List ℕ → ℕ → ℕ → List Item → Type 0
   Held b heads tails lasts q u is = BufferHeld b (4 * q + u) (get_or heads (4 * q + u) 0) (get_or tails (4 * q + u) 0) (get_or lasts (4 * q + u) 0) (suc k) is
 
-  same-held : (q u : ℕ) → q < s.processes → u < s.variables → Held a run.heads run.tails run.lasts q u (d.buffer q u)
-  same-held q u qe ue = held_keep (K.buffers q u qe ue) (λ j l. refl)
+  same_held : (q u : ℕ) → q < s.processes → u < s.variables → Held a run.heads run.tails run.lasts q u (d.buffer q u)
+  same_held q u qe ue = held_keep (K.buffers q u qe ue) (λ j l. refl)
 
-  tail-few : (q u : ℕ) → q < s.processes → u < s.variables → get_or run.tails (4 * q + u) 0 < 1024
-  tail-few q u qe ue = omega (arith, (K.buffers q u qe ue).most)
+  tail_few : (q u : ℕ) → q < s.processes → u < s.variables → get_or run.tails (4 * q + u) 0 < 1024
+  tail_few q u qe ue = omega (arith, (K.buffers q u qe ue).most)
 
   -- ---- a value written
 
@@ -62,35 +62,35 @@ module _ (s : Shape) (pl : s.processes ≤ 4) (vl : s.variables ≤ 4) (xl : (v 
     abbrev t : ℕ
     t = get_or run.tails (4 * p + v) 0
 
-    lasts-is : lasts_operated run.lasts run.tails p (Write v x) ≡ set run.lasts (4 * p + v) (suc t)
-    lasts-is =
+    lasts_is : lasts_operated run.lasts run.tails p (Write v x) ≡ set run.lasts (4 * p + v) (suc t)
+    lasts_is =
         ap (λ (q : ℕ). set run.lasts q (next_number (get_or run.tails q 0))) (queue_is p v (omega arith) (omega arith))
-        ∙ ap (set run.lasts (4 * p + v)) (next_is t (omega (arith, tail-few p v pe ve)))
+        ∙ ap (set run.lasts (4 * p + v)) (next_is t (omega (arith, tail_few p v pe ve)))
 
-    area-is : area_operated a run.tails s p (Write v x) ≡ set a (1024 * (4 * p + v) + t) x
-    area-is = ap (λ (q : ℕ). set a (1024 * q + get_or run.tails q 0) x) (queue_is p v (omega arith) (omega arith))
+    area_is : area_operated a run.tails s p (Write v x) ≡ set a (1024 * (4 * p + v) + t) x
+    area_is = ap (λ (q : ℕ). set a (1024 * q + get_or run.tails q 0) x) (queue_is p v (omega arith) (omega arith))
 
-    write-held : (q u : ℕ) → q < s.processes → u < s.variables
+    write_held : (q u : ℕ) → q < s.processes → u < s.variables
         → Held (area_operated a run.tails s p (Write v x)) run.heads (advanced run.tails p v) (lasts_operated run.lasts run.tails p (Write v x)) q u
         (buffer_after (shape_of s) d p (Write v x) q u)
-    write-held q u qe ue =
-        rw (lasts-is, area-is)
+    write_held q u qe ue =
+        rw (lasts_is, area_is)
         (put_buffer_each (λ q u is. q < s.processes → u < s.variables
         → Held (set a (1024 * (4 * p + v) + t) x) run.heads (advanced run.tails p v) (set run.lasts (4 * p + v) (suc t)) q u is)
         d.buffer p v (d.buffer p v ++ (value x ∷ [])) q u
         (λ _ _.
         rw (
-          advanced_same run.tails p v (omega arith) (omega arith) K.tail_count (omega (arith, tail-few p v pe ve)),
+          advanced_same run.tails p v (omega arith) (omega arith) K.tail_count (omega (arith, tail_few p v pe ve)),
           get_or-set_same run.lasts (4 * p + v) (suc t) 0 (omega (arith, K.last_count)),
         ) (held_value (K.buffers p v pe ve) x xe (λ j l. item_other a (4 * p + v) t x (4 * p + v) j (λ e. omega arith))
-        (item_same a (4 * p + v) t x (omega (arith, K.area, tail-few p v pe ve)))))
+        (item_same a (4 * p + v) t x (omega (arith, K.area, tail_few p v pe ve)))))
         (λ n qe ue.
         let other : 4 * q + u ≢ 4 * p + v = λ e. n (omega arith, omega arith) in
         rw (
           advanced_other run.tails p v (omega arith) (omega arith) (4 * q + u) other,
           get_or-set_other run.lasts (4 * p + v) (4 * q + u) (suc t) 0 other,
         ) (held_keep (K.buffers q u qe ue) (λ j l.
-        item_other a (4 * p + v) t x (4 * q + u) j (λ e. other (omega (arith, tail-few q u qe ue, tail-few p v pe ve))))))
+        item_other a (4 * p + v) t x (4 * q + u) j (λ e. other (omega (arith, tail_few q u qe ue, tail_few p v pe ve))))))
         qe ue)
 
   -- ---- a mark in each buffer of p
@@ -99,7 +99,7 @@ module _ (s : Shape) (pl : s.processes ≤ 4) (vl : s.variables ≤ 4) (xl : (v 
       → Held (marked_below a run.tails p s.variables) run.heads (advanced_below run.tails p s.variables) run.lasts q u
       (buffer_after (shape_of s) d p Sfence q u)
   mark_held p pe q u qe ue =
-      let small : (v : ℕ) → v < s.variables → get_or run.tails (4 * p + v) 0 < 1024 = λ v ve. tail-few p v pe ve in
+      let small : (v : ℕ) → v < s.variables → get_or run.tails (4 * p + v) 0 < 1024 = λ v ve. tail_few p v pe ve in
       let n = s.variables in
       each_buffer_each (λ q u is. q < s.processes → Held (marked_below a run.tails p n) run.heads (advanced_below run.tails p n) run.lasts q u is)
       (shape_of s) (λ is. is ++ (mark ∷ [])) d.buffer p q u ue
@@ -114,74 +114,74 @@ module _ (s : Shape) (pl : s.processes ≤ 4) (vl : s.variables ≤ 4) (xl : (v 
       (λ m qe.
       rw (below_out run.tails p n (omega arith) vl (4 * q + u) (λ v h e. m (omega arith)))
       (held_keep (K.buffers q u qe ue) (λ j l.
-      marked_out a run.tails p (omega arith) n vl small (4 * q + u) j (omega (arith, tail-few q u qe ue)) (λ v h e z. m (omega arith)))))
+      marked_out a run.tails p (omega arith) n vl small (4 * q + u) j (omega (arith, tail_few q u qe ue)) (λ v h e z. m (omega arith)))))
       qe
 
   -- ---- an operation
 
-  buffers-operated : (p : ℕ) (o : Operation) → p < s.processes → pws.OperationOf (shape_of s) o → (q u : ℕ) → q < s.processes → u < s.variables
+  buffers_operated : (p : ℕ) (o : Operation) → p < s.processes → pws.OperationOf (shape_of s) o → (q u : ℕ) → q < s.processes → u < s.variables
       → Held (area_operated a run.tails s p o) run.heads (tails_operated run.tails s p o) (lasts_operated run.lasts run.tails p o) q u
       (buffer_after (shape_of s) d p o q u)
-  buffers-operated p Nop pe oe = same-held
-  buffers-operated p (Read v x) pe oe = same-held
-  buffers-operated p (Write v x) pe oe = write-held p v x pe oe.0 (omega (arith, oe.1, xl v oe.0))
-  buffers-operated p Mfence pe oe = same-held
-  buffers-operated p Sfence pe oe = mark_held p pe
-  buffers-operated p (Arw v x y) pe oe = same-held
+  buffers_operated p Nop pe oe = same_held
+  buffers_operated p (Read v x) pe oe = same_held
+  buffers_operated p (Write v x) pe oe = write_held p v x pe oe.0 (omega (arith, oe.1, xl v oe.0))
+  buffers_operated p Mfence pe oe = same_held
+  buffers_operated p Sfence pe oe = mark_held p pe
+  buffers_operated p (Arw v x y) pe oe = same_held
 
-  memory-operated : (o : Operation) → memory_operated run.memory o ≡ pso_memory_after d.memory o
-  memory-operated Nop = K.memory
-  memory-operated (Read v x) = K.memory
-  memory-operated (Write v x) = K.memory
-  memory-operated Mfence = K.memory
-  memory-operated Sfence = K.memory
-  memory-operated (Arw v x y) = ap (λ (m : List ℕ). set m v y) K.memory
+  memory_operated_lem : (o : Operation) → memory_operated run.memory o ≡ pso_memory_after d.memory o
+  memory_operated_lem Nop = K.memory
+  memory_operated_lem (Read v x) = K.memory
+  memory_operated_lem (Write v x) = K.memory
+  memory_operated_lem Mfence = K.memory
+  memory_operated_lem Sfence = K.memory
+  memory_operated_lem (Arw v x y) = ap (λ (m : List ℕ). set m v y) K.memory
 
-  tail-count : (p : ℕ) (o : Operation) → length (tails_operated run.tails s p o) ≡ 16
-  tail-count p Nop = K.tail_count
-  tail-count p (Read v x) = K.tail_count
-  tail-count p (Write v x) = advanced_length run.tails p v ∙ K.tail_count
-  tail-count p Mfence = K.tail_count
-  tail-count p Sfence = below_length run.tails p s.variables ∙ K.tail_count
-  tail-count p (Arw v x y) = K.tail_count
+  tail_count_lem : (p : ℕ) (o : Operation) → length (tails_operated run.tails s p o) ≡ 16
+  tail_count_lem p Nop = K.tail_count
+  tail_count_lem p (Read v x) = K.tail_count
+  tail_count_lem p (Write v x) = advanced_length run.tails p v ∙ K.tail_count
+  tail_count_lem p Mfence = K.tail_count
+  tail_count_lem p Sfence = below_length run.tails p s.variables ∙ K.tail_count
+  tail_count_lem p (Arw v x y) = K.tail_count
 
-  last-count : (p : ℕ) (o : Operation) → length (lasts_operated run.lasts run.tails p o) ≡ 16
-  last-count p Nop = K.last_count
-  last-count p (Read v x) = K.last_count
-  last-count p (Write v x) = length-set run.lasts _ _ ∙ K.last_count
-  last-count p Mfence = K.last_count
-  last-count p Sfence = K.last_count
-  last-count p (Arw v x y) = K.last_count
+  last_count_lem : (p : ℕ) (o : Operation) → length (lasts_operated run.lasts run.tails p o) ≡ 16
+  last_count_lem p Nop = K.last_count
+  last_count_lem p (Read v x) = K.last_count
+  last_count_lem p (Write v x) = length-set run.lasts _ _ ∙ K.last_count
+  last_count_lem p Mfence = K.last_count
+  last_count_lem p Sfence = K.last_count
+  last_count_lem p (Arw v x y) = K.last_count
 
-  states-operated : (p x : ℕ) → p < s.processes → (q : ℕ) → q < s.processes → get_or (set run.states p x) q 0 ≡ put d.state p x q
-  states-operated p x pe q qe = elim (ℕ_discrete q p) [
+  states_operated : (p x : ℕ) → p < s.processes → (q : ℕ) → q < s.processes → get_or (set run.states p x) q 0 ≡ put d.state p x q
+  states_operated p x pe q qe = elim (ℕ_discrete q p) [
     | yes e ↦ rw e (get_or-set_same run.states p x 0 (omega (arith, K.state_count)) ∙ sym (put_same d.state p x))
     | no e ↦ get_or-set_other run.states p q x 0 e ∙ K.states q qe ∙ sym (put_other d.state p x q e)
   ]
 
-  pub kept-operated : (w : Transition) → w.process < s.processes → pws.OperationOf (shape_of s) w.operation
+  pub kept_operated : (w : Transition) → w.process < s.processes → pws.OperationOf (shape_of s) w.operation
       → Kept (shape_of s) (suc k) (run_after run a s (Operate w)) (lower_after_move a run.tails s (Operate w)) (after_operate (shape_of s) d w)
-  kept-operated w pe oe =
+  kept_operated w pe oe =
       record {
-        states = states-operated w.process w.to pe;
-        memory = memory-operated w.operation;
+        states = states_operated w.process w.to pe;
+        memory = memory_operated_lem w.operation;
         state_count = length-set run.states w.process w.to ∙ K.state_count;
         head_count = K.head_count;
-        tail_count = tail-count w.process w.operation;
-        last_count = last-count w.process w.operation;
+        tail_count = tail_count_lem w.process w.operation;
+        last_count = last_count_lem w.process w.operation;
         area = area_length a run.tails s (Operate w) ∙ K.area;
-        buffers = buffers-operated w.process w.operation pe oe;
+        buffers = buffers_operated w.process w.operation pe oe;
       }
 
   -- ---- the memory's own steps
 
   head_few : (q u : ℕ) → q < s.processes → u < s.variables → get_or run.heads (4 * q + u) 0 < 65535
-  head_few q u qe ue = omega (arith, (K.buffers q u qe ue).order, tail-few q u qe ue)
+  head_few q u qe ue = omega (arith, (K.buffers q u qe ue).order, tail_few q u qe ue)
 
-  pub kept-updated : (p v : ℕ) → p < s.processes → v < s.variables → T (value_first (d.buffer p v))
+  pub kept_updated : (p v : ℕ) → p < s.processes → v < s.variables → T (value_first (d.buffer p v))
       → Kept (shape_of s) (suc k) (run_after run a s (UpdateVariable p v)) (lower_after_move a run.tails s (UpdateVariable p v)) (after_update_variable d p v)
   unfolding head_item
-  kept-updated p v pe ve y =
+  kept_updated p v pe ve y =
       let o = oldest_held (K.buffers p v pe ve) y in
       record {
         states = K.states;
@@ -197,12 +197,12 @@ module _ (s : Shape) (pl : s.processes ≤ 4) (vl : s.variables ≤ 4) (xl : (v 
             put_buffer_each (λ q u is. q < s.processes → u < s.variables → Held a (advanced run.heads p v) run.tails run.lasts q u is) d.buffer p v
             (without_first (d.buffer p v)) q u
             (λ _ _. rw (advanced_same run.heads p v (omega arith) (omega arith) K.head_count (head_few p v pe ve)) (held_pop (K.buffers p v pe ve) o.0))
-            (λ n qe ue. rw (advanced_other run.heads p v (omega arith) (omega arith) (4 * q + u) (λ e. n (omega arith, omega arith))) (same-held q u qe ue)) qe ue;
+            (λ n qe ue. rw (advanced_other run.heads p v (omega arith) (omega arith) (4 * q + u) (λ e. n (omega arith, omega arith))) (same_held q u qe ue)) qe ue;
       }
 
-  pub kept-removed : (p : ℕ) → p < s.processes → ((v : ℕ) → v < s.variables → T (mark_first (d.buffer p v)))
+  pub kept_removed : (p : ℕ) → p < s.processes → ((v : ℕ) → v < s.variables → T (mark_first (d.buffer p v)))
       → Kept (shape_of s) (suc k) (run_after run a s (RemoveMark p)) (lower_after_move a run.tails s (RemoveMark p)) (after_remove_mark (shape_of s) d p)
-  kept-removed p pe y =
+  kept_removed p pe y =
       let n = s.variables in
       record {
         states = K.states;
@@ -216,7 +216,7 @@ module _ (s : Shape) (pl : s.processes ≤ 4) (vl : s.variables ≤ 4) (xl : (v 
             each_buffer_each (λ q u is. q < s.processes → Held a (advanced_below run.heads p n) run.tails run.lasts q u is) (shape_of s) without_first d.buffer p q u ue
             (λ _. rw (below_in run.heads p n (omega arith) vl K.head_count (λ v ve. head_few p v pe ve) u ue)
             (held_pop (K.buffers p u pe ue) (marked_held (K.buffers p u pe ue) (y u ue))))
-            (λ m qe. rw (below_out run.heads p n (omega arith) vl (4 * q + u) (λ v h e. m (omega arith))) (same-held q u qe ue)) qe;
+            (λ m qe. rw (below_out run.heads p n (omega arith) vl (4 * q + u) (λ v h e. m (omega arith))) (same_held q u qe ue)) qe;
       }
 
 -- ---- the steps of a program
@@ -255,13 +255,13 @@ module _ (f : List ℕ) (p : Program) where
         let w = pws.transition (program_of f p) n in
         subst (λ (m : PsoMove). Kept (shape_of p.shape) (suc k) (run_after run a p.shape m) (lower_after_move a run.tails p.shape m) (after_operate (shape_of p.shape) d w))
         (sym (move_operate n (omega (arith, transition_count f p))))
-        (kept-operated p.shape R.shape.processes R.shape.variables R.shape.values k run a d K few w o.process o.operation)
+        (kept_operated p.shape R.shape.processes R.shape.variables R.shape.values k run a d K few w o.process o.operation)
     step_kept few (steps.Serialise q v) t =
         let y = and_yes (ltb q p.shape.processes && ltb v p.shape.variables) (value_first (d.buffer q v)) t in
         let z = and_yes (ltb q p.shape.processes) (ltb v p.shape.variables) y.0 in
-        kept-updated p.shape R.shape.processes R.shape.variables R.shape.values k run a d K few q v
+        kept_updated p.shape R.shape.processes R.shape.variables R.shape.values k run a d K few q v
         (ltb→lt q p.shape.processes z.0) (ltb→lt v p.shape.variables z.1) y.1
     step_kept few (steps.Update q) t =
         let y = and_yes (ltb q p.shape.processes) (all_below p.shape.variables (λ v. mark_first (d.buffer q v))) t in
-        kept-removed p.shape R.shape.processes R.shape.variables R.shape.values k run a d K few q (ltb→lt q p.shape.processes y.0)
+        kept_removed p.shape R.shape.processes R.shape.variables R.shape.values k run a d K few q (ltb→lt q p.shape.processes y.0)
         (all_yes p.shape.variables (λ v. mark_first (d.buffer q v)) y.1)

@@ -113,8 +113,8 @@ module _ {f : List ℕ} {has : List Bool} {n k₀ k total i : ℕ} (C : Counting
         ap (λ (ts : List RegisterTransition). source_of (expand has) ts (256 - total)) (table_next (transitions_at f k₀) i n l)
         ∙ ap (λ (x : ℕ). cond (ltb (256 - total) x) 0 (suc (source_of (expand has) (rest (i + 1)) (256 - total - x)))) (sym e)
 
-    pub counting-step : total + c ≤ 256 → Counting f has n k₀ (k + 8) (total + c) (i + 1)
-    counting-step m =
+    pub counting_step : total + c ≤ 256 → Counting f has n k₀ (k + 8) (total + c) (i + 1)
+    counting_step m =
         let d : 256 - total - c ≡ 256 - (total + c) = omega arith in
         let s : source_of (expand has) (rest i) (256 - total) ≡ suc (source_of (expand has) (rest (i + 1)) (256 - (total + c))) =
         source_more ∙ ap (λ (b : Bool). cond b 0 (suc (source_of (expand has) (rest (i + 1)) (256 - total - c)))) (le-ltb (256 - total) c (omega arith))
@@ -127,9 +127,9 @@ module _ {f : List ℕ} {has : List Bool} {n k₀ k total i : ℕ} (C : Counting
           source = omega (arith, C.source, s);
         }
 
-    pub counting-over : 256 < total + c
+    pub counting_over : 256 < total + c
         → (256 < length (joined (expand has) (table_from (transitions_at f k₀) 0 n))) × (i ≡ source_of (expand has) (table_from (transitions_at f k₀) 0 n) 256)
-    counting-over m =
+    counting_over m =
         let s : source_of (expand has) (rest i) (256 - total) ≡ 0 =
         source_more ∙ ap (λ (b : Bool). cond b 0 (suc (source_of (expand has) (rest (i + 1)) (256 - total - c)))) (lt-ltb (256 - total) c (omega (arith, C.few))) in
         (omega (arith, C.sum, size), omega (arith, C.source, s))

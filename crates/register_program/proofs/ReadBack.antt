@@ -333,16 +333,16 @@ module _ (P : pws.Program) (ts : List (ℕ → ℕ)) (I : ProgramPartRead P ts) 
     b₇ : byte w (at + 7) ≡ T.to
     b₇ = moves_byte i 7 l (omega arith) ∙ (op_byte T).4
 
-    transition-back : transition_at w at ≡ T
-    transition-back =
+    transition_back : transition_at w at ≡ T
+    transition_back =
         ap₂ (λ (p q : ℕ). record { process = p; from = q; operation = operation_of (byte w (at + 3)) (byte w (at + 4)) (byte w (at + 5)) (byte w (at + 6)); to = byte w (at + 7) }) b₁ b₂
         ∙ ap₂ (λ (o : Operation) (q : ℕ). record { process = T.process; from = T.from; operation = o; to = q })
         (ap₂ (λ (a b : ℕ). operation_of a b (byte w (at + 5)) (byte w (at + 6))) b₃ b₄
         ∙ ap₂ (operation_of (byte (operation_bytes T.operation) 0) (byte (operation_bytes T.operation) 1)) b₅ b₆ ∙ operation_back T.operation) b₇
 
-    transition-names : transition_names Plain s st w at ≡ true
+    transition_names_lem : transition_names Plain s st w at ≡ true
     unfolding transition_names
-    transition-names =
+    transition_names_lem =
         let c = ap (λ (q : ℕ). get_or st q 0) b₁ ∙ state_at_lem T.process in
         both_true (lt-ltb (byte w (at + 1)) s.processes (omega (arith, b₁, O.process)))
         (both_true (lt-ltb (byte w (at + 2)) (get_or st (byte w (at + 1)) 0) (omega (arith, b₂, c, O.from)))
@@ -351,10 +351,10 @@ module _ (P : pws.Program) (ts : List (ℕ → ℕ)) (I : ProgramPartRead P ts) 
         ∙ ap₂ (operation_names Plain s (byte (operation_bytes T.operation) 0) (byte (operation_bytes T.operation) 1)) b₅ b₆
         ∙ operation_fine T.operation O.operation)))
 
-    transition-zero : transition_number Plain s st w at (0 + i) ≡ 0
+    transition_zero : transition_number Plain s st w at (0 + i) ≡ 0
     unfolding transition_number
-    transition-zero =
-        number_zero (ap not (is_kind_lem w at 3 b₀)) (is_whole w at 7 (omega (arith, size))) (lt-leb 256 (0 + i) (omega (arith, I.transitions))) refl (ap not transition-names)
+    transition_zero =
+        number_zero (ap not (is_kind_lem w at 3 b₀)) (is_whole w at 7 (omega (arith, size))) (lt-leb 256 (0 + i) (omega (arith, I.transitions))) refl (ap not transition_names_lem)
 
   -- ---- the 04s
 
@@ -371,18 +371,18 @@ module _ (P : pws.Program) (ts : List (ℕ → ℕ)) (I : ProgramPartRead P ts) 
     c₀ : byte w aim ≡ 4
     c₀ = let z : aim + 0 ≡ aim = omega arith in sym (ap (byte w) z) ∙ aims_byte i 0 l (omega arith)
 
-    state-fine : (q x : ℕ) → x ≡ G q → state_name s st q x ≡ true
+    state_fine : (q x : ℕ) → x ≡ G q → state_name s st q x ≡ true
     unfolding state_name
-    state-fine q x e = elim (dec_lt q n) [
+    state_fine q x e = elim (dec_lt q n) [
       | yes k ↦ rw (lt-ltb q n k) (lt-ltb x (get_or st q 0) (omega (arith, e, state_at_lem q, A.exist q k)))
       | no k ↦ rw (le-ltb q n (omega arith)) (eq-eqb x 0 (e ∙ A.absent q (omega arith)))
     ]
 
-    state-names : state_names s st w aim ≡ true
+    state_names_lem : state_names s st w aim ≡ true
     unfolding state_names
-    state-names =
-        both_true (state-fine 0 _ (aims_byte i 1 l (omega arith)))
-        (both_true (state-fine 1 _ (aims_byte i 2 l (omega arith))) (both_true (state-fine 2 _ (aims_byte i 3 l (omega arith))) (state-fine 3 _ (aims_byte i 4 l (omega arith)))))
+    state_names_lem =
+        both_true (state_fine 0 _ (aims_byte i 1 l (omega arith)))
+        (both_true (state_fine 1 _ (aims_byte i 2 l (omega arith))) (both_true (state_fine 2 _ (aims_byte i 3 l (omega arith))) (state_fine 3 _ (aims_byte i 4 l (omega arith)))))
 
     target_back : state_at w aim ≡ G
     target_back = λ j q. each q j
@@ -393,10 +393,10 @@ module _ (P : pws.Program) (ts : List (ℕ → ℕ)) (I : ProgramPartRead P ts) 
           | no k ↦ rw (le-ltb q 4 (omega arith)) (sym (A.absent q (omega (arith, few))))
         ]
 
-    target-zero : target_number Plain s st w aim (0 + i) ≡ 0
+    target_zero : target_number Plain s st w aim (0 + i) ≡ 0
     unfolding target_number
-    target-zero =
-        number_zero (ap not (is_kind_lem w aim 4 c₀)) (is_whole w aim 4 (omega (arith, size))) (lt-leb 4096 (0 + i) (omega (arith, I.few_targets))) refl (ap not state-names)
+    target_zero =
+        number_zero (ap not (is_kind_lem w aim 4 c₀)) (is_whole w aim 4 (omega (arith, size))) (lt-leb 4096 (0 + i) (omega (arith, I.few_targets))) refl (ap not state_names_lem)
 
   -- ---- the rows
 
@@ -413,7 +413,7 @@ module _ (P : pws.Program) (ts : List (ℕ → ℕ)) (I : ProgramPartRead P ts) 
       let z : 0 + t ≡ t = omega arith in
       row_counts (λ k i. not (is_kind w k 3)) (λ k i. checked (transition_number Plain s st w k i) k) (λ k. 8) 256 t (7 + 3 * n) 0 I.transitions
       (λ i l. rw (place_eight (7 + 3 * n) i) (ap not (is_kind_lem w (7 + 3 * n + 8 * i) 3 (b₀ i l))))
-      (λ i l. rw (place_eight (7 + 3 * n) i) (is_fine _ (7 + 3 * n + 8 * i) (transition-zero i l)))
+      (λ i l. rw (place_eight (7 + 3 * n) i) (is_fine _ (7 + 3 * n + 8 * i) (transition_zero i l)))
       (rw (place_eight (7 + 3 * n) t) (ap not first_target))
       ∙ ap Records z
 
@@ -424,7 +424,7 @@ module _ (P : pws.Program) (ts : List (ℕ → ℕ)) (I : ProgramPartRead P ts) 
       let a = 7 + 3 * n + 8 * t in
       row_counts (at_end true w) (λ k i. unless_end w k (checked (target_number Plain s st w k i) k)) (λ k. 5) 4096 m (7 + 3 * n + 8 * t) 0 I.few_targets
       (λ i l. rw (place_five (7 + 3 * n + 8 * t) i, lt-leb (length w) (7 + 3 * n + 8 * t + 5 * i) (omega (arith, size))))
-      (λ i l. rw (place_five (7 + 3 * n + 8 * t) i) (unless_not w (7 + 3 * n + 8 * t + 5 * i) _ (omega (arith, size)) ∙ is_fine _ (7 + 3 * n + 8 * t + 5 * i) (target-zero i l)))
+      (λ i l. rw (place_five (7 + 3 * n + 8 * t) i) (unless_not w (7 + 3 * n + 8 * t + 5 * i) _ (omega (arith, size)) ∙ is_fine _ (7 + 3 * n + 8 * t + 5 * i) (target_zero i l)))
       (rw (place_five (7 + 3 * n + 8 * t) m, le-leb (length w) (7 + 3 * n + 8 * t + 5 * m) (omega (arith, size)), le-leb 1 (0 + m) (omega (arith, I.some_target))))
       ∙ ap Records z
 
@@ -458,7 +458,7 @@ module _ (P : pws.Program) (ts : List (ℕ → ℕ)) (I : ProgramPartRead P ts) 
   moves_back : table_from (λ i. transition_at w (7 + 3 * n + 8 * i)) 0 t ≡ P.transitions
   moves_back =
       sym (table_of (λ i. transition_at w (7 + 3 * n + 8 * i)) 0 t P.transitions pws.no_transition refl
-      (λ k l. let z : 0 + k ≡ k = omega arith in sym (ap (λ (i : ℕ). transition_at w (7 + 3 * n + 8 * i)) z ∙ transition-back k l)))
+      (λ k l. let z : 0 + k ≡ k = omega arith in sym (ap (λ (i : ℕ). transition_at w (7 + 3 * n + 8 * i)) z ∙ transition_back k l)))
 
   aims_back : table_from (λ i. state_at w (7 + 3 * n + 8 * t + 5 * i)) 0 m ≡ ts
   aims_back =

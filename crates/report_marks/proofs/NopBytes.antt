@@ -201,51 +201,51 @@ module _ (f g : List ℕ) (c : ℕ) (size : length g ≡ length f) (same : (j : 
   states_same : (at n : ℕ) → Apart at (3 * n) → states_from f at n ≡ Fine → states_from g at n ≡ Fine
   states_same at n a q =
       states_all g n at (λ p k. ap (λ (x : ℕ). unless_end g (at + 3 * p) (checked x (at + 3 * p))) (states_number_lem (at + 3 * p) (λ j l m. a j (omega arith) (omega arith)))
-      ∙ unless_same (at + 3 * p) _ ∙ states-there p k)
+      ∙ unless_same (at + 3 * p) _ ∙ states_there p k)
     where
-      states-there : (p : ℕ) → p < n → unless_end f (at + 3 * p) (checked (states_number f (at + 3 * p)) (at + 3 * p)) ≡ Fine
-      states-there p k =
+      states_there : (p : ℕ) → p < n → unless_end f (at + 3 * p) (checked (states_number f (at + 3 * p)) (at + 3 * p)) ≡ Fine
+      states_there p k =
           let e = states_each f at n q p k in
           unless_not f (at + 3 * p) _ (omega (arith, cut_fits f (at + 3 * p) 2 (states_fine f (at + 3 * p) e).whole)) ∙ e
 
   -- ---- the rows
 
   module _ (s : Shape) (states : List ℕ) (at n : ℕ) (place : c ≡ at + 8 * n + 3) where
-    apart-eight : (i : ℕ) → (i ≡ n → ⊥) → Apart (at + 8 * i) 8
-    apart-eight i d j l h e = omega arith
+    apart_eight : (i : ℕ) → (i ≡ n → ⊥) → Apart (at + 8 * i) 8
+    apart_eight i d j l h e = omega arith
 
-    field-other : (i : ℕ) → (i ≡ 3 → ⊥) → byte g (at + 8 * n + i) ≡ byte f (at + 8 * n + i)
-    field-other i d = same (at + 8 * n + i) (λ e. d (omega arith))
+    field_other : (i : ℕ) → (i ≡ 3 → ⊥) → byte g (at + 8 * n + i) ≡ byte f (at + 8 * n + i)
+    field_other i d = same (at + 8 * n + i) (λ e. d (omega arith))
 
-    operation-nop : byte g (at + 8 * n + 3) ≡ 0
-    operation-nop = ap (byte g) (sym place) ∙ nop
+    operation_nop : byte g (at + 8 * n + 3) ≡ 0
+    operation_nop = ap (byte g) (sym place) ∙ nop
 
-    transition-nop : transition_at g (at + 8 * n) ≡ as_nop true (transition_at f (at + 8 * n))
+    transition_nop : transition_at g (at + 8 * n) ≡ as_nop true (transition_at f (at + 8 * n))
     unfolding operation_of
-    transition-nop = rw (field-other 1 (λ e. omega arith), field-other 2 (λ e. omega arith), operation-nop, field-other 7 (λ e. omega arith))
+    transition_nop = rw (field_other 1 (λ e. omega arith), field_other 2 (λ e. omega arith), operation_nop, field_other 7 (λ e. omega arith))
 
     -- the record that is changed is fine in both
     module _ (fence : T (is_fence (transition_at f (at + 8 * n)).operation)) (named : transition_names Plain s states f (at + 8 * n) ≡ true) where
-      names-still : transition_names Plain s states g (at + 8 * n) ≡ true
+      names_still : transition_names Plain s states g (at + 8 * n) ≡ true
       unfolding transition_names
-      names-still =
+      names_still =
           let N = parts_named Plain s states f (at + 8 * n) named in
           let z = names_none s (byte f (at + 8 * n + 4)) (byte f (at + 8 * n + 5)) (byte f (at + 8 * n + 6)) (byte f (at + 8 * n + 3)) fence N.operation in
-          rw (field-other 1 (λ e. omega arith), field-other 2 (λ e. omega arith), operation-nop, field-other 4 (λ e. omega arith), field-other 5 (λ e. omega arith), field-other 6 (λ e. omega arith), field-other 7 (λ e. omega arith), lt-ltb _ _ N.process, lt-ltb _ _ N.from, lt-ltb _ _ N.to, z)
+          rw (field_other 1 (λ e. omega arith), field_other 2 (λ e. omega arith), operation_nop, field_other 4 (λ e. omega arith), field_other 5 (λ e. omega arith), field_other 6 (λ e. omega arith), field_other 7 (λ e. omega arith), lt-ltb _ _ N.process, lt-ltb _ _ N.from, lt-ltb _ _ N.to, z)
 
-      number-still : (i : ℕ) → transition_number Plain s states g (at + 8 * n) i ≡ transition_number Plain s states f (at + 8 * n) i
+      number_still : (i : ℕ) → transition_number Plain s states g (at + 8 * n) i ≡ transition_number Plain s states f (at + 8 * n) i
       unfolding transition_number
-      number-still i = rw (kind_same (at + 8 * n) 3 (λ e. omega arith), cut_same (at + 8 * n) 7, names-still, named)
+      number_still i = rw (kind_same (at + 8 * n) 3 (λ e. omega arith), cut_same (at + 8 * n) 7, names_still, named)
 
       number_each : (i k : ℕ) → transition_number Plain s states g (at + 8 * i) k ≡ transition_number Plain s states f (at + 8 * i) k
       number_each i k = elim (ℕ_discrete i n) [
-        | yes e ↦ rw e (number-still k)
-        | no d ↦ transition_number_lem s states (at + 8 * i) k (apart-eight i d)
+        | yes e ↦ rw e (number_still k)
+        | no d ↦ transition_number_lem s states (at + 8 * i) k (apart_eight i d)
       ]
 
-      transitions-same : transitions_from Plain s states g at ≡ transitions_from Plain s states f at
+      transitions_same : transitions_from Plain s states g at ≡ transitions_from Plain s states f at
       unfolding transitions_from
-      transitions-same =
+      transitions_same =
           row_same (λ i k. not (is_kind g i 3)) (λ i k. not (is_kind f i 3)) (λ i k. checked (transition_number Plain s states g i k) i)
           (λ i k. checked (transition_number Plain s states f i k) i) (λ i. 8) 256 at 0
           (λ i. rw (place_eight at i) (ap not (kind_same (at + 8 * i) 3 (λ e. omega arith))))
@@ -280,19 +280,19 @@ module _ (f g : List ℕ) (c : ℕ) (size : length g ≡ length f) (same : (j : 
     named : transition_names Plain s states f (first + 8 * n) ≡ true
     named = transition_named Plain s states f first F.transitions n F.rows exists
 
-    apart-states : Apart (0 + 7) (3 * s.processes)
-    apart-states j l h e = omega arith
+    apart_states : Apart (0 + 7) (3 * s.processes)
+    apart_states j l h e = omega arith
 
     rows_same : (initial : List ℕ) → rows_from Plain true g first s states initial ≡ rows_from Plain true f first s states initial
     unfolding rows_from
     rows_same initial =
-        rw (transitions-same s states first n place fence named, F.rows, targets_same s states (first + 8 * F.transitions) (omega arith))
+        rw (transitions_same s states first n place fence named, F.rows, targets_same s states (first + 8 * F.transitions) (omega arith))
 
     rest_same : rest_from Plain true g (0 + 7) s ≡ rest_from Plain true f (0 + 7) s
     unfolding rest_from
     rest_same =
-        rw (states_same (0 + 7) s.processes apart-states F.states, F.states)
-        (ap₂ (rows_from Plain true g first s) (processes_same (0 + 7) 1 s.processes (omega arith) apart-states) (processes_same (0 + 7) 2 s.processes (omega arith) apart-states)
+        rw (states_same (0 + 7) s.processes apart_states F.states, F.states)
+        (ap₂ (rows_from Plain true g first s) (processes_same (0 + 7) 1 s.processes (omega arith) apart_states) (processes_same (0 + 7) 2 s.processes (omega arith) apart_states)
         ∙ rows_same (of_processes f (0 + 7) 2 s.processes))
 
     pub part_same : program_from true g 0 ≡ program_from true f 0
@@ -308,24 +308,24 @@ module _ (f g : List ℕ) (c : ℕ) (size : length g ≡ length f) (same : (j : 
     abbrev P : pws.Program
     P = program_of f p
 
-    transition-each : (k : ℕ) → as_nop (only n k) (transition_at f (p.transitions.at + 8 * k)) ≡ transition_at g (p.transitions.at + 8 * k)
-    transition-each k = elim (ℕ_discrete k n) [
-      | yes e ↦ rw (eq-eqb k n e, e) (sym (transition-nop p.shape p.states p.transitions.at n place))
-      | no d ↦ rw (ne_eqb k n d) (sym (transition_same (p.transitions.at + 8 * k) (apart-eight p.shape p.states p.transitions.at n place k d)))
+    transition_each : (k : ℕ) → as_nop (only n k) (transition_at f (p.transitions.at + 8 * k)) ≡ transition_at g (p.transitions.at + 8 * k)
+    transition_each k = elim (ℕ_discrete k n) [
+      | yes e ↦ rw (eq-eqb k n e, e) (sym (transition_nop p.shape p.states p.transitions.at n place))
+      | no d ↦ rw (ne_eqb k n d) (sym (transition_same (p.transitions.at + 8 * k) (apart_eight p.shape p.states p.transitions.at n place k d)))
     ]
 
-    pub program-nop : program_of g p ≡ with_nops P (only n)
-    program-nop =
+    pub program_nop : program_of g p ≡ with_nops P (only n)
+    program_nop =
         let count = table_length (λ i. transition_at f (p.transitions.at + 8 * i)) 0 p.transitions.count in
         let e = table_of (λ i. transition_at g (p.transitions.at + 8 * i)) 0 p.transitions.count (with_nops P (only n)).transitions pws.no_transition
         (same_length P (only n) ∙ count)
         (λ k l. let z : 0 + k ≡ k = omega arith in
         transition_at_lem P (only n) k (omega (arith, count))
         ∙ ap (as_nop (only n k)) (table_number (λ i. transition_at f (p.transitions.at + 8 * i)) p.transitions.count k pws.no_transition l)
-        ∙ transition-each k ∙ rw z) in
+        ∙ transition_each k ∙ rw z) in
         ap {A = List Transition} (λ ts. record { shape = P.shape; states = P.states; initial = P.initial; transitions = ts }) (sym e)
 
-    pub targets-again : c < p.targets.at → targets_of g p ≡ targets_of f p
-    targets-again behind =
+    pub targets_again : c < p.targets.at → targets_of g p ≡ targets_of f p
+    targets_again behind =
         table_same (λ i. state_at g (p.targets.at + 5 * i)) (λ i. state_at f (p.targets.at + 5 * i)) p.targets.count (λ q. 0)
         (λ k l. state_same (p.targets.at + 5 * (0 + k)) (λ j m h e. omega arith))

@@ -19,7 +19,7 @@ use Rattle.base.specs.Bytes.{byte}
 use Rattle.file_records.specs.Records.{checked, is_kind, shape_at, transition_at, transition_number, memory_at}
 use Rattle.file_records.specs.ProgramPart.{of_processes, transitions_from, program_from, program_of, targets_of}
 use Rattle.base.proofs.ByteLaws.{cut_fits}
-use Rattle.file_records.proofs.RecordLaws.{transition-fine}
+use Rattle.file_records.proofs.RecordLaws.{transition_fine}
 use Rattle.file_contents.specs.Reading.{
   pair,
   two_parts,
@@ -41,7 +41,7 @@ use Rattle.file_again.proofs.Rows.{row_each, place_eight}
 use Rattle.file_again.proofs.Contents.{RunParts, Outcome, outcome_refused, outcome_list, outcome_run, outcome, file_list, file_run}
 use Rattle.report_theory.specs.Nops.{with_nops, only, is_fence, FenceOf}
 use Rattle.report_marks.specs.Copy.{operation_place, nopped, CopyReads}
-use Rattle.report_marks.proofs.NopBytes.{part_same, program-nop, targets-again}
+use Rattle.report_marks.proofs.NopBytes.{part_same, program_nop, targets_again}
 
 -- ---- the reading, with the nop
 
@@ -92,7 +92,7 @@ module _ (f : List ℕ) (n : ℕ) (q : (program_from true f 0).answer ≡ Fine) 
         let states = of_processes f (0 + 7) 1 s.processes in
         let l : n < F.transitions = omega (arith, exists, counted) in
         let e = row_each (λ k n. not (is_kind f k 3)) (λ k n. checked (transition_number Plain s states f k n) k) (λ k. 8) 256 begin 0 F.transitions F.rows n (omega arith) in
-        let w = (transition-fine f (begin + 8 * n) Plain s states (0 + n) (rw (place_eight begin n) at e)).whole in
+        let w = (transition_fine f (begin + 8 * n) Plain s states (0 + n) (rw (place_eight begin n) at e)).whole in
         omega (arith, cut_fits f (begin + 8 * n) 7 w, place)
 
     size : length g ≡ length f
@@ -113,10 +113,10 @@ module _ (f : List ℕ) (n : ℕ) (q : (program_from true f 0).answer ≡ Fine) 
         omega (arith, place, exists, counted, e)
 
     program : program_of g p ≡ with_nops (program_of f p) (only n)
-    program = program-nop f g c size other nop p n exists refl
+    program = program_nop f g c size other nop p n exists refl
 
     targets : targets_of g p ≡ targets_of f p
-    targets = targets-again f g c size other nop p n exists refl behind
+    targets = targets_again f g c size other nop p n exists refl behind
 
     -- ---- the evidence is read as before
 

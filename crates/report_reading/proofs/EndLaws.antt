@@ -115,8 +115,8 @@ module _ (program : Bool) (f : List ℕ) (at : ℕ) where
     pub walk_ends : stops_at program f k ≡ true → k ≡ end_from program (length f) f at
     walk_ends e = sym (end_here program f W.bytes k e) ∙ W.same
 
-    pub walk-on : stops_at program f k ≡ false → (size : ℕ) → size ≡ length (record_at f k) → Walked program f at (k + size)
-    walk-on e size d = go W.bytes refl
+    pub walk_on : stops_at program f k ≡ false → (size : ℕ) → size ≡ length (record_at f k) → Walked program f at (k + size)
+    walk_on e size d = go W.bytes refl
       where
         go : (n : ℕ) → W.bytes ≡ n → Walked program f at (k + size)
         go zero z = absurd (omega (arith, W.enough, goes_inside program f k e))

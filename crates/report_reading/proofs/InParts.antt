@@ -26,7 +26,7 @@ use Rattle.report_reading.specs.Parts.{marks_of, due_claim, program_end, evidenc
 use Rattle.report_reading.specs.Reading.{unread, report, Opened, shut, opened, open_report, read_part, RunsRead, bad_run, these_runs, with_run, run_then, run_due, runs_from, list_then, runs_then, evidence_read, opened_read, read_report}
 use Rattle.report_reading.specs.Statements.{ReportParts, ReadInParts}
 use Rattle.report_reading.proofs.EndLaws.{program_most, evidence_most}
-use Rattle.report_reading.proofs.OpenLaws.{marks-most, mark-exists, marks-inside, OpenFine, open_fine}
+use Rattle.report_reading.proofs.OpenLaws.{marks_most, mark_exists, marks_inside, OpenFine, open_fine}
 use Rattle.report_reading.proofs.PartLaws.{list_program, run_of_program}
 
 -- ---- places
@@ -136,9 +136,9 @@ module _ (f : List ℕ) (area : ℕ) (P : pws.Program) (ts : List (ℕ → ℕ))
     by_list (pso_run Q us m ss) d e = absurd (not_unread e)
     by_list (list Q us ds) d e = by_runs Q us ds d _ refl e
 
-    what-was-read : evidence_read f area p n (program_end f + 2 * n) ≡ report P ts marks es runs → Read
+    what_was_read : evidence_read f area p n (program_end f + 2 * n) ≡ report P ts marks es runs → Read
     unfolding evidence_read
-    what-was-read e = by_list _ refl e
+    what_was_read e = by_list _ refl e
 
     module _ (F : OpenFine f area p n) (R : Read) where
       count : length marks ≡ n
@@ -149,26 +149,26 @@ module _ (f : List ℕ) (area : ℕ) (P : pws.Program) (ts : List (ℕ → ℕ))
       fine = runs_fine f area n n 1 runs R.rest
 
       inside : program_end f + 2 * n ≤ length f
-      inside = marks-inside (program_from true g 0).program.transitions.count f (program_end f) n F.marks (program_most f)
+      inside = marks_inside (program_from true g 0).program.transitions.count f (program_end f) n F.marks (program_most f)
 
       -- the program of a part is that of the report
-      same-program : {Q : pws.Program} {us : List (ℕ → ℕ)} → (Q ≡ program_of g (program_from true g 0).program) × (us ≡ targets_of g (program_from true g 0).program) → (Q ≡ P) × (us ≡ ts)
-      same-program e =
+      same_program : {Q : pws.Program} {us : List (ℕ → ℕ)} → (Q ≡ program_of g (program_from true g 0).program) × (us ≡ targets_of g (program_from true g 0).program) → (Q ≡ P) × (us ≡ ts)
+      same_program e =
           (e.0 ∙ ap (program_of g) F.same ∙ R.program, e.1 ∙ ap (targets_of g) F.same ∙ R.targets)
 
       list_part_lem : read_part f area (program_end f + 2 * n) ≡ list P ts es
       unfolding read_part
       list_part_lem =
           let s = R.somewhere in
-          let e = same-program (list_program (pair g (evidence_part f (program_end f + 2 * n))) area s.2) in
+          let e = same_program (list_program (pair g (evidence_part f (program_end f + 2 * n))) area s.2) in
           s.2 ∙ ap₂ (λ Q us. list Q us es) e.0 e.1
 
-      run-part : (i : ℕ) → i < n → read_part f area (evidence_place f n (suc i)) ≡ run P ts (theory.run runs i).memory (theory.run runs i).steps
+      run_part : (i : ℕ) → i < n → read_part f area (evidence_place f n (suc i)) ≡ run P ts (theory.run runs i).memory (theory.run runs i).steps
       unfolding read_part
-      run-part i l =
+      run_part i l =
           let a : 1 + i ≡ suc i = omega arith in
           let r = subst (λ (k : ℕ). IsRun f area n k (theory.run runs i)) a (fine.each i l) in
-          let e = same-program (run_of_program (pair g (evidence_part f (evidence_place f n (suc i)))) area r.reads) in
+          let e = same_program (run_of_program (pair g (evidence_part f (evidence_place f n (suc i)))) area r.reads) in
           r.reads ∙ ap₂ (λ Q us. run Q us (theory.run runs i).memory (theory.run runs i).steps) e.0 e.1
 
       transitions : length P.transitions ≡ (program_from true g 0).program.transitions.count
@@ -189,14 +189,14 @@ module _ (f : List ℕ) (area : ℕ) (P : pws.Program) (ts : List (ℕ → ℕ))
             list = subst (λ (k : ℕ). read_part f area (program_end f + 2 * k) ≡ list P ts es) (sym count) list_part_lem;
             run = λ i l.
                 let m : i < n = omega (arith, count) in
-                subst (λ (k : ℕ). read_part f area (evidence_place f k (suc i)) ≡ run P ts (theory.run runs i).memory (theory.run runs i).steps) (sym count) (run-part i m);
+                subst (λ (k : ℕ). read_part f area (evidence_place f k (suc i)) ≡ run P ts (theory.run runs i).memory (theory.run runs i).steps) (sym count) (run_part i m);
             list_in_range = list_read (pair g (evidence_part f (program_end f + 2 * n))) area list_part_lem;
-            run_in_range = λ i l. let m : i < n = omega (arith, count) in run_read_lem (pair g (evidence_part f (evidence_place f n (suc i)))) area (run-part i m);
+            run_in_range = λ i l. let m : i < n = omega (arith, count) in run_read_lem (pair g (evidence_part f (evidence_place f n (suc i)))) area (run_part i m);
             count = fine.count ∙ sym count;
-            few = omega (arith, count, marks-most (program_from true g 0).program.transitions.count f (program_end f) n F.marks);
+            few = omega (arith, count, marks_most (program_from true g 0).program.transitions.count f (program_end f) n F.marks);
             exist = λ i l.
                 let m : i < n = omega (arith, count) in
-                let e = mark-exists (program_from true g 0).program.transitions.count f (program_end f) n F.marks i m in
+                let e = mark_exists (program_from true g 0).program.transitions.count f (program_end f) n F.marks i m in
                 omega (arith, transitions, ap (λ (ms : List ℕ). get_or ms i 0) R.numbers, e);
             enough = F.enough;
             end = subst (λ (k : ℕ). evidence_place f k (suc k) ≡ length f) (sym count) end;
@@ -209,4 +209,4 @@ read_in_parts f area P ts marks es runs q = go (open_report f area) refl q
   where
     go : (o : Opened) → open_report f area ≡ o → opened_read f area o ≡ report P ts marks es runs → ReportParts f area P ts marks es runs
     go (shut r) d e = absurd (not_unread e)
-    go (opened p n) d e = parts f area P ts marks es runs p n (open_fine f area p n d) (what-was-read f area P ts marks es runs p n e)
+    go (opened p n) d e = parts f area P ts marks es runs p n (open_fine f area p n d) (what_was_read f area P ts marks es runs p n e)

@@ -39,28 +39,28 @@ mark_fine transitions f at n e = good at e
 
 module _ (transitions : ℕ) (f : List ℕ) (at : ℕ) where
   module _ (n : ℕ) (q : marks_from transitions f at ≡ Records n) where
-    pub marks-most : n ≤ 8
+    pub marks_most : n ≤ 8
     unfolding marks_from
-    marks-most = omega (arith, row_most _ _ _ 8 at 0 n q)
+    marks_most = omega (arith, row_most _ _ _ 8 at 0 n q)
 
-    mark-checked : (i : ℕ) → i < n → checked (mark_number transitions f (at + 2 * i) (0 + i)) (at + 2 * i) ≡ Fine
+    mark_checked : (i : ℕ) → i < n → checked (mark_number transitions f (at + 2 * i) (0 + i)) (at + 2 * i) ≡ Fine
     unfolding marks_from
-    mark-checked i l =
+    mark_checked i l =
         let e = row_each (λ i n. not (is_kind f i 48)) (λ i n. checked (mark_number transitions f i n) i) (λ i. 2) 8 at 0 n q i (omega arith) in
         rw (place_two at i) at e
 
     -- each mark names a transition
-    pub mark-exists : (i : ℕ) → i < n → get_or (marks_of f at n) i 0 < transitions
-    mark-exists i l =
+    pub mark_exists : (i : ℕ) → i < n → get_or (marks_of f at n) i 0 < transitions
+    mark_exists i l =
         let e = table_number (λ i. byte f (at + 2 * i + 1)) n i 0 l in
-        rw e (ltb-true (byte f (at + 2 * i + 1)) transitions (not-false _ (mark_fine transitions f (at + 2 * i) (0 + i) (mark-checked i l)).names))
+        rw e (ltb-true (byte f (at + 2 * i + 1)) transitions (not-false _ (mark_fine transitions f (at + 2 * i) (0 + i) (mark_checked i l)).names))
 
     -- and stands in the file
-    pub marks-inside : at ≤ length f → at + 2 * n ≤ length f
-    marks-inside l = elim (dec_lt 0 n) [
+    pub marks_inside : at ≤ length f → at + 2 * n ≤ length f
+    marks_inside l = elim (dec_lt 0 n) [
       | yes m ↦
           let i : ℕ = n - 1 in
-          omega (arith, cut_fits f (at + 2 * i) 1 (mark_fine transitions f (at + 2 * i) (0 + i) (mark-checked i (omega arith))).whole)
+          omega (arith, cut_fits f (at + 2 * i) 1 (mark_fine transitions f (at + 2 * i) (0 + i) (mark_checked i (omega arith))).whole)
       | no m ↦ omega arith
     ]
 
@@ -94,21 +94,21 @@ module _ (f : List ℕ) (area : ℕ) where
   open_short l = rw (lt-ltb area 65536 l)
 
   module _ (l : 65536 ≤ area) where
-    pub open-program : (r : Refusal) → part.answer ≡ Refused r → open_report f area ≡ shut (in_report f 0 (program_end f) r)
+    pub open_program : (r : Refusal) → part.answer ≡ Refused r → open_report f area ≡ shut (in_report f 0 (program_end f) r)
     unfolding open_report
-    open-program r e = rw (le-ltb area 65536 l, e)
+    open_program r e = rw (le-ltb area 65536 l, e)
 
-    pub open-marks : (r : Refusal) → part.answer ≡ Fine → marks_in (Stopped r) → open_report f area ≡ shut r
+    pub open_marks : (r : Refusal) → part.answer ≡ Fine → marks_in (Stopped r) → open_report f area ≡ shut r
     unfolding open_report
-    open-marks r e d = rw (le-ltb area 65536 l, e, d)
+    open_marks r e d = rw (le-ltb area 65536 l, e, d)
 
-    pub open-due : (n : ℕ) (r : Refusal) → part.answer ≡ Fine → marks_in (Records n) → due_claim 0 f (program_end f + 2 * n) ≡ Refused r → open_report f area ≡ shut r
+    pub open_due : (n : ℕ) (r : Refusal) → part.answer ≡ Fine → marks_in (Records n) → due_claim 0 f (program_end f + 2 * n) ≡ Refused r → open_report f area ≡ shut r
     unfolding open_report
-    open-due n r e d c = rw (le-ltb area 65536 l, e, d, c)
+    open_due n r e d c = rw (le-ltb area 65536 l, e, d, c)
 
-    pub open-all : (n : ℕ) → part.answer ≡ Fine → marks_in (Records n) → due_claim 0 f (program_end f + 2 * n) ≡ Fine → open_report f area ≡ opened part.program n
+    pub open_all : (n : ℕ) → part.answer ≡ Fine → marks_in (Records n) → due_claim 0 f (program_end f + 2 * n) ≡ Fine → open_report f area ≡ opened part.program n
     unfolding open_report
-    open-all n e d c = rw (le-ltb area 65536 l, e, d, c)
+    open_all n e d c = rw (le-ltb area 65536 l, e, d, c)
 
   -- ---- nothing is refused
 
@@ -124,18 +124,18 @@ module _ (f : List ℕ) (area : ℕ) where
 
   module _ (p : Program) (n : ℕ) (q : open_report f area ≡ opened p n) where
     by_due : 65536 ≤ area → part.answer ≡ Fine → (m : ℕ) → marks_in (Records m) → (x : Checked) → due_claim 0 f (program_end f + 2 * m) ≡ x → OpenFine p n
-    by_due l e m d (Refused r) c = absurd (not_shut (open-due l m r e d c) q)
+    by_due l e m d (Refused r) c = absurd (not_shut (open_due l m r e d c) q)
     by_due l e m d Fine c =
-        let s = open-all l m e d c in
+        let s = open_all l m e d c in
         let z : m ≡ n = cc in
         record { enough = l; fine = e; same = cc; marks = subst (λ (k : ℕ). marks_in (Records k)) z d; due = subst (λ (k : ℕ). due_claim 0 f (program_end f + 2 * k) ≡ Fine) z c }
 
     by_marks : 65536 ≤ area → part.answer ≡ Fine → (x : Counted) → marks_in x → OpenFine p n
-    by_marks l e (Stopped r) d = absurd (not_shut (open-marks l r e d) q)
+    by_marks l e (Stopped r) d = absurd (not_shut (open_marks l r e d) q)
     by_marks l e (Records m) d = by_due l e m d _ refl
 
     by_program : 65536 ≤ area → (x : Checked) → part.answer ≡ x → OpenFine p n
-    by_program l (Refused r) e = absurd (not_shut (open-program l r e) q)
+    by_program l (Refused r) e = absurd (not_shut (open_program l r e) q)
     by_program l Fine e = by_marks l e _ refl
 
     pub open_fine : OpenFine p n

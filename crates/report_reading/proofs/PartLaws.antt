@@ -81,15 +81,15 @@ answer_of (pso_run P ts m ss) = Fine
 pub reading_answer : (x : Input) (area : ℕ) → (reading_of x (parts_of x area)).answer ≡ answer_of (read_file x area)
 reading_answer x area = go (outcome x area)
   where
-    either-run : (P : pws.Program) (ts : List (ℕ → ℕ)) (m : List ℕ) (ss : List Step) (b : Bool) → Fine ≡ answer_of (cond b (run P ts m ss) (pso_run P ts m ss))
-    either-run P ts m ss true = refl
-    either-run P ts m ss false = refl
+    either_run : (P : pws.Program) (ts : List (ℕ → ℕ)) (m : List ℕ) (ss : List Step) (b : Bool) → Fine ≡ answer_of (cond b (run P ts m ss) (pso_run P ts m ss))
+    either_run P ts m ss true = refl
+    either_run P ts m ss false = refl
 
     go : Outcome x area → (reading_of x (parts_of x area)).answer ≡ answer_of (read_file x area)
     go (outcome_refused w r a b) = ap (λ (y : Reading). y.answer) a ∙ sym (ap answer_of b)
     go (outcome_list L) = ap (λ (y : Reading). y.answer) (reading_with_lem x area L) ∙ sym (ap answer_of (file_list x area L))
     go (outcome_run R) =
-        ap (λ (y : Reading). y.answer) (reading_steps x area R) ∙ either-run _ _ _ _ (eqb (byte x.file (evidence_at x (program_from x.alone x.code 0).program + 1)) 1)
+        ap (λ (y : Reading). y.answer) (reading_steps x area R) ∙ either_run _ _ _ _ (eqb (byte x.file (evidence_at x (program_from x.alone x.code 0).program + 1)) 1)
         ∙ sym (ap answer_of (file_run x area R))
 
 pub part_fine : (f : List ℕ) (at : ℕ) (v : FileRead) → answer_of v ≡ Fine → Fine ≡ part_answer f at v
@@ -153,38 +153,38 @@ module _ (g h : List ℕ) (area : ℕ) (l : 65536 ≤ area) (q : (program_from t
     sort_steps m (Stopped r) = tt
     sort_steps m (Records n) = rw (eq-eqb (byte h 1) 1 one) tt
 
-    sort-start : (y : Checked) → unless_end h 2 (checked (start_number own.shape h 2) 2) ≡ y → RunSort (evidence_read x own (run_evidence h (byte h 1) 2 own))
-    sort-start (Refused r) d = subst (λ (e : Evidence). RunSort (evidence_read x own e)) (sym (start_refused h (byte h 1) 2 own r d)) tt
-    sort-start Fine d = subst (λ (e : Evidence). RunSort (evidence_read x own e)) (sym (run_steps h (byte h 1) 2 own d)) (sort_steps (memory_at h 2) (steps_from own.shape own.transitions.count h 7))
+    sort_start : (y : Checked) → unless_end h 2 (checked (start_number own.shape h 2) 2) ≡ y → RunSort (evidence_read x own (run_evidence h (byte h 1) 2 own))
+    sort_start (Refused r) d = subst (λ (e : Evidence). RunSort (evidence_read x own e)) (sym (start_refused h (byte h 1) 2 own r d)) tt
+    sort_start Fine d = subst (λ (e : Evidence). RunSort (evidence_read x own e)) (sym (run_steps h (byte h 1) 2 own d)) (sort_steps (memory_at h 2) (steps_from own.shape own.transitions.count h 7))
 
-    sort-run : (y : Checked) → unless_end h 0 (checked (claim_number h 0) 0) ≡ y → RunSort (evidence_read x own (evidence_from h 0 own area))
-    sort-run (Refused r) d = subst (λ (e : Evidence). RunSort (evidence_read x own e)) (sym (evidence_refused h 0 own area r d)) tt
-    sort-run Fine d = subst (λ (e : Evidence). RunSort (evidence_read x own e)) (sym (evidence_run h 0 own area d (λ z. omega arith))) (sort-start _ refl)
+    sort_run : (y : Checked) → unless_end h 0 (checked (claim_number h 0) 0) ≡ y → RunSort (evidence_read x own (evidence_from h 0 own area))
+    sort_run (Refused r) d = subst (λ (e : Evidence). RunSort (evidence_read x own e)) (sym (evidence_refused h 0 own area r d)) tt
+    sort_run Fine d = subst (λ (e : Evidence). RunSort (evidence_read x own e)) (sym (evidence_run h 0 own area d (λ z. omega arith))) (sort_start _ refl)
 
-    pub run-sort : RunSort (read_file x area)
+    pub run_sort : RunSort (read_file x area)
     unfolding read_file
-    run-sort = subst (λ (y : Parts). RunSort (parts_read x y)) (sym both) (sort-run _ refl)
+    run_sort = subst (λ (y : Parts). RunSort (parts_read x y)) (sym both) (sort_run _ refl)
 
     keeps : (w : List ℕ) (y : Checked) → unless_end h 0 (checked (claim_number h 0) 0) ≡ y → w ≡ evidence_area (evidence_from h 0 own area) w
     keeps w (Refused r) d = sym (ap (λ (e : Evidence). evidence_area e w) (evidence_refused h 0 own area r d))
     keeps w Fine d = run_area h own w (byte h 1) 2 ∙ sym (ap (λ (e : Evidence). evidence_area e w) (evidence_run h 0 own area d (λ z. omega arith)))
 
     -- no run touches the area
-    pub run-keeps : (w : List ℕ) → w ≡ area_read (parts_of x area) w
-    run-keeps w = keeps w _ refl ∙ sym (ap (λ (y : Parts). area_read y w) both)
+    pub run_keeps : (w : List ℕ) → w ≡ area_read (parts_of x area) w
+    run_keeps w = keeps w _ refl ∙ sym (ap (λ (y : Parts). area_read y w) both)
 
   module _ (none : byte h 1 ≡ 0) where
-    sort-listed : (r : EntriesRead) → ListSort (evidence_read x own (entries r))
-    sort-listed r = go r.answer
+    sort_listed : (r : EntriesRead) → ListSort (evidence_read x own (entries r))
+    sort_listed r = go r.answer
       where
         go : (y : Checked) → ListSort (list_read x own y r)
         go Fine = tt
         go (Refused q) = tt
 
-    sort-list : (y : Checked) → unless_end h 0 (checked (claim_number h 0) 0) ≡ y → ListSort (evidence_read x own (evidence_from h 0 own area))
-    sort-list (Refused r) d = subst (λ (e : Evidence). ListSort (evidence_read x own e)) (sym (evidence_refused h 0 own area r d)) tt
-    sort-list Fine d = subst (λ (e : Evidence). ListSort (evidence_read x own e)) (sym (evidence_entries h 0 own area d none)) (sort-listed (entries_from (entries_allowed area) own.shape own.states h 2 [] []))
+    sort_list : (y : Checked) → unless_end h 0 (checked (claim_number h 0) 0) ≡ y → ListSort (evidence_read x own (evidence_from h 0 own area))
+    sort_list (Refused r) d = subst (λ (e : Evidence). ListSort (evidence_read x own e)) (sym (evidence_refused h 0 own area r d)) tt
+    sort_list Fine d = subst (λ (e : Evidence). ListSort (evidence_read x own e)) (sym (evidence_entries h 0 own area d none)) (sort_listed (entries_from (entries_allowed area) own.shape own.states h 2 [] []))
 
-    pub list-sort : ListSort (read_file x area)
+    pub list_sort : ListSort (read_file x area)
     unfolding read_file
-    list-sort = subst (λ (y : Parts). ListSort (parts_read x y)) (sym both) (sort-list _ refl)
+    list_sort = subst (λ (y : Parts). ListSort (parts_read x y)) (sym both) (sort_list _ refl)

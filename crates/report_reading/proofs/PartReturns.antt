@@ -37,13 +37,13 @@ module _ (f : List ℕ) (area end at : ℕ) (ready : PartReady f area end at) (n
     answered : y.answer ≡ (reading_of x (parts_of x area)).answer
     answered = ap (λ (z : Reading). z.answer) r ∙ ap (λ (i : Input). (reading_of i (parts_of i area)).answer) same_input
 
-    pub fine-returned : y.answer ≡ Fine → Fine ≡ part_answer f at (read_part f area at)
+    pub fine_returned : y.answer ≡ Fine → Fine ≡ part_answer f at (read_part f area at)
     unfolding read_part
-    fine-returned d = part_fine f at (read_file x area) (sym (reading_answer x area) ∙ sym answered ∙ d)
+    fine_returned d = part_fine f at (read_file x area) (sym (reading_answer x area) ∙ sym answered ∙ d)
 
     module _ (q : Refusal) (d : y.answer ≡ Refused q) where
-      pub place-room : at + q.place ≤ length f
-      place-room =
+      pub place_room : at + q.place ≤ length f
+      place_room =
           let s = (part_refused f at (read_file x area) q (sym (reading_answer x area) ∙ sym answered ∙ d)).1 in
           omega (arith, place_inside x area ready.enough ready.fine s.0 q s.1, part_length f at ready.inside, evidence_least f at, evidence_most f at ready.inside)
 

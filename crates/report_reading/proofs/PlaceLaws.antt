@@ -126,11 +126,11 @@ module _ (f : List ℕ) where
     abbrev so_far : EntriesRead
     so_far = record { offsets = os; entries = es; answer = Fine }
 
-    head-inside : (at n : ℕ) (x : EntriesRead) → (at < length f → CheckInside x.answer) → (b : Bool) → leb (length f) at ≡ b → (c : Checked) → checked n at ≡ c
+    head_inside : (at n : ℕ) (x : EntriesRead) → (at < length f → CheckInside x.answer) → (b : Bool) → leb (length f) at ≡ b → (c : Checked) → checked n at ≡ c
         → CheckInside (choose b (λ _. so_far) (λ _. head_then c os es (λ _. x))).answer
-    head-inside at n x ih true d c h r e = let z : ◌≡◌ {A = ℕ} 0 1 = cc in absurd (omega arith)
-    head-inside at n x ih false d Fine h r e = ih (leb-false (length f) at d) r e
-    head-inside at n x ih false d (Refused q) h r e =
+    head_inside at n x ih true d c h r e = let z : ◌≡◌ {A = ℕ} 0 1 = cc in absurd (omega arith)
+    head_inside at n x ih false d Fine h r e = ih (leb-false (length f) at d) r e
+    head_inside at n x ih false d (Refused q) h r e =
         let z : q ≡ r = cc in
         omega (arith, checked_place n at q h, ap (λ (q : Refusal). q.place) z, leb-false (length f) at d)
 
@@ -142,10 +142,10 @@ module _ (f : List ℕ) where
   entries_inside : (left : ℕ) (s : Shape) (states : List ℕ) (at : ℕ) (os : List ℕ) (es : List Configuration) → CheckInside (entries_from left s states f at os es).answer
   unfolding entries_from
   entries_inside zero s states at os es =
-      head-inside os es at (entry_number s states f at true) (record { offsets = os; entries = es; answer = Fine })
+      head_inside os es at (entry_number s states f at true) (record { offsets = os; entries = es; answer = Fine })
       (λ l r e. let z : ◌≡◌ {A = ℕ} 0 1 = cc in absurd (omega arith)) (leb (length f) at) refl (checked (entry_number s states f at true) at) refl
   entries_inside (suc left) s states at os es =
-      head-inside os es at (entry_number s states f at false)
+      head_inside os es at (entry_number s states f at false)
       (entry_then (entry_read s f at) os es (λ e next. entries_from left s states f next (os ++ (at ∷ [])) (es ++ (e ∷ []))))
       (λ l. entry_then_lem os es (λ e next. entries_from left s states f next (os ++ (at ∷ [])) (es ++ (e ∷ [])))
       (λ e next. entries_inside left s states next (os ++ (at ∷ [])) (es ++ (e ∷ []))) (entry_read s f at) (read_inside s at (omega arith)))

@@ -22,8 +22,8 @@ use Rattle.report_reading.specs.Parts.{marks_of, program_end, evidence_end, prog
 use Rattle.report_reading.specs.Reading.{ReportRead, unread, report, Opened, shut, opened, open_report, read_part, RunsRead, bad_run, these_runs, runs_from, list_then, runs_then, evidence_read, opened_read, read_report, report_refused, report_opened, report_reading, opened_area, report_area}
 use Rattle.report_reading.specs.Answers.{part_answer, runs_answer, list_answer, evidence_answer, PartReady, EvidenceReady}
 use Rattle.report_reading.proofs.EndLaws.{program_most, evidence_most}
-use Rattle.report_reading.proofs.OpenLaws.{marks-inside, OpenFine, open_fine}
-use Rattle.report_reading.proofs.PartLaws.{ListSort, part_claim, list-sort}
+use Rattle.report_reading.proofs.OpenLaws.{marks_inside, OpenFine, open_fine}
+use Rattle.report_reading.proofs.PartLaws.{ListSort, part_claim, list_sort}
 
 -- ---- the evidence
 
@@ -136,14 +136,14 @@ module _ (f : List ℕ) (area : ℕ) (X : ReportReading) (h : X ≡ report_opene
             enough = fine.enough;
             place = refl;
             fine = fine.fine;
-            inside = marks-inside (program_from true (program_part f) 0).program.transitions.count f (program_end f) n fine.marks (program_most f);
+            inside = marks_inside (program_from true (program_part f) 0).program.transitions.count f (program_end f) n fine.marks (program_most f);
           };
           due = fine.due;
         })
 
     sort : ListSort (read_part f area at)
     unfolding read_part
-    sort = list-sort (program_part f) (evidence_part f at) area fine.enough fine.fine (part_claim 0 f at fine.due)
+    sort = list_sort (program_part f) (evidence_part f at) area fine.enough fine.fine (part_claim 0 f at fine.due)
 
     abbrev P : pws.Program
     P = program_of (program_part f) O.program

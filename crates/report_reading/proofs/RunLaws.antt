@@ -16,7 +16,7 @@ use Rattle.report_reading.specs.Parts.{due_claim, over_number, evidence_end, pro
 use Rattle.report_reading.specs.Reading.{read_part, RunsRead, bad_run, these_runs, with_run, run_then, runs_from}
 use Rattle.report_reading.specs.Answers.{part_answer, runs_answer, PartReady}
 use Rattle.report_reading.proofs.EndLaws.{evidence_most}
-use Rattle.report_reading.proofs.PartLaws.{RunSort, part_claim, run-sort, run-keeps}
+use Rattle.report_reading.proofs.PartLaws.{RunSort, part_claim, run_sort, run_keeps}
 
 with_answer : (r : Run) (x : RunsRead) → runs_answer (with_run r x) ≡ runs_answer x
 with_answer r (bad_run q) = refl
@@ -48,22 +48,22 @@ module _ (f : List ℕ) (area : ℕ) where
   run_due_refused left k r e = rw e
 
   module _ (left k : ℕ) (e : due_claim 1 f k ≡ Fine) where
-    due-run : runs_from f area (suc left) k ≡ run_then f k (read_part f area k) (runs_from f area left (evidence_end f k))
+    due_run : runs_from f area (suc left) k ≡ run_then f k (read_part f area k) (runs_from f area left (evidence_end f k))
     unfolding runs_from
-    due-run = rw e
+    due_run = rw e
 
     pub run_refused : (r : Refusal) → part_answer f k (read_part f area k) ≡ Refused r → runs_answer (runs_from f area (suc left) k) ≡ Refused r
-    run_refused r d = ap runs_answer due-run ∙ then_refused f k (read_part f area k) (runs_from f area left (evidence_end f k)) r d
+    run_refused r d = ap runs_answer due_run ∙ then_refused f k (read_part f area k) (runs_from f area left (evidence_end f k)) r d
 
     module _ (l : 65536 ≤ area) (q : (program_from true (program_part f) 0).answer ≡ Fine) where
-      pub run-fine : part_answer f k (read_part f area k) ≡ Fine → runs_answer (runs_from f area (suc left) k) ≡ runs_answer (runs_from f area left (evidence_end f k))
+      pub run_fine : part_answer f k (read_part f area k) ≡ Fine → runs_answer (runs_from f area (suc left) k) ≡ runs_answer (runs_from f area left (evidence_end f k))
       unfolding read_part
-      run-fine d =
-          ap runs_answer due-run
-          ∙ then_fine f k (read_part f area k) (runs_from f area left (evidence_end f k)) (run-sort (program_part f) (evidence_part f k) area l q (part_claim 1 f k e)) d
+      run_fine d =
+          ap runs_answer due_run
+          ∙ then_fine f k (read_part f area k) (runs_from f area left (evidence_end f k)) (run_sort (program_part f) (evidence_part f k) area l q (part_claim 1 f k e)) d
 
       pub run_same : (w : List ℕ) → area_read (parts_of (pair (program_part f) (evidence_part f k)) area) w ≡ w
-      run_same w = sym (run-keeps (program_part f) (evidence_part f k) area l q (part_claim 1 f k e) w)
+      run_same w = sym (run_keeps (program_part f) (evidence_part f k) area l q (part_claim 1 f k e) w)
 
 -- ---- what the loop knows: the runs from k on say what all of them say, and the area is as it was
 
@@ -96,13 +96,13 @@ module _ {f : List ℕ} {n at : ℕ} {work₀ work : List ℕ} {k i : ℕ} (K : 
     left_one : n - i ≡ suc (n - (i + 1))
     left_one = omega arith
 
-    pub known-due : (r : Refusal) → due_claim 1 f k ≡ Refused r → Refused r ≡ runs_answer (runs_from f (length work₀) n at)
-    known-due r e =
+    pub known_due : (r : Refusal) → due_claim 1 f k ≡ Refused r → Refused r ≡ runs_answer (runs_from f (length work₀) n at)
+    known_due r e =
         sym (run_due_refused f (length work₀) (n - (i + 1)) k r e) ∙ ap (λ (m : ℕ). runs_answer (runs_from f (length work₀) m k)) (sym left_one) ∙ K.said
 
     module _ (e : due_claim 1 f k ≡ Fine) where
-      pub known-refused : (r : Refusal) → part_answer f k (read_part f (length work₀) k) ≡ Refused r → Refused r ≡ runs_answer (runs_from f (length work₀) n at)
-      known-refused r d =
+      pub known_refused : (r : Refusal) → part_answer f k (read_part f (length work₀) k) ≡ Refused r → Refused r ≡ runs_answer (runs_from f (length work₀) n at)
+      known_refused r d =
           sym (run_refused f (length work₀) (n - (i + 1)) k e r d) ∙ ap (λ (m : ℕ). runs_answer (runs_from f (length work₀) m k)) (sym left_one) ∙ K.said
 
       -- no run touches the area
@@ -121,6 +121,6 @@ module _ {f : List ℕ} {n at : ℕ} {work₀ work : List ℕ} {k i : ℕ} (K : 
             most = omega arith;
             same = known_kept ready w;
             said = ap (λ (m : ℕ). runs_answer (runs_from f (length work₀) (n - (i + 1)) m)) h
-                ∙ sym (run-fine f (length work₀) (n - (i + 1)) k e ready.enough ready.fine d)
+                ∙ sym (run_fine f (length work₀) (n - (i + 1)) k e ready.enough ready.fine d)
                 ∙ ap (λ (m : ℕ). runs_answer (runs_from f (length work₀) m k)) (sym left_one) ∙ K.said;
           }

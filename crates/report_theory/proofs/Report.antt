@@ -93,14 +93,14 @@ module _ (P : Program) (R : WellFormed P) (ts : List (ℕ → ℕ)) (marks : Lis
         pso = (same_reachability (with_nops P choice) (nops_well_formed P choice R) m (target ts r.number)).0 more;
       }
 
-  among-all : (choice : Choice) → OfFences P choice → (n : ℕ) → Marked marks n → T (choice n) → BothReach (with_nops P choice) ts
-  among-all choice F n m t = run_of choice F m.0 m.1 (subst (λ (i : ℕ). T (choice i)) (sym m.2) t)
+  among_all : (choice : Choice) → OfFences P choice → (n : ℕ) → Marked marks n → T (choice n) → BothReach (with_nops P choice) ts
+  among_all choice F n m t = run_of choice F m.0 m.1 (subst (λ (i : ℕ). T (choice i)) (sym m.2) t)
 
 pub needed_kept : NeededKept
 needed_kept P R ts marks es runs N = neither P R ts marks es runs N
 
 pub needed_among_all : NeededAmongAll
-needed_among_all P R ts marks es runs N = among-all P R ts marks es runs N
+needed_among_all P R ts marks es runs N = among_all P R ts marks es runs N
 
 pub needed_each : NeededEach
 needed_each P R ts marks es runs N choice C =

@@ -64,7 +64,7 @@ use Rattle.report_marks.proofs.NopReading.{copy_reads}
 use Rattle.report_marks.proofs.Room.{program_short}
 use Rattle.report_verdict.specs.Answers.{is_safe, run_fails, failing_of, after_marks, after_list, after_runs, report_verdict, judged_in_c, unread_in_c, report_in_c, report_said_in_c}
 use Rattle.report_verdict.specs.ByParts.{ended_in_c, list_part, part_fails, failing_part, runs_said, list_said, marks_said, said_parts, PartsReady}
-use Rattle.report_verdict.proofs.Parts.{list-kind, list_count, run-kind}
+use Rattle.report_verdict.proofs.Parts.{list_kind, list_count, run_kind}
 
 -- ---- the marks are those that stand in the file
 
@@ -131,22 +131,22 @@ module _ (f : List ℕ) (area : ℕ) (P : pws.Program) (ts : List (ℕ → ℕ))
       go (outcome_list L) = L.fine
       go (outcome_run L) = L.fine
 
-  wrong-same : wrong_mark g p (mark_bytes f (program_end f)) n ≡ wrong_of P marks
-  wrong-same = wrong_mark_same g p marks (mark_bytes f (program_end f)) marks_same ∙ ap (λ (Q : pws.Program). wrong_of Q marks) (sym program)
+  wrong_same : wrong_mark g p (mark_bytes f (program_end f)) n ≡ wrong_of P marks
+  wrong_same = wrong_mark_same g p marks (mark_bytes f (program_end f)) marks_same ∙ ap (λ (Q : pws.Program). wrong_of Q marks) (sym program)
 
   -- ---- where the parts stand
 
-  places-rise : (k : ℕ) → evidence_place f n 0 ≤ evidence_place f n k
+  places_rise : (k : ℕ) → evidence_place f n 0 ≤ evidence_place f n k
   unfolding evidence_place
-  places-rise zero = omega arith
-  places-rise (suc k) = omega (arith, places-rise k, evidence_least f (evidence_place f n k))
+  places_rise zero = omega arith
+  places_rise (suc k) = omega (arith, places_rise k, evidence_least f (evidence_place f n k))
 
-  places-most : (i : ℕ) → evidence_place f n i ≤ length f
+  places_most : (i : ℕ) → evidence_place f n i ≤ length f
   unfolding evidence_place
-  places-most i = place_most f n (omega (arith, places-rise (suc n), R.end)) i
+  places_most i = place_most f n (omega (arith, places_rise (suc n), R.end)) i
 
-  pub parts-ready : PartsReady f (program_end f) n p.transitions.at
-  parts-ready =
+  pub parts_ready : PartsReady f (program_end f) n p.transitions.at
+  parts_ready =
       let F = program_fine Plain true g 0 fine in
       let e : p.transitions.at ≡ 0 + 7 + 3 * (shape_at g 0).processes = ap (λ (p : Program). p.transitions.at) F.same in
       let few = (shape_fine Plain g 0 F.shape).1 in
@@ -156,49 +156,49 @@ module _ (f : List ℕ) (area : ℕ) (P : pws.Program) (ts : List (ℕ → ℕ))
         fits = omega (arith, program_short g fine, length-take-le (program_end f) f (program_most f));
         few = R.few;
         near = omega arith;
-        places = places-most;
+        places = places_most;
       }
 
   -- ---- the runs, if the marks are different fences
 
   module _ (D : DifferentFences P marks) where
-    run-fails : (i : ℕ) → i < n → part_fails f p.transitions.at (mark_bytes f (program_end f)) n area i ≡ run_fails P ts marks runs i
+    run_fails_lem : (i : ℕ) → i < n → part_fails f p.transitions.at (mark_bytes f (program_end f)) n area i ≡ run_fails P ts marks runs i
     unfolding read_part
-    run-fails i l =
+    run_fails_lem i l =
         let e = evidence_part f (evidence_place f n (suc i)) in
         let k = mark marks i in
         let c = copy_reads g e area k P ts (theory.run runs i).memory (theory.run runs i).steps (R.run i l) (D.fences i l) in
         ap (λ (m : ℕ). not (eqb (said_in_c (pair (set g (p.transitions.at + 8 * m + 3) 0) e) area).kind 1)) (marks_same i l)
-        ∙ ap not (run-kind (pair (set g (p.transitions.at + 8 * k + 3) 0) e) area (run_program P marks i) ts (theory.run runs i).memory (theory.run runs i).steps c)
+        ∙ ap not (run_kind (pair (set g (p.transitions.at + 8 * k + 3) 0) e) area (run_program P marks i) ts (theory.run runs i).memory (theory.run runs i).steps c)
 
-    failing-same : failing_part f p.transitions.at (mark_bytes f (program_end f)) n area ≡ failing_of P ts marks runs
+    failing_same : failing_part f p.transitions.at (mark_bytes f (program_end f)) n area ≡ failing_of P ts marks runs
     unfolding failing_part
-    failing-same = lowest_same _ _ n run-fails
+    failing_same = lowest_same _ _ n run_fails_lem
 
-    runs-said : (b : Bool) (k : ℕ) → choose b (λ _. ended_in_c f 2 23 k) (λ _. ended_in_c f 4 n (length es)) ≡ judged_in_c f (cond b (failing_run k) (needed n (length es)))
-    runs-said true k = refl
-    runs-said false k = refl
+    runs_said_lem : (b : Bool) (k : ℕ) → choose b (λ _. ended_in_c f 2 23 k) (λ _. ended_in_c f 4 n (length es)) ≡ judged_in_c f (cond b (failing_run k) (needed n (length es)))
+    runs_said_lem true k = refl
+    runs_said_lem false k = refl
 
     list_said_lem : (b : Bool) → eqb (list_part f n area).kind 0 ≡ b
         → choose b (λ _. runs_said f n (list_part f n area).first (failing_part f p.transitions.at (mark_bytes f (program_end f)) n area)) (λ _. ended_in_c f 2 23 8)
         ≡ judged_in_c f (after_list b (after_runs n (length es) (failing_of P ts marks runs)))
     list_said_lem true e =
-        rw (list_count (pair g (evidence_part f (evidence_place f n 0))) area P ts es list_read (eqb-true (list_part f n area).kind 0 e), failing-same)
-        (runs-said (ltb (failing_of P ts marks runs) n) (failing_of P ts marks runs))
+        rw (list_count (pair g (evidence_part f (evidence_place f n 0))) area P ts es list_read (eqb-true (list_part f n area).kind 0 e), failing_same)
+        (runs_said_lem (ltb (failing_of P ts marks runs) n) (failing_of P ts marks runs))
     list_said_lem false e = refl
 
-  marks-said : (b : Bool) → ltb (wrong_of P marks) n ≡ b
+  marks_said_lem : (b : Bool) → ltb (wrong_of P marks) n ≡ b
       → choose b (λ _. ended_in_c f 2 22 (wrong_of P marks)) (λ _. list_said f (list_part f n area) (runs_said f n (list_part f n area).first (failing_part f p.transitions.at (mark_bytes f (program_end f)) n area)))
       ≡ judged_in_c f (cond b (theory-wrong.wrong_mark (wrong_of P marks)) (after_list (is_safe (decision.verdict_of P ts es)) (after_runs n (length es) (failing_of P ts marks runs))))
-  marks-said true e = refl
-  marks-said false e =
+  marks_said_lem true e = refl
+  marks_said_lem false e =
       let D = (wrong_mark_found P marks).1 (ltb-false (wrong_of P marks) n e) in
       list_said_lem D (eqb (list_part f n area).kind 0) refl
-      ∙ ap (λ (b : Bool). judged_in_c f (after_list b (after_runs n (length es) (failing_of P ts marks runs)))) (list-kind (pair g (evidence_part f (evidence_place f n 0))) area P ts es list_read)
+      ∙ ap (λ (b : Bool). judged_in_c f (after_list b (after_runs n (length es) (failing_of P ts marks runs)))) (list_kind (pair g (evidence_part f (evidence_place f n 0))) area P ts es list_read)
 
   pub parts_said : said_parts f p n area ≡ judged_in_c f (report_verdict P ts marks es runs)
   unfolding said_parts report_verdict
-  parts_said = rw wrong-same (marks-said (ltb (wrong_of P marks) n) refl)
+  parts_said = rw wrong_same (marks_said_lem (ltb (wrong_of P marks) n) refl)
 
 -- ---- what the reading hands on
 
@@ -213,7 +213,7 @@ module _ (f : List ℕ) (area : ℕ) (r : ReportReading) (e : r ≡ report_readi
       go (unread q) d = absurd (fine_refused {r = q} (sym a ∙ ap (λ (y : ReportReading). y.answer) (e ∙ ap (report_reading f) d)))
       go (report P ts marks es runs) d =
           let h : r ≡ report_reading f (report P ts marks es runs) = e ∙ ap (report_reading f) d in (
-            subst (λ (y : ReportReading). PartsReady f y.marks.at y.marks.count y.program.transitions.at) (sym h) (parts-ready f area P ts marks es runs d),
+            subst (λ (y : ReportReading). PartsReady f y.marks.at y.marks.count y.program.transitions.at) (sym h) (parts_ready f area P ts marks es runs d),
             ap (λ (y : ReportReading). said_parts f y.program y.marks.count area) h ∙ parts_said f area P ts marks es runs d ∙ ap (report_in_c f) (sym d),
           )
 

@@ -91,12 +91,12 @@ kept_read f w v e n = elim (dec_lt (length w) 65536) [
     short : length w < 65536 → report_area f w ≡ w
     short l = ap (λ (o : Opened). opened_area f o w) (open_short f (length w) l)
 
-    opened-kept : (o : Opened) → 65536 ≤ length w → drop (used_of (length w)) (opened_area f o w) ≡ drop (used_of (length w)) w
-    opened-kept (shut r) l = refl
-    opened-kept (opened p n) l = reading_kept (pair (program_part f) (evidence_part f (program_end f + 2 * n))) w l
+    opened_kept : (o : Opened) → 65536 ≤ length w → drop (used_of (length w)) (opened_area f o w) ≡ drop (used_of (length w)) w
+    opened_kept (shut r) l = refl
+    opened_kept (opened p n) l = reading_kept (pair (program_part f) (evidence_part f (program_end f + 2 * n))) w l
 
     long : 65536 ≤ length w → drop (used_of (length w)) (report_area f w) ≡ drop (used_of (length w)) w
-    long l = opened-kept (open_report f (length w)) l
+    long l = opened_kept (open_report f (length w)) l
 
 -- ---- where the parts stand, and what is said of them
 
@@ -112,9 +112,9 @@ copied_size g at = sized room g at
 module _ (f : List ℕ) (end n row : ℕ) (R : PartsReady f end n row) where
   -- the run of place i
   module _ (i at next : ℕ) (p : at ≡ evidence_place f n (1 + i)) (q : next ≡ evidence_end f at) where
-    pub run-there : (end ≤ length f) × (end ≤ room) × (at ≤ next) × (next ≤ length f)
+    pub run_there : (end ≤ length f) × (end ≤ room) × (at ≤ next) × (next ≤ length f)
     unfolding evidence_place
-    run-there =
+    run_there =
         let e : next ≡ evidence_place f n (suc (1 + i)) = q ∙ ap (evidence_end f) p in
         (R.inside, R.fits, omega (arith, evidence_least f at), omega (arith, R.places (suc (1 + i))))
 
@@ -127,52 +127,52 @@ module _ (f : List ℕ) (end n row : ℕ) (R : PartsReady f end n row) where
 
   -- the list
   module _ (at next : ℕ) (p : at ≡ end + 2 * n) (q : next ≡ evidence_end f at) where
-    list-place : at ≡ evidence_place f n 0
+    list_place : at ≡ evidence_place f n 0
     unfolding evidence_place
-    list-place = p ∙ ap (λ (k : ℕ). k + 2 * n) R.place
+    list_place = p ∙ ap (λ (k : ℕ). k + 2 * n) R.place
 
     pub first_place : next ≡ evidence_place f n 1
     unfolding evidence_place
-    first_place = q ∙ ap (evidence_end f) list-place
+    first_place = q ∙ ap (evidence_end f) list_place
 
-    pub list-there : (end ≤ length f) × (at ≤ next) × (next ≤ length f)
-    list-there = (R.inside, omega (arith, evidence_least f at), omega (arith, first_place, R.places 1))
+    pub list_there : (end ≤ length f) × (at ≤ next) × (next ≤ length f)
+    list_there = (R.inside, omega (arith, evidence_least f at), omega (arith, first_place, R.places 1))
 
     pub list_part_lem : (area : ℕ) (v : declared.Verdict) → v ≡ said_in_c (pair (take end f) (take (next - at) (drop at f))) area → v ≡ list_part f n area
-    list_part_lem area v e = e ∙ rw (q, list-place, R.place)
+    list_part_lem area v e = e ∙ rw (q, list_place, R.place)
 
 -- ---- the answer
 
 module _ (f : List ℕ) (p : Program) (end n area : ℕ) (E : end ≡ program_end f) (marks : List ℕ) (M : marks ≡ mark_bytes f end) (wrong : ℕ)
     (W : wrong ≡ wrong_mark (take end f) p marks n) (r : declared.Verdict) where
-  marks-here : marks ≡ mark_bytes f (program_end f)
-  marks-here = M ∙ ap (mark_bytes f) E
+  marks_here : marks ≡ mark_bytes f (program_end f)
+  marks_here = M ∙ ap (mark_bytes f) E
 
-  wrong-here : wrong ≡ wrong_mark (program_part f) p (mark_bytes f (program_end f)) n
-  wrong-here = W ∙ rw (marks-here, E)
+  wrong_here : wrong ≡ wrong_mark (program_part f) p (mark_bytes f (program_end f)) n
+  wrong_here = W ∙ rw (marks_here, E)
 
-  pub said-wrong : wrong < n → r ≡ ended_in_c f 2 22 wrong → r ≡ said_parts f p n area
+  pub said_wrong : wrong < n → r ≡ ended_in_c f 2 22 wrong → r ≡ said_parts f p n area
   unfolding said_parts
-  said-wrong l e = rw (sym wrong-here, lt-ltb wrong n l) e
+  said_wrong l e = rw (sym wrong_here, lt-ltb wrong n l) e
 
   module _ (right : n ≤ wrong) (list : declared.Verdict) (L : list ≡ list_part f n area) where
-    pub said-unsafe : 0 < list.kind → r ≡ ended_in_c f 2 23 8 → r ≡ said_parts f p n area
+    pub said_unsafe : 0 < list.kind → r ≡ ended_in_c f 2 23 8 → r ≡ said_parts f p n area
     unfolding said_parts
-    said-unsafe l e = rw (sym wrong-here, le-ltb wrong n right, sym L, ne_eqb list.kind 0 (λ d. omega arith)) e
+    said_unsafe l e = rw (sym wrong_here, le-ltb wrong n right, sym L, ne_eqb list.kind 0 (λ d. omega arith)) e
 
     module _ (safe : list.kind ≤ 0) (failing : ℕ) (F : failing ≡ failing_part f p.transitions.at marks n area) where
-      failing-here : failing ≡ failing_part f p.transitions.at (mark_bytes f (program_end f)) n area
-      failing-here = F ∙ ap (λ (ms : List ℕ). failing_part f p.transitions.at ms n area) marks-here
+      failing_here : failing ≡ failing_part f p.transitions.at (mark_bytes f (program_end f)) n area
+      failing_here = F ∙ ap (λ (ms : List ℕ). failing_part f p.transitions.at ms n area) marks_here
 
-      pub said-failing : failing < n → r ≡ ended_in_c f 2 23 failing → r ≡ said_parts f p n area
+      pub said_failing : failing < n → r ≡ ended_in_c f 2 23 failing → r ≡ said_parts f p n area
       unfolding said_parts
-      said-failing l e =
-          rw (sym wrong-here, le-ltb wrong n right, sym L, eq-eqb list.kind 0 (omega arith), sym failing-here, lt-ltb failing n l) e
+      said_failing l e =
+          rw (sym wrong_here, le-ltb wrong n right, sym L, eq-eqb list.kind 0 (omega arith), sym failing_here, lt-ltb failing n l) e
 
-      pub said-needed : n ≤ failing → r ≡ ended_in_c f 4 n list.first → r ≡ said_parts f p n area
+      pub said_needed : n ≤ failing → r ≡ ended_in_c f 4 n list.first → r ≡ said_parts f p n area
       unfolding said_parts
-      said-needed l e =
-          rw (sym wrong-here, le-ltb wrong n right, sym L, eq-eqb list.kind 0 (omega arith), sym failing-here, le-ltb failing n l) e
+      said_needed l e =
+          rw (sym wrong_here, le-ltb wrong n right, sym L, eq-eqb list.kind 0 (omega arith), sym failing_here, le-ltb failing n l) e
 
 -- ---- the loop over the runs
 
@@ -192,9 +192,9 @@ module _ (f : List ℕ) (row : ℕ) (marks : List ℕ) (n : ℕ) (w : List ℕ) 
     said_here : b ≡ part_fails f row marks n (length w) i
     said_here = said ∙ ap (λ (a : ℕ). part_fails f row marks n a i) R.kept.size
 
-    pub ran-next : (u : List ℕ) (next : ℕ) → b ≡ false → u ≡ area_after v → next ≡ evidence_end f at → Ran f row marks n w u next (i + 1)
+    pub ran_next : (u : List ℕ) (next : ℕ) → b ≡ false → u ≡ area_after v → next ≡ evidence_end f at → Ran f row marks n w u next (i + 1)
     unfolding evidence_place
-    ran-next u next e d k =
+    ran_next u next e d k =
         let z : suc (1 + i) ≡ 1 + (i + 1) = omega arith in
         record {
           looked = looked_next (part_fails f row marks n (length w)) n R.looked l (sym said_here ∙ e);
@@ -202,9 +202,9 @@ module _ (f : List ℕ) (row : ℕ) (marks : List ℕ) (n : ℕ) (w : List ℕ) 
           kept = kept_next R.kept d;
         }
 
-    pub ran-found : b ≡ true → i ≡ failing_part f row marks n (length w)
+    pub ran_found : b ≡ true → i ≡ failing_part f row marks n (length w)
     unfolding failing_part
-    ran-found e = looked_found (part_fails f row marks n (length w)) n R.looked l (sym said_here ∙ e)
+    ran_found e = looked_found (part_fails f row marks n (length w)) n R.looked l (sym said_here ∙ e)
 
   pub ran_all : {v : List ℕ} {at i : ℕ} → Ran f row marks n w v at i → n ≤ i → n ≡ failing_part f row marks n (length w)
   unfolding failing_part

@@ -21,7 +21,7 @@ use Rattle.run_step.specs.declared.last_test.RunAnswer.TheVariants.{Reachable, S
 use Rattle.run_replay.specs.Answers.{run_answer}
 use Rattle.verdict.specs.Judge.{of_list, of_run, judged}
 use Rattle.verdict.specs.Answers.{in_c, said_in_c}
-use Rattle.verdict.proofs.Verdicts.{judged_as, file-list-judged}
+use Rattle.verdict.proofs.Verdicts.{judged_as, file_list_judged}
 use Rattle.report_theory.specs.Nops.{with_nops, only, FenceOf}
 use Rattle.report_verdict.specs.Answers.{is_safe, reaches}
 
@@ -50,17 +50,17 @@ safe_count P ts es (lists.entered k s) j e = let z : ◌≡◌ {A = ℕ} 0 1 = c
 
 module _ (x : Input) (area : ℕ) where
   module _ (P : Program) (ts : List (ℕ → ℕ)) (es : List Configuration) (q : read_file x area ≡ reading.list P ts es) where
-    pub list-kind : eqb (said_in_c x area).kind 0 ≡ is_safe (decision.verdict_of P ts es)
+    pub list_kind : eqb (said_in_c x area).kind 0 ≡ is_safe (decision.verdict_of P ts es)
     unfolding said_in_c
-    list-kind = rw (judged_as x area _ q) (safe_kind (decision.verdict_of P ts es))
+    list_kind = rw (judged_as x area _ q) (safe_kind (decision.verdict_of P ts es))
 
     pub list_count : (said_in_c x area).kind ≡ 0 → (said_in_c x area).first ≡ length es
     unfolding said_in_c
     list_count e =
         let d = decision.verdict_of P ts es in
-        rw (judged_as x area _ q) (safe_count P ts es d (file-list-judged x area P ts es q) (sym list-kind ∙ eq-eqb (said_in_c x area).kind 0 e))
+        rw (judged_as x area _ q) (safe_count P ts es d (file_list_judged x area P ts es q) (sym list_kind ∙ eq-eqb (said_in_c x area).kind 0 e))
 
   module _ (P : Program) (ts : List (ℕ → ℕ)) (m : List ℕ) (ss : List Step) (q : read_file x area ≡ reading.run P ts m ss) where
-    pub run-kind : eqb (said_in_c x area).kind 1 ≡ reaches (run_answer P ts m ss)
+    pub run_kind : eqb (said_in_c x area).kind 1 ≡ reaches (run_answer P ts m ss)
     unfolding said_in_c
-    run-kind = rw (judged_as x area _ q) (reach_kind (run_answer P ts m ss))
+    run_kind = rw (judged_as x area _ q) (reach_kind (run_answer P ts m ss))

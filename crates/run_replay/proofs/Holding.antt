@@ -112,26 +112,26 @@ module _ (S : Shape) (pl : S.processes ≤ 4) (vl : S.variables ≤ 4) (n : ℕ)
   newest_held : snapshot_at a n ≡ (newest m.channel).snapshot
   newest_held = ap (snapshot_at a) M.count ∙ M.snapshots (length m.channel) (omega (arith, M.some, M.count)) (omega arith)
 
-  appended-is : (v x : ℕ) → appended a n v x ≡ put_snapshot a (suc n) (set (snapshot_at a n) v x)
+  appended_is : (v x : ℕ) → appended a n v x ≡ put_snapshot a (suc n) (set (snapshot_at a n) v x)
   unfolding appended
-  appended-is v x = ap (λ (i : ℕ). put_snapshot a i (set (snapshot_at a n) v x)) (next_is n (omega arith))
+  appended_is v x = ap (λ (i : ℕ). put_snapshot a i (set (snapshot_at a n) v x)) (next_is n (omega arith))
 
-  snapshot-four : (i : ℕ) → length (snapshot_at a i) ≡ 4
+  snapshot_four : (i : ℕ) → length (snapshot_at a i) ≡ 4
   unfolding snapshot_at
-  snapshot-four i = refl
+  snapshot_four i = refl
 
   -- the snapshots with a message appended
-  append-snapshots : (p v x i : ℕ) → 1 ≤ i → i ≤ suc (length m.channel)
+  append_snapshots : (p v x i : ℕ) → 1 ≤ i → i ≤ suc (length m.channel)
       → snapshot_at (appended a n v x) i ≡ (message (copy_with m.channel p v x ∷ m.channel) i).snapshot
-  append-snapshots p v x i l h =
-      rw (appended-is v x) (elim (dec_le i (length m.channel)) [
+  append_snapshots p v x i l h =
+      rw (appended_is v x) (elim (dec_le i (length m.channel)) [
         | yes y ↦
             snapshot_other a (suc n) (set (snapshot_at a n) v x) i (omega arith) (λ e. omega (arith, M.count)) ∙ M.snapshots i l y
             ∙ ap (λ (w : Message). w.snapshot) (old i y)
         | no y ↦
             let e : i ≡ suc n = omega (arith, M.count) in
             rw e
-            (snapshot_same a (suc n) (set (snapshot_at a n) v x) (omega arith) (length-set (snapshot_at a n) v x ∙ snapshot-four n)
+            (snapshot_same a (suc n) (set (snapshot_at a n) v x) (omega arith) (length-set (snapshot_at a n) v x ∙ snapshot_four n)
             ∙ ap (λ (w : List ℕ). set w v x) newest_held ∙ ap (λ (w : Message). w.snapshot) new)
       ])
     where
@@ -149,7 +149,7 @@ module _ (S : Shape) (pl : S.processes ≤ 4) (vl : S.variables ≤ 4) (n : ℕ)
       (record {
         count = ap suc M.count;
         some = omega arith;
-        snapshots = append-snapshots p v x;
+        snapshots = append_snapshots p v x;
         pointers = λ q qe. row_each (λ q r. q < S.processes → get_or r 0 0 ≡ m.pointer q) rows p q new M.row_count (omega arith)
             (λ e. get_or-set_other (get_or rows p []) (v + 1) 0 (suc n) 0 (λ z. omega arith) ∙ M.pointers p e) (λ d e. M.pointers q e) qe;
         last_writes = λ q u qe ue. row_each (λ q r. q < S.processes → get_or r (u + 1) 0 ≡ last_write (append m p v x) q u) rows p q new M.row_count (omega arith)
@@ -173,8 +173,8 @@ module _ (S : Shape) (pl : S.processes ≤ 4) (vl : S.variables ≤ 4) (n : ℕ)
       new = set (get_or rows p []) (v + 1) (suc n)
 
   -- p points at the message after its pointer
-  pub memory-update : (p : ℕ) → p < S.processes → m.pointer p < length m.channel → MemoryHeld S n (updated rows p) a (point m p (suc (m.pointer p)))
-  memory-update p pe up =
+  pub memory_update : (p : ℕ) → p < S.processes → m.pointer p < length m.channel → MemoryHeld S n (updated rows p) a (point m p (suc (m.pointer p)))
+  memory_update p pe up =
       rw (updated_is rows p (omega arith), at)
       (record {
         count = M.count;
@@ -208,14 +208,14 @@ module _ (S : Shape) (pl : S.processes ≤ 4) (vl : S.variables ≤ 4) (n : ℕ)
       passed u = omega arith
 
   -- a message appended, and p points at it
-  pub memory-arw : (p v x : ℕ) → p < S.processes → v < S.variables
+  pub memory_arw : (p v x : ℕ) → p < S.processes → v < S.variables
       → MemoryHeld S (next_number n) (pointed rows p (next_number n)) (appended a n v x) (point (append m p v x) p (suc (length m.channel)))
-  memory-arw p v x pe ve =
+  memory_arw p v x pe ve =
       rw (next_is n (omega arith), pointed_is rows p (suc n) (omega arith))
       (record {
         count = ap suc M.count;
         some = omega arith;
-        snapshots = append-snapshots p v x;
+        snapshots = append_snapshots p v x;
         pointers = λ q qe. row_each (λ q r. q < S.processes → get_or r 0 0 ≡ put m.pointer p k q) rows p q new M.row_count (omega arith)
             (λ e. ap suc M.count ∙ sym (put_same m.pointer p k)) (λ d e. M.pointers q e ∙ sym (put_other m.pointer p k q d)) qe;
         last_writes = λ q u qe ue. row_each (λ q r. q < S.processes → get_or r (u + 1) 0 ≡ last_write (point (append m p v x) p k) q u) rows p q new M.row_count (omega arith)
@@ -290,21 +290,21 @@ module _ (S : Shape) (pl : S.processes ≤ 4) (vl : S.variables ≤ 4) (heads ta
   q₀ : ℕ
   q₀ = 4 * p + v
 
-  other-queue : (r u : ℕ) → u < S.variables → ((r ≡ p) × (u ≡ v) → ⊥) → 4 * r + u ≢ 4 * p + v
-  other-queue r u ue n e = n (omega arith, omega arith)
+  other_queue : (r u : ℕ) → u < S.variables → ((r ≡ p) × (u ≡ v) → ⊥) → 4 * r + u ≢ 4 * p + v
+  other_queue r u ue n e = n (omega arith, omega arith)
 
   -- a value joins the end
-  pub queues-push : (x : ℕ) → x < 16 → length a ≡ 16384
+  pub queues_push : (x : ℕ) → x < 16 → length a ≡ 16384
       → QueuesHeld S heads (advanced tails p v) (put_waiting a (queue_number p v) (get_or tails (queue_number p v) 0) x) (suc k) (put_queue Q p v (Q p v ++ (x ∷ [])))
-  queues-push x xl room =
+  queues_push x xl room =
       rw (queue_is p v (omega arith) (omega arith), advanced_is tails p v (omega arith) (omega arith) (omega (arith, H.most (4 * p + v))))
       (record {
         values = λ r u re ue. put_queue_each Q p v (Q p v ++ (x ∷ [])) (λ r u xs. r < S.processes → u < S.variables → table_from (waiting_at b (4 * r + u)) (get_or heads (4 * r + u) 0) (get_or new (4 * r + u) 0 - get_or heads (4 * r + u) 0) ≡ xs) r u
             (λ _ _. joined)
             (λ n re ue.
-            rw (get_or-set_other tails (4 * p + v) (4 * r + u) (suc t) 0 (other-queue r u ue n))
+            rw (get_or-set_other tails (4 * p + v) (4 * r + u) (suc t) 0 (other_queue r u ue n))
             (table_same (waiting_at b (4 * r + u)) (waiting_at a (4 * r + u)) (get_or heads (4 * r + u) 0) (get_or tails (4 * r + u) 0 - get_or heads (4 * r + u) 0) (λ j l m.
-            waiting_other a (4 * p + v) t x (omega arith) (omega (arith, H.most (4 * p + v))) room (4 * r + u) j (other-queue r u ue n) (omega (arith, H.most (4 * r + u), H.order (4 * r + u))))
+            waiting_other a (4 * p + v) t x (omega arith) (omega (arith, H.most (4 * p + v))) room (4 * r + u) j (other_queue r u ue n) (omega (arith, H.most (4 * r + u), H.order (4 * r + u))))
             ∙ H.values r u re ue)) re ue;
         head_count = H.head_count;
         tail_count = length-set tails (4 * p + v) (suc t) ∙ H.tail_count;
@@ -337,15 +337,15 @@ module _ (S : Shape) (pl : S.processes ≤ 4) (vl : S.variables ≤ 4) (heads ta
           (ap (waiting_at b (4 * p + v)) z ∙ waiting_same a (4 * p + v) t x (omega arith) (omega (arith, H.most (4 * p + v))) room xl)
 
   -- the oldest value leaves
-  pub queues-pop : (b : List ℕ) → ((q j : ℕ) → waiting_at b q j ≡ waiting_at a q j) → get_or heads (4 * p + v) 0 < get_or tails (4 * p + v) 0
+  pub queues_pop : (b : List ℕ) → ((q j : ℕ) → waiting_at b q j ≡ waiting_at a q j) → get_or heads (4 * p + v) 0 < get_or tails (4 * p + v) 0
       → QueuesHeld S (advanced heads p v) tails b (suc k) (put_queue Q p v (without_oldest (Q p v)))
-  queues-pop b same some =
+  queues_pop b same some =
       rw (advanced_is heads p v (omega arith) (omega arith) (omega (arith, H.most (4 * p + v))))
       (record {
         values = λ r u re ue. put_queue_each Q p v (without_oldest (Q p v)) (λ r u xs. r < S.processes → u < S.variables → table_from (waiting_at b (4 * r + u)) (get_or new (4 * r + u) 0) (get_or tails (4 * r + u) 0 - get_or new (4 * r + u) 0) ≡ xs) r u
             (λ _ _. left)
             (λ n re ue.
-            rw (get_or-set_other heads (4 * p + v) (4 * r + u) (suc h) 0 (other-queue r u ue n))
+            rw (get_or-set_other heads (4 * p + v) (4 * r + u) (suc h) 0 (other_queue r u ue n))
             (table_same (waiting_at b (4 * r + u)) (waiting_at a (4 * r + u)) (get_or heads (4 * r + u) 0) (get_or tails (4 * r + u) 0 - get_or heads (4 * r + u) 0) (λ j l m. same (4 * r + u) j)
             ∙ H.values r u re ue)) re ue;
         head_count = length-set heads (4 * p + v) (suc h) ∙ H.head_count;

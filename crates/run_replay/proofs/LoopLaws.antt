@@ -86,19 +86,19 @@ replaying_begin g f s transitions targets steps at run₀ rows₀ a₀ =
 
 module _ {g f : List ℕ} {s : Shape} {transitions targets : Row} {steps at : ℕ} {run₀ : Run} {rows₀ : List (List ℕ)} {a₀ : List ℕ}
     {k place : ℕ} {run : Run} {rows : List (List ℕ)} {a : List ℕ} (r : Replaying g f s transitions targets steps at run₀ rows₀ a₀ k place run rows a) where
-  pub replaying-done : steps ≤ k → last_in g targets s run.states steps ≡ run_from g f s transitions targets steps 0 at run₀ rows₀ a₀ steps
-  replaying-done l = sym (run_done g f s transitions targets steps steps k place run rows a l) ∙ r.rest
+  pub replaying_done : steps ≤ k → last_in g targets s run.states steps ≡ run_from g f s transitions targets steps 0 at run₀ rows₀ a₀ steps
+  replaying_done l = sym (run_done g f s transitions targets steps steps k place run rows a l) ∙ r.rest
 
-  pub replaying-stopped : (x : Answer) (cause : Cause) → k < steps → x ≡ answer_in run rows a s (move_of g transitions (step_at f place)) → x ≡ Refused cause
+  pub replaying_stopped : (x : Answer) (cause : Cause) → k < steps → x ≡ answer_in run rows a s (move_of g transitions (step_at f place)) → x ≡ Refused cause
       → stopped_by k x ≡ run_from g f s transitions targets steps 0 at run₀ rows₀ a₀ steps
-  replaying-stopped x cause l e q =
+  replaying_stopped x cause l e q =
       ap (stopped_by k) q ∙ sym (run_stopped g f s transitions targets steps steps k place run rows a cause l (sym e ∙ q)) ∙ r.rest
 
-  pub replaying-next : {place' : ℕ} {run' : Run} {rows' : List (List ℕ)} {a' : List ℕ} (m : Move) → k < steps → m ≡ move_of g transitions (step_at f place)
+  pub replaying_next : {place' : ℕ} {run' : Run} {rows' : List (List ℕ)} {a' : List ℕ} (m : Move) → k < steps → m ≡ move_of g transitions (step_at f place)
       → answer_in run rows a s m ≡ Permitted → place' ≡ next_step f place → run' ≡ run_after run m
       → rows' ≡ rows_after rows run.messages m → a' ≡ lower_after a run m
       → Replaying g f s transitions targets steps at run₀ rows₀ a₀ (k + 1) place' run' rows' a'
-  replaying-next {place'} {run'} {rows'} {a'} m l em e ep er ew ea =
+  replaying_next {place'} {run'} {rows'} {a'} m l em e ep er ew ea =
       record {
         most = omega arith;
         same = ap length ea ∙ area_length a run m ∙ r.same;

@@ -111,37 +111,37 @@ near_next f at place w = elim (dec_le (length f) at) [
 
 module _ (f : List ℕ) (p : Program) (few : p.shape.processes ≤ 4) (states : List ℕ) (c : Configuration)
     (held : (q : ℕ) → q < p.shape.processes → get_or states q 0 ≡ c.state q) where
-  state-byte : (at q : ℕ) → q < 4 → state_at f at q ≡ byte f (at + (1 + q))
-  state-byte at q l = rw (lt-ltb q 4 l)
+  state_byte : (at q : ℕ) → q < 4 → state_at f at q ≡ byte f (at + (1 + q))
+  state_byte at q l = rw (lt-ltb q 4 l)
 
   -- the states are those of the target
-  met-is : (at : ℕ) → in_target_in f at p.shape states ≡ in_target (shape_of p.shape) (state_at f at) c
+  met_is : (at : ℕ) → in_target_in f at p.shape states ≡ in_target (shape_of p.shape) (state_at f at) c
   unfolding in_target_in agrees_in
-  met-is at =
+  met_is at =
       all_four p.shape.processes few (λ q. eqb (get_or states q 0) (byte f (at + (1 + q)))) (λ q. eqb (c.state q) (state_at f at q)) (λ q l.
-      ap₂ eqb (held q l) (sym (state-byte at q (omega arith))))
+      ap₂ eqb (held q l) (sym (state_byte at q (omega arith))))
 
-  state-past : (x y q : ℕ) → length f ≤ x → length f ≤ y → state_at f x q ≡ state_at f y q
-  state-past x y q a b = ap (λ (z : ℕ). cond (ltb q 4) z 0) (byte_past f (x + (1 + q)) (omega arith) ∙ sym (byte_past f (y + (1 + q)) (omega arith)))
+  state_past : (x y q : ℕ) → length f ≤ x → length f ≤ y → state_at f x q ≡ state_at f y q
+  state_past x y q a b = ap (λ (z : ℕ). cond (ltb q 4) z 0) (byte_past f (x + (1 + q)) (omega arith) ∙ sym (byte_past f (y + (1 + q)) (omega arith)))
 
   -- two places of targets are one, or both past the end
-  near-met : (at place : ℕ) → Near f at place → in_target_in f at p.shape states ≡ in_target (shape_of p.shape) (state_at f place) c
-  near-met at place w =
-      met-is at
+  near_met : (at place : ℕ) → Near f at place → in_target_in f at p.shape states ≡ in_target (shape_of p.shape) (state_at f place) c
+  near_met at place w =
+      met_is at
       ∙ ⊎_elim (λ e. ap (λ (x : ℕ). in_target (shape_of p.shape) (state_at f x) c) e)
-      (λ e. ap (λ (t : ℕ → ℕ). in_target (shape_of p.shape) t c) (fun_ext (λ q. state-past at place q e.0 e.1))) w
+      (λ e. ap (λ (t : ℕ → ℕ). in_target (shape_of p.shape) t c) (fun_ext (λ q. state_past at place q e.0 e.1))) w
 
-  pub targets-last : (steps n at i : ℕ) → Near f at (p.targets.at + 5 * i)
+  pub targets_last : (steps n at i : ℕ) → Near f at (p.targets.at + 5 * i)
       → last_from f p.shape states steps at i n ≡ last_answer steps (run.lowest_met (shape_of p.shape) i (table_from (λ j. state_at f (p.targets.at + 5 * j)) i n) c)
   unfolding last_from
-  targets-last steps zero at i w = refl
-  targets-last steps (suc n) at i w =
+  targets_last steps zero at i w = refl
+  targets_last steps (suc n) at i w =
       go (in_target_in f at p.shape states) (in_target (shape_of p.shape) (state_at f (p.targets.at + 5 * i)) c)
       (last_from f p.shape states steps (next_target f at) (i + 1) n)
       (run.lowest_met (shape_of p.shape) (suc i) (table_from (λ j. state_at f (p.targets.at + 5 * j)) (suc i) n) c)
-      (near-met at (p.targets.at + 5 * i) w)
+      (near_met at (p.targets.at + 5 * i) w)
       (ap (λ (j : ℕ). last_from f p.shape states steps (next_target f at) j n) (omega arith)
-      ∙ targets-last steps n (next_target f at) (suc i) (subst (Near f (next_target f at)) (omega arith) (near_next f at (p.targets.at + 5 * i) w)))
+      ∙ targets_last steps n (next_target f at) (suc i) (subst (Near f (next_target f at)) (omega arith) (near_next f at (p.targets.at + 5 * i) w)))
     where
       go : (x y : Bool) (u : RunAnswer) (o : Option ℕ) → x ≡ y → u ≡ last_answer steps o
           → choose x (λ _. Reachable steps i) (λ _. u) ≡ last_answer steps (cond y (some i) o)
@@ -175,35 +175,35 @@ module _ (g : List ℕ) (p : Program) (R : pws.ProgramInRange (program_of g p)) 
   abbrev c₀ : Configuration
   c₀ = start_with (program_of g p) memory 0 0
 
-  points-first : (q : ℕ) → q < p.shape.processes → c₀.memory.pointer q ≡ 1
-  points-first q l = rw (lt-ltb q p.shape.processes l)
+  points_first : (q : ℕ) → q < p.shape.processes → c₀.memory.pointer q ≡ 1
+  points_first q l = rw (lt-ltb q p.shape.processes l)
 
-  last-first : (q v : ℕ) → q < p.shape.processes → last_write c₀.memory q v ≡ 1
-  last-first q v l =
-      ap (λ (z : ℕ). max z (cond (eqb 0 q && eqb 0 v) 1 0)) (points-first q l) ∙ go (eqb 0 q && eqb 0 v)
+  last_first : (q v : ℕ) → q < p.shape.processes → last_write c₀.memory q v ≡ 1
+  last_first q v l =
+      ap (λ (z : ℕ). max z (cond (eqb 0 q && eqb 0 v) 1 0)) (points_first q l) ∙ go (eqb 0 q && eqb 0 v)
     where
       go : (b : Bool) → max 1 (cond b 1 0) ≡ 1
       go true = refl
       go false = refl
 
-  first-memory : MemoryHeld S₀ 1 first_rows (put_snapshot a 1 memory) c₀.memory
-  first-memory =
+  first_memory : MemoryHeld S₀ 1 first_rows (put_snapshot a 1 memory) c₀.memory
+  first_memory =
       record {
         count = refl;
         some = omega arith;
         snapshots = λ i l h. let e : i ≡ 1 = omega arith in rw e (snapshot_same a 1 memory (omega arith) values);
-        pointers = λ q e. ap (λ (r : List ℕ). get_or r 0 0) (first_row q (omega (arith, R.shape.processes))) ∙ sym (points-first q e);
+        pointers = λ q e. ap (λ (r : List ℕ). get_or r 0 0) (first_row q (omega (arith, R.shape.processes))) ∙ sym (points_first q e);
         last_writes = λ q v e ve.
             ap (λ (r : List ℕ). get_or r (v + 1) 0) (first_row q (omega (arith, R.shape.processes))) ∙ ones_at v (omega (arith, R.shape.variables))
-            ∙ sym (last-first q v e);
+            ∙ sym (last_first q v e);
         row_count = refl;
         row_length = λ q l. ap length (first_row q l);
-        low = λ q e. omega (arith, points-first q e);
-        high = λ q e. omega (arith, points-first q e);
+        low = λ q e. omega (arith, points_first q e);
+        high = λ q e. omega (arith, points_first q e);
       }
 
-  first-queues : QueuesHeld S₀ (replicate 16 0) (replicate 16 0) (put_snapshot a 1 memory) 0 c₀.queue
-  first-queues =
+  first_queues : QueuesHeld S₀ (replicate 16 0) (replicate 16 0) (put_snapshot a 1 memory) 0 c₀.queue
+  first_queues =
       record {
         values = λ q v e ve. rw (zeros_at 16 (4 * q + v)) refl;
         head_count = refl;
@@ -214,7 +214,7 @@ module _ (g : List ℕ) (p : Program) (R : pws.ProgramInRange (program_of g p)) 
 
   first_kept : Kept S₀ 0 (first_run p.initial) first_rows (put_snapshot a 1 memory) c₀
   first_kept =
-      kept_of (λ q e. sym (rw (lt-ltb q p.shape.processes e))) four first-memory first-queues (snapshot_length a 1 memory ∙ room) (omega arith)
+      kept_of (λ q e. sym (rw (lt-ltb q p.shape.processes e))) four first_memory first_queues (snapshot_length a 1 memory ∙ room) (omega arith)
 
 -- ---- all steps
 
@@ -239,7 +239,7 @@ module _ (g f : List ℕ) (p : Program) (R : pws.ProgramInRange (program_of g p)
       → rest k at run rows a n ≡ answer_from P₁ (targets_of g p) steps k c (steps_of f at n)
   unfolding run_from steps_of
   all_steps zero k at run rows a c K l =
-      targets-last g p R.shape.processes run.states c K.represents.states steps p.targets.count p.targets.at 0 (inl (omega arith))
+      targets_last g p R.shape.processes run.states c K.represents.states steps p.targets.count p.targets.at 0 (inl (omega arith))
   all_steps (suc n) k at run rows a c K l =
       let s = step_at f at in
       let m = move_of g p.transitions s in

@@ -39,8 +39,8 @@ use Rattle.run_layout.proofs.ByteLaws.{next_is, waiting_past, snapshot_below}
 use Rattle.run_causes.proofs.CauseLaws.{answer_may}
 use Rattle.run_layout.proofs.MoveLaws.{transition_count, move_take, move_absent, exists_is, exists_not}
 use Rattle.run_layout.proofs.Kept.{Kept, table_empty, queue_is}
-use Rattle.run_step.proofs.AnsweringLaws.{take-is, serialise-is, update_is}
-use Rattle.run_replay.proofs.Holding.{MemoryHeld, memory_area, memory_append, memory-update, memory-arw, QueuesHeld, queues_area, queues-push, queues-pop}
+use Rattle.run_step.proofs.AnsweringLaws.{take_is, serialise_is, update_is}
+use Rattle.run_replay.proofs.Holding.{MemoryHeld, memory_area, memory_append, memory_update, memory_arw, QueuesHeld, queues_area, queues_push, queues_pop}
 
 -- ---- the parts of what is kept
 
@@ -93,51 +93,51 @@ waiting_appended a n v x l e q j =
 
 module _ (s : Shape) (pl : s.processes ≤ 4) (vl : s.variables ≤ 4) (xl : (v : ℕ) → v < s.variables → (shape_of s).values v ≤ 4) (k : ℕ) (run : Run) (rows : List (List ℕ)) (a : List ℕ)
     (c : Configuration) (K : Kept (shape_of s) k run rows a c) (few : k < 1024) where
-  most-messages : run.messages ≤ 1024
-  most-messages = omega (arith, K.channel)
+  most_messages : run.messages ≤ 1024
+  most_messages = omega (arith, K.channel)
 
-  memory-taken : (p : ℕ) (o : Operation) → p < s.processes → pws.OperationOf (shape_of s) o
+  memory_taken : (p : ℕ) (o : Operation) → p < s.processes → pws.OperationOf (shape_of s) o
       → MemoryHeld (shape_of s) (messages_taken run.messages o) (rows_taken rows run.messages p o) (lower_taken a run p o) (memory_after c.memory p o)
-  memory-taken p Nop pe oe = memory_of K
-  memory-taken p (Read v x) pe oe = memory_of K
-  memory-taken p (Write v x) pe oe =
+  memory_taken p Nop pe oe = memory_of K
+  memory_taken p (Read v x) pe oe = memory_of K
+  memory_taken p (Write v x) pe oe =
       let q : queue_number p v < 16 = omega (arith, queue_is p v (omega arith) (omega (arith, oe.0))) in
       memory_area (memory_of K) (λ i l.
-      snapshot_below a (queue_number p v) (get_or run.tails (queue_number p v) 0) x q (omega (arith, K.most (queue_number p v))) K.area i (omega (arith, most-messages)))
-  memory-taken p Mfence pe oe = memory_of K
-  memory-taken p Sfence pe oe = memory_of K
-  memory-taken p (Arw v x y) pe oe =
-      memory-arw (shape_of s) pl vl run.messages rows a c.memory (memory_of K) K.area most-messages p v y pe oe.0
+      snapshot_below a (queue_number p v) (get_or run.tails (queue_number p v) 0) x q (omega (arith, K.most (queue_number p v))) K.area i (omega (arith, most_messages)))
+  memory_taken p Mfence pe oe = memory_of K
+  memory_taken p Sfence pe oe = memory_of K
+  memory_taken p (Arw v x y) pe oe =
+      memory_arw (shape_of s) pl vl run.messages rows a c.memory (memory_of K) K.area most_messages p v y pe oe.0
 
-  queues-taken : (p : ℕ) (o : Operation) → p < s.processes → pws.OperationOf (shape_of s) o
+  queues_taken : (p : ℕ) (o : Operation) → p < s.processes → pws.OperationOf (shape_of s) o
       → QueuesHeld (shape_of s) run.heads (tails_taken run.tails p o) (lower_taken a run p o) (suc k) (queue_after c p o)
-  queues-taken p Nop pe oe = queues_area (queues_of K) (λ q j. refl)
-  queues-taken p (Read v x) pe oe = queues_area (queues_of K) (λ q j. refl)
-  queues-taken p (Write v x) pe oe =
-      queues-push (shape_of s) pl vl run.heads run.tails a k c.queue (queues_of K) few p v pe oe.0 x (omega (arith, oe.1, xl v oe.0)) K.area
-  queues-taken p Mfence pe oe = queues_area (queues_of K) (λ q j. refl)
-  queues-taken p Sfence pe oe = queues_area (queues_of K) (λ q j. refl)
-  queues-taken p (Arw v x y) pe oe = queues_area (queues_of K) (waiting_appended a run.messages v y most-messages K.area)
+  queues_taken p Nop pe oe = queues_area (queues_of K) (λ q j. refl)
+  queues_taken p (Read v x) pe oe = queues_area (queues_of K) (λ q j. refl)
+  queues_taken p (Write v x) pe oe =
+      queues_push (shape_of s) pl vl run.heads run.tails a k c.queue (queues_of K) few p v pe oe.0 x (omega (arith, oe.1, xl v oe.0)) K.area
+  queues_taken p Mfence pe oe = queues_area (queues_of K) (λ q j. refl)
+  queues_taken p Sfence pe oe = queues_area (queues_of K) (λ q j. refl)
+  queues_taken p (Arw v x y) pe oe = queues_area (queues_of K) (waiting_appended a run.messages v y most_messages K.area)
 
-  messages-taken : (o : Operation) → messages_taken run.messages o ≤ suc k + 1
-  messages-taken Nop = omega (arith, K.channel)
-  messages-taken (Read v x) = omega (arith, K.channel)
-  messages-taken (Write v x) = omega (arith, K.channel)
-  messages-taken Mfence = omega (arith, K.channel)
-  messages-taken Sfence = omega (arith, K.channel)
-  messages-taken (Arw v x y) = omega (arith, K.channel, next_is run.messages (omega (arith, most-messages)))
+  messages_taken_lem : (o : Operation) → messages_taken run.messages o ≤ suc k + 1
+  messages_taken_lem Nop = omega (arith, K.channel)
+  messages_taken_lem (Read v x) = omega (arith, K.channel)
+  messages_taken_lem (Write v x) = omega (arith, K.channel)
+  messages_taken_lem Mfence = omega (arith, K.channel)
+  messages_taken_lem Sfence = omega (arith, K.channel)
+  messages_taken_lem (Arw v x y) = omega (arith, K.channel, next_is run.messages (omega (arith, most_messages)))
 
-  states-taken : (p x : ℕ) → p < s.processes → (q : ℕ) → q < s.processes → get_or (set run.states p x) q 0 ≡ put c.state p x q
-  states-taken p x pe q qe = elim (ℕ_discrete q p) [
+  states_taken : (p x : ℕ) → p < s.processes → (q : ℕ) → q < s.processes → get_or (set run.states p x) q 0 ≡ put c.state p x q
+  states_taken p x pe q qe = elim (ℕ_discrete q p) [
     | yes e ↦ rw e (get_or-set_same run.states p x 0 (omega (arith, K.states)) ∙ sym (put_same c.state p x))
     | no e ↦ get_or-set_other run.states p q x 0 e ∙ K.represents.states q qe ∙ sym (put_other c.state p x q e)
   ]
 
-  kept-taken : (t : Transition) → t.process < s.processes → pws.OperationOf (shape_of s) t.operation
+  kept_taken : (t : Transition) → t.process < s.processes → pws.OperationOf (shape_of s) t.operation
       → Kept (shape_of s) (suc k) (run_after run (Take t)) (rows_after rows run.messages (Take t)) (lower_after a run (Take t)) (after_take c t)
-  kept-taken t pe oe =
-      kept_of (states-taken t.process t.to pe) (length-set run.states t.process t.to ∙ K.states) (memory-taken t.process t.operation pe oe)
-      (queues-taken t.process t.operation pe oe) (area_length a run (Take t) ∙ K.area) (messages-taken t.operation)
+  kept_taken t pe oe =
+      kept_of (states_taken t.process t.to pe) (length-set run.states t.process t.to ∙ K.states) (memory_taken t.process t.operation pe oe)
+      (queues_taken t.process t.operation pe oe) (area_length a run (Take t) ∙ K.area) (messages_taken_lem t.operation)
 
   -- ---- the memory's own steps
 
@@ -150,15 +150,15 @@ module _ (s : Shape) (pl : s.processes ≤ 4) (vl : s.variables ≤ 4) (xl : (v 
       rw (queue_is p v (omega arith) (omega arith))
       (ap (λ (n : ℕ). get_or (table_from (waiting_at a (4 * p + v)) h n) 0 0) (sym e) ∙ ap (λ (xs : List ℕ). get_or xs 0 0) (K.represents.queues p v pe ve))
 
-  kept-serialised : (p v : ℕ) → p < s.processes → v < s.variables → get_or run.heads (4 * p + v) 0 < get_or run.tails (4 * p + v) 0
+  kept_serialised : (p v : ℕ) → p < s.processes → v < s.variables → get_or run.heads (4 * p + v) 0 < get_or run.tails (4 * p + v) 0
       → Kept (shape_of s) (suc k) (run_after run (Serialise p v)) (rows_after rows run.messages (Serialise p v)) (lower_after a run (Serialise p v)) (after_serialise c p v)
-  kept-serialised p v pe ve l =
+  kept_serialised p v pe ve l =
       rw (oldest_is p v pe ve l)
       (kept_of K.represents.states K.states
-      (memory_append (shape_of s) pl vl run.messages rows a c.memory (memory_of K) K.area most-messages p v x pe ve)
-      (queues-pop (shape_of s) pl vl run.heads run.tails a k c.queue (queues_of K) few p v pe ve (appended a run.messages v x) (waiting_appended a run.messages v x most-messages K.area) l)
+      (memory_append (shape_of s) pl vl run.messages rows a c.memory (memory_of K) K.area most_messages p v x pe ve)
+      (queues_pop (shape_of s) pl vl run.heads run.tails a k c.queue (queues_of K) few p v pe ve (appended a run.messages v x) (waiting_appended a run.messages v x most_messages K.area) l)
       (appended_length ∙ K.area)
-      (omega (arith, K.channel, next_is run.messages (omega (arith, most-messages)))))
+      (omega (arith, K.channel, next_is run.messages (omega (arith, most_messages)))))
     where
       x : ℕ
       x = get_or (c.queue p v) 0 0
@@ -166,11 +166,11 @@ module _ (s : Shape) (pl : s.processes ≤ 4) (vl : s.variables ≤ 4) (xl : (v 
       appended_length : length (appended a run.messages v x) ≡ length a
       appended_length = ap (λ (y : ℕ). length (appended a run.messages v y)) (sym (oldest_is p v pe ve l)) ∙ area_length a run (Serialise p v)
 
-  kept-updated : (p : ℕ) → p < s.processes → c.memory.pointer p < length c.memory.channel
+  kept_updated : (p : ℕ) → p < s.processes → c.memory.pointer p < length c.memory.channel
       → Kept (shape_of s) (suc k) (run_after run (Update p)) (rows_after rows run.messages (Update p)) (lower_after a run (Update p)) (after_update c p)
-  kept-updated p pe l =
+  kept_updated p pe l =
       kept_of K.represents.states K.states
-      (memory-update (shape_of s) pl vl run.messages rows a c.memory (memory_of K) K.area most-messages p pe l)
+      (memory_update (shape_of s) pl vl run.messages rows a c.memory (memory_of K) K.area most_messages p pe l)
       (queues_area (queues_of K) (λ q j. refl)) K.area (omega (arith, K.channel))
 
 -- ---- the steps of a program
@@ -183,18 +183,18 @@ module _ (f : List ℕ) (p : Program) (R : pws.ProgramInRange (program_of f p)) 
     | yes l ↦
         let t = R.well_formed.transitions n (omega (arith, transition_count f p)) in
         ap (answer_in run rows a p.shape) (move_take f p n l)
-        ∙ take-is p.shape R.shape.processes R.shape.variables k run rows a c K (pws.transition (program_of f p) n) t.process t.operation
+        ∙ take_is p.shape R.shape.processes R.shape.variables k run rows a c K (pws.transition (program_of f p) n) t.process t.operation
         ∙ ap (λ (b : Bool). cond b (take_answer (shape_of p.shape) c (pws.transition (program_of f p) n)) (Refused State)) (sym (exists_is f p n l))
     | no l ↦
         ap (answer_in run rows a p.shape) (move_absent f p n (omega arith))
         ∙ ap (λ (b : Bool). cond b (take_answer (shape_of p.shape) c (pws.transition (program_of f p) n)) (Refused State)) (sym (exists_not f p n (omega arith)))
   ]
-  answer_is (step.Serialise q v) = ap (first_cause true true true true) (serialise-is p.shape R.shape.processes R.shape.variables k run rows a c K q v)
+  answer_is (step.Serialise q v) = ap (first_cause true true true true) (serialise_is p.shape R.shape.processes R.shape.variables k run rows a c K q v)
   answer_is (step.Update q) = ap (first_cause true true true true) (update_is p.shape R.shape.processes R.shape.variables k run rows a c K q)
 
-  some-waits : (q v : ℕ) → q < p.shape.processes → v < p.shape.variables → T (not (is_empty (c.queue q v)))
+  some_waits : (q v : ℕ) → q < p.shape.processes → v < p.shape.variables → T (not (is_empty (c.queue q v)))
       → get_or run.heads (4 * q + v) 0 < get_or run.tails (4 * q + v) 0
-  some-waits q v qe ve t =
+  some_waits q v qe ve t =
       let h = get_or run.heads (4 * q + v) 0 in
       let z = get_or run.tails (4 * q + v) 0 in
       leb-false z h (table_empty (waiting_at a (4 * q + v)) h z ∙ ap is_empty (K.represents.queues q v qe ve) ∙ not_T (is_empty (c.queue q v)) t)
@@ -218,18 +218,18 @@ module _ (f : List ℕ) (p : Program) (R : pws.ProgramInRange (program_of f p)) 
       let w = pws.transition (program_of f p) n in
       subst (λ (m : Move). Kept (shape_of p.shape) (suc k) (run_after run m) (rows_after rows run.messages m) (lower_after a run m) (after_take c w))
       (sym (move_take f p n (omega (arith, transition_count f p))))
-      (kept-taken p.shape R.shape.processes R.shape.variables R.shape.values k run rows a c K few w o.process o.operation)
+      (kept_taken p.shape R.shape.processes R.shape.variables R.shape.values k run rows a c K few w o.process o.operation)
   step_kept few (step.Serialise q v) t =
       let y = and_yes (ltb q p.shape.processes && ltb v p.shape.variables) (not (is_empty (c.queue q v))) t in
       let z = and_yes (ltb q p.shape.processes) (ltb v p.shape.variables) y.0 in
       let qe = ltb-true q p.shape.processes (T_true (ltb q p.shape.processes) z.0) in
       let ve = ltb-true v p.shape.variables (T_true (ltb v p.shape.variables) z.1) in
-      kept-serialised p.shape R.shape.processes R.shape.variables R.shape.values k run rows a c K few q v qe ve (some-waits q v qe ve y.1)
+      kept_serialised p.shape R.shape.processes R.shape.variables R.shape.values k run rows a c K few q v qe ve (some_waits q v qe ve y.1)
   step_kept few (step.Update q) t =
       let y = and_yes (ltb q p.shape.processes) (ltb (c.memory.pointer q) (length c.memory.channel)) t in
       let qe = ltb-true q p.shape.processes (T_true (ltb q p.shape.processes) y.0) in
       let l = ltb-true (c.memory.pointer q) (length c.memory.channel) (T_true (ltb (c.memory.pointer q) (length c.memory.channel)) y.1) in
-      kept-updated p.shape R.shape.processes R.shape.variables R.shape.values k run rows a c K few q qe l
+      kept_updated p.shape R.shape.processes R.shape.variables R.shape.values k run rows a c K few q qe l
 
   -- both: the step is permitted exactly if the machine may take it, and then what is left represents the configuration after it
   pub step_right : k < 1024 → (s : steps.Step)

@@ -48,13 +48,13 @@ module _ (s : Shape) (pl : s.processes ≤ 4) (vl : s.variables ≤ 4) (k : ℕ)
       rw (queue_is p v (omega arith) (omega arith))
       (table_empty (waiting_at a (4 * p + v)) (get_or run.heads (4 * p + v) 0) (get_or run.tails (4 * p + v) 0) ∙ ap is_empty (R.queues p v pe ve))
 
-  pub none-waiting-is : (p : ℕ) → p < s.processes → none_waiting_in run s p ≡ none_waiting (shape_of s) c p
+  pub none_waiting_is : (p : ℕ) → p < s.processes → none_waiting_in run s p ≡ none_waiting (shape_of s) c p
   unfolding none_waiting_in idle_in
-  none-waiting-is p pe = all_four s.variables vl (empty_in run p) (λ v. is_empty (c.queue p v)) (λ v ve. empty_is p v pe ve)
+  none_waiting_is p pe = all_four s.variables vl (empty_in run p) (λ v. is_empty (c.queue p v)) (λ v ve. empty_is p v pe ve)
 
-  pub at-newest-is : (p : ℕ) → p < s.processes → at_newest_in run rows p ≡ at_newest c.memory p
+  pub at_newest_is : (p : ℕ) → p < s.processes → at_newest_in run rows p ≡ at_newest c.memory p
   unfolding at_newest_in
-  at-newest-is p pe = ap₂ eqb (pointer_is rows p (omega arith) ∙ R.pointers p pe) R.messages
+  at_newest_is p pe = ap₂ eqb (pointer_is rows p (omega arith) ∙ R.pointers p pe) R.messages
 
   -- LastWrite names a message
   pub last_in : (p v : ℕ) → p < s.processes → (1 ≤ last_write c.memory p v) × (last_write c.memory p v ≤ length c.memory.channel)
@@ -72,10 +72,10 @@ module _ (s : Shape) (pl : s.processes ≤ 4) (vl : s.variables ≤ 4) (k : ℕ)
   abbrev old : ℕ → ℕ → ℕ
   old p v = get_or (message c.memory.channel (last_write c.memory p v)).snapshot v 0
 
-  sees-when : (p v q : ℕ) (e : queue_number p v ≡ q) → get_or (snapshot_at a (last_write_of rows p v)) v 0 ≡ old p v → waiting_in run a q ≡ c.queue p v
+  sees_when : (p v q : ℕ) (e : queue_number p v ≡ q) → get_or (snapshot_at a (last_write_of rows p v)) v 0 ≡ old p v → waiting_in run a q ≡ c.queue p v
       → sees_in run rows a p v ≡ sees c p v
   unfolding sees_in empty_in
-  sees-when p v q e l w =
+  sees_when p v q e l w =
       let h = get_or run.heads q 0 in
       let t = get_or run.tails q 0 in
       rw e (elim (dec_le t h) [
@@ -92,7 +92,7 @@ module _ (s : Shape) (pl : s.processes ≤ 4) (vl : s.variables ≤ 4) (k : ℕ)
       ])
 
   pub sees_is : (p v : ℕ) → p < s.processes → v < s.variables → sees_in run rows a p v ≡ sees c p v
-  sees_is p v pe ve = sees-when p v (4 * p + v) (queue_is p v (omega arith) (omega arith)) (at_last p v pe ve) (R.queues p v pe ve)
+  sees_is p v pe ve = sees_when p v (4 * p + v) (queue_is p v (omega arith) (omega arith)) (at_last p v pe ve) (R.queues p v pe ve)
 
   pub newest_is : snapshot_at a run.messages ≡ (newest c.memory.channel).snapshot
   newest_is = ap (snapshot_at a) R.messages ∙ R.snapshots (length c.memory.channel) (omega (arith, K.some, R.messages)) (omega arith)
@@ -103,17 +103,17 @@ module _ (s : Shape) (pl : s.processes ≤ 4) (vl : s.variables ≤ 4) (k : ℕ)
   queue_fits_is p Nop pe oe = refl
   queue_fits_is p (Read v x) pe oe = refl
   queue_fits_is p (Write v x) pe oe = refl
-  queue_fits_is p Mfence pe oe = none-waiting-is p pe
-  queue_fits_is p Sfence pe oe = none-waiting-is p pe
+  queue_fits_is p Mfence pe oe = none_waiting_is p pe
+  queue_fits_is p Sfence pe oe = none_waiting_is p pe
   queue_fits_is p (Arw v x y) pe oe = empty_is p v pe oe.0
 
-  pointer-fits-is : (p : ℕ) (o : Operation) → p < s.processes → pointer_fits_in run rows p o ≡ pointer_fits c p o
-  pointer-fits-is p Nop pe = refl
-  pointer-fits-is p (Read v x) pe = refl
-  pointer-fits-is p (Write v x) pe = refl
-  pointer-fits-is p Mfence pe = at-newest-is p pe
-  pointer-fits-is p Sfence pe = refl
-  pointer-fits-is p (Arw v x y) pe = at-newest-is p pe
+  pointer_fits_is : (p : ℕ) (o : Operation) → p < s.processes → pointer_fits_in run rows p o ≡ pointer_fits c p o
+  pointer_fits_is p Nop pe = refl
+  pointer_fits_is p (Read v x) pe = refl
+  pointer_fits_is p (Write v x) pe = refl
+  pointer_fits_is p Mfence pe = at_newest_is p pe
+  pointer_fits_is p Sfence pe = refl
+  pointer_fits_is p (Arw v x y) pe = at_newest_is p pe
 
   value_fits_is : (p : ℕ) (o : Operation) → p < s.processes → pws.OperationOf (shape_of s) o → value_fits_in run rows a p o ≡ value_fits c p o
   unfolding newest_has_in
@@ -124,13 +124,13 @@ module _ (s : Shape) (pl : s.processes ≤ 4) (vl : s.variables ≤ 4) (k : ℕ)
   value_fits_is p Sfence pe oe = refl
   value_fits_is p (Arw v x y) pe oe = ap (λ (w : List ℕ). eqb (get_or w v 0) x) newest_is
 
-  pub take-is : (t : Transition) → t.process < s.processes → pws.OperationOf (shape_of s) t.operation → take_answer_in run rows a s t ≡ take_answer (shape_of s) c t
+  pub take_is : (t : Transition) → t.process < s.processes → pws.OperationOf (shape_of s) t.operation → take_answer_in run rows a s t ≡ take_answer (shape_of s) c t
   unfolding take_answer_in
-  take-is t pe oe =
+  take_is t pe oe =
       rw (
         R.states t.process pe,
         queue_fits_is t.process t.operation pe oe,
-        pointer-fits-is t.process t.operation pe,
+        pointer_fits_is t.process t.operation pe,
         value_fits_is t.process t.operation pe oe,
       )
 
@@ -140,9 +140,9 @@ module _ (s : Shape) (pl : s.processes ≤ 4) (vl : s.variables ≤ 4) (k : ℕ)
   exists_then true y z h = h refl
   exists_then false y z h = refl
 
-  pub serialise-is : (p v : ℕ) → may_serialise_in run s p v ≡ ((ltb p s.processes && ltb v s.variables) && not (is_empty (c.queue p v)))
+  pub serialise_is : (p v : ℕ) → may_serialise_in run s p v ≡ ((ltb p s.processes && ltb v s.variables) && not (is_empty (c.queue p v)))
   unfolding may_serialise_in
-  serialise-is p v = exists_then (ltb p s.processes && ltb v s.variables) (not (empty_in run p v)) (not (is_empty (c.queue p v))) (λ e.
+  serialise_is p v = exists_then (ltb p s.processes && ltb v s.variables) (not (empty_in run p v)) (not (is_empty (c.queue p v))) (λ e.
       let b = both_true (ltb p s.processes) (ltb v s.variables) e in
       ap not (empty_is p v (ltb-true p s.processes b.0) (ltb-true v s.variables b.1)))
     where

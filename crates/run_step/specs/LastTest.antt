@@ -1,4 +1,4 @@
--- The last test as the code makes it, over the bytes of the program. No statement rests on these definitions: `targets-last` (replay Replaying) says
+-- The last test as the code makes it, over the bytes of the program. No statement rests on these definitions: `targets_last` (replay Replaying) says
 -- that they give the lowest target met.
 use Rattle.std.specs.Prelude.{ℕ, zero, suc, ◌+◌, Bool, cond, ◌&&◌, ◌||◌, List, length, get_or, eqb, leb}
 use Rattle.file_records.specs.declared.program.Shape.{Shape}

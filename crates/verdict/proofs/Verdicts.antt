@@ -15,7 +15,7 @@ use Rattle.machine_pws.specs.Machine.{Configuration, may, may_take, is_empty}
 use Rattle.machine_pws.proofs.Ranges.{format_no_ff}
 use Rattle.list_theory.specs.Verdict as lists
 use Rattle.list_theory.specs.Decision as decision
-use Rattle.list_theory.proofs.Verdict.{verdict_unique, verdict-judged}
+use Rattle.list_theory.proofs.Verdict.{verdict_unique, verdict_judged}
 use Rattle.file_contents.specs.declared.evidence.Part.{Part}
 use Rattle.file_contents.specs.declared.evidence.Part.TheVariants.{InProgram}
 use Rattle.file_contents.specs.Reading as reading
@@ -133,17 +133,17 @@ module _ (u : reading.Input) (area : ℕ) where
     read : ListRead P ts es area
     read = list_read u area q
 
-    pub list-range : ProgramInRange P
-    list-range = read.part.program
+    pub list_range : ProgramInRange P
+    list_range = read.part.program
 
-    pub file-list-judged : lists.ListJudged P ts es (decision.verdict_of P ts es)
-    file-list-judged =
-        verdict-judged P list-range.well_formed es (λ k l. (read.entries k l).of) ts (λ k l. read.part.targets k l) (λ k l. (read.entries k l).first) (format_no_ff list-range.shape)
+    pub file_list_judged : lists.ListJudged P ts es (decision.verdict_of P ts es)
+    file_list_judged =
+        verdict_judged P list_range.well_formed es (λ k l. (read.entries k l).of) ts (λ k l. read.part.targets k l) (λ k l. (read.entries k l).first) (format_no_ff list_range.shape)
 
   file_judged : (r : reading.FileRead) → Reads r → FileJudged r (of_file r) × ((v : Verdict) → FileJudged r v → v ≡ of_file r)
   file_judged (reading.refused w₀ r) q = (refl, λ v e. e)
   file_judged (reading.list P ts es) q =
-      let j = file-list-judged P ts es q in
+      let j = file_list_judged P ts es q in
       ((decision.verdict_of P ts es, j, refl), λ v x. x.2 ∙ ap of_list (verdict_unique P ts es x.0 (decision.verdict_of P ts es) x.1 j))
   file_judged (reading.run P ts m ss) q = (refl, λ v e. e)
   file_judged (reading.pso_run P ts m ss) q = (refl, λ v e. e)
@@ -170,7 +170,7 @@ entered_step u area k s e = go (reading.read_file u area) refl
     go (reading.refused w₀ r) q = absurd (let z : ◌≡◌ {A = ℕ} 2 4 = ap kind (sym (judged_as u area _ q) ∙ e) in omega arith)
     go (reading.list P ts es) q =
         let z = sym (list_back (decision.verdict_of P ts es)) ∙ ap to_list (sym (judged_as u area _ q) ∙ e) in
-        let w = (subst (lists.ListJudged P ts es) z (file-list-judged u area P ts es q)).way.way in
+        let w = (subst (lists.ListJudged P ts es) z (file_list_judged u area P ts es q)).way.way in
         let R = list_read u area q in
         (P, R.part.program, R.part.transitions, step_of P w.configuration s w.permitted)
     go (reading.run P ts m ss) q = absurd (never_both (lists.entered k s) _ (run_is (run_answer P ts m ss)) (sym e ∙ judged_as u area _ q))

@@ -3,16 +3,16 @@ use native.Mathlib.Omega.{arith}
 use lib.Seq.{length-take-le}
 use Rattle.verdict.proofs.AreaLaws.{upper_same}
 use Rattle.file_contents.specs.Reading.{input}
-use Rattle.judge.proofs.JudgeLaws.{unread-returned, upper-ready, list_returned, run-returned}
+use Rattle.judge.proofs.JudgeLaws.{unread_returned, upper_ready, list_returned, run_returned}
 use native.Mathlib.Omega.{arith}
 use Rattle.judge.proofs.judge_file.Goals as goal
 
 pub returns-in_default : goal.returns-in_default
-returns-in_default c = let s = unread-returned (input c.args.alone c.args.code.now c.args.file.now) c.args.work.now c.read-reading.result c.read-reading.ensures.value
+returns-in_default c = let s = unread_returned (input c.args.alone c.args.code.now c.args.file.now) c.args.work.now c.read-reading.result c.read-reading.ensures.value
     c.in_default.field-0 _ c.in_default.is c.refusal_of.ensures _ c.read-reading.ensures.work_after c.requires in record { result_value = s.0; result_value_2 = s.1.0; work_unchanged = s.1.1 }
 
 pub list_judged-requires : goal.list_judged-requires
-list_judged-requires c = upper-ready (input c.args.alone c.args.code.now c.args.file.now) c.args.work.now c.read-reading.result c.read-reading.ensures.value
+list_judged-requires c = upper_ready (input c.args.alone c.args.code.now c.args.file.now) c.args.work.now c.read-reading.result c.read-reading.ensures.value
     c.in-Fine.is _ c.read-reading.ensures.work_after c.if-contents-eq0.true _ c.summary_place-at.ensures
     c.requires c.read-reading.auto.work
 
@@ -28,6 +28,6 @@ pub slice_bounds-replay_answer-end-2 : goal.slice_bounds-replay_answer-end-2
 slice_bounds-replay_answer-end-2 c = sym (length-take-le 16384 c.read-reading.new.work (omega (arith, c.requires)))
 
 pub returns : goal.returns
-returns c = let s = run-returned (input c.args.alone c.args.code.now c.args.file.now) c.args.work.now c.read-reading.result c.read-reading.ensures.value
+returns c = let s = run_returned (input c.args.alone c.args.code.now c.args.file.now) c.args.work.now c.read-reading.result c.read-reading.ensures.value
     c.in-Fine.is c.if-contents-eq0.false _ c.read-reading.ensures.work_after c.requires c.read-reading.auto.work
     c.replay_answer.result _ c.replay_answer.ensures.lower_after c.replay_answer.ensures.result_value in record { result_value = s.0; result_value_2 = s.1.0; work_unchanged = s.1.1 }

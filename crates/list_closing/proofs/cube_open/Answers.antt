@@ -8,7 +8,7 @@ use Rattle.list_cube.proofs.MessageLaws.{all_messages}
 use Rattle.list_closing.specs.Walk.{step_held}
 use Rattle.list_closing.proofs.WalkLaws.{walk_take, walk_serialise, walk_update}
 use Rattle.list_closing.proofs.FullLaws.{walk_full}
-use Rattle.list_closing.proofs.FamilyLaws.{walk-family}
+use Rattle.list_closing.proofs.FamilyLaws.{walk_family}
 use Rattle.list_closing.proofs.cube_open.Goals as goal
 
 pub returns-then-t-m : goal.returns-then-t-m
@@ -30,7 +30,7 @@ pub overflow_add-result-then-in_full_family : goal.overflow_add-result-then-in_f
 overflow_add-result-then-in_full_family c = omega (arith, c.least-m.ensures)
 
 pub returns-then-in_full_family : goal.returns-then-in_full_family
-returns-then-in_full_family c = λ W F Y. rw c.least-m.ensures (walk-family c.args.code.now c.args.file.now c.args.list.now c.args.sum.now c.args.n c.args.program c.args.cube c.args.families.now W Y (c.in_full_family.ensures c.if-in_full_family.true) (min c.args.program.transitions.count 256) c.open_take-t.result c.open_serialise-s.result (c.open_take-t.ensures.1 W (all_messages W.stepping.sound c.last_writes-writes.result c.last_writes-writes.ensures) F Y) (omega (arith, c.if-t-m.false, c.least-m.ensures)) (c.open_serialise-s.ensures.1 Y c.args.code.now W) (omega (arith, c.if-s-lt16.false)))
+returns-then-in_full_family c = λ W F Y. rw c.least-m.ensures (walk_family c.args.code.now c.args.file.now c.args.list.now c.args.sum.now c.args.n c.args.program c.args.cube c.args.families.now W Y (c.in_full_family.ensures c.if-in_full_family.true) (min c.args.program.transitions.count 256) c.open_take-t.result c.open_serialise-s.result (c.open_take-t.ensures.1 W (all_messages W.stepping.sound c.last_writes-writes.result c.last_writes-writes.ensures) F Y) (omega (arith, c.if-t-m.false, c.least-m.ensures)) (c.open_serialise-s.ensures.1 Y c.args.code.now W) (omega (arith, c.if-s-lt16.false)))
 
 pub overflow_add-result-2 : goal.overflow_add-result-2
 overflow_add-result-2 c = omega (arith, c.least-m.ensures)

@@ -4,7 +4,7 @@ use native.Mathlib.Omega.{arith}
 use lib.ListN.{length}
 use borrow.Author.Tests.{not-true, not-false}
 use Rattle.list_targets.proofs.JudgeLaws.{held_begin, held_next, held_all, judges_is}
-use Rattle.list_targets.proofs.ChannelSteps.{labelled_by, written_by, first_place, all_there, too_long, label-not, labels-held, next_place, next_message, refused, allowed-one, unplaced-not, was-placed, placed-too}
+use Rattle.list_targets.proofs.ChannelSteps.{labelled_by, written_by, first_place, all_there, too_long, label_not, labels_held, next_place, next_message, refused, allowed_one, unplaced_not, was_placed, placed_too}
 use Rattle.list_targets.specs.Walk.{leaf_of}
 use Rattle.list_targets.proofs.+choices_held_outlines_held.Goals as goal
 
@@ -33,7 +33,7 @@ pub choices_held-outlines_held-requires : goal.choices_held-outlines_held-requir
 choices_held-outlines_held-requires t c = (omega (arith, c.requires.more), next_message c.requires)
 
 pub choices_held-returns-then-processes-q : goal.choices_held-returns-then-processes-q
-choices_held-returns-then-processes-q t c = let u : c.args.d < length c.args.messages = omega (arith, c.requires.message.room, c.requires.more) in allowed-one c.requires (leaf_of c.args.file.now c.args.list.now c.args.shape c.args.states c.args.aim) c.args.messages c.args.places c.args.new c.if-processes-q.true (sym c.is_allowed.ensures ∙ not-false _ c.if-not-is_allowed.false-raw) u c.any_message-message.ensures c.outlines_held.ensures
+choices_held-returns-then-processes-q t c = let u : c.args.d < length c.args.messages = omega (arith, c.requires.message.room, c.requires.more) in allowed_one c.requires (leaf_of c.args.file.now c.args.list.now c.args.shape c.args.states c.args.aim) c.args.messages c.args.places c.args.new c.if-processes-q.true (sym c.is_allowed.ensures ∙ not-false _ c.if-not-is_allowed.false-raw) u c.any_message-message.ensures c.outlines_held.ensures
 
 pub choices_held-overflow_add-q : goal.choices_held-overflow_add-q
 choices_held-overflow_add-q t c = omega (arith, c.requires.message.small.processes)
@@ -42,13 +42,13 @@ pub choices_held-choices_held-unplaced-requires : goal.choices_held-choices_held
 choices_held-choices_held-unplaced-requires t c = (omega (arith, c.requires.message.small.processes), next_place c.requires c.if-processes-q.false)
 
 pub choices_held-returns-then-not-unplaced : goal.choices_held-returns-then-not-unplaced
-choices_held-returns-then-not-unplaced t c = let z : length c.args.new ≡ 4 = omega arith in let u : c.args.q < length c.args.new = omega (arith, z, c.if-processes-q.false, c.requires.message.small.processes) in unplaced-not c.requires (leaf_of c.args.file.now c.args.list.now c.args.shape c.args.states c.args.aim) c.args.messages c.args.places c.args.new c.if-processes-q.false c.choices_held-unplaced.ensures u (not-true _ c.if-not-unplaced.true-raw)
+choices_held-returns-then-not-unplaced t c = let z : length c.args.new ≡ 4 = omega arith in let u : c.args.q < length c.args.new = omega (arith, z, c.if-processes-q.false, c.requires.message.small.processes) in unplaced_not c.requires (leaf_of c.args.file.now c.args.list.now c.args.shape c.args.states c.args.aim) c.args.messages c.args.places c.args.new c.if-processes-q.false c.choices_held-unplaced.ensures u (not-true _ c.if-not-unplaced.true-raw)
 
 pub choices_held-bounds-places-q : goal.choices_held-bounds-places-q
 choices_held-bounds-places-q t c = omega (arith, c.requires.message.small.processes)
 
 pub choices_held-returns-then-places-q-ne0 : goal.choices_held-returns-then-places-q-ne0
-choices_held-returns-then-places-q-ne0 t c = was-placed c.requires (leaf_of c.args.file.now c.args.list.now c.args.shape c.args.states c.args.aim) c.args.messages c.args.places c.args.new c.if-processes-q.false c.choices_held-unplaced.ensures c.if-places-q-ne0.true
+choices_held-returns-then-places-q-ne0 t c = was_placed c.requires (leaf_of c.args.file.now c.args.list.now c.args.shape c.args.states c.args.aim) c.args.messages c.args.places c.args.new c.if-processes-q.false c.choices_held-unplaced.ensures c.if-places-q-ne0.true
 
 pub choices_held-overflow_add-placed : goal.choices_held-overflow_add-placed
 choices_held-overflow_add-placed t c = omega (arith, c.requires.message.room, c.requires.more)
@@ -66,7 +66,7 @@ pub choices_held-choices_held-requires : goal.choices_held-choices_held-requires
 choices_held-choices_held-requires t c = (omega (arith, c.requires.message.small.processes), next_place c.requires c.if-processes-q.false)
 
 pub choices_held-returns : goal.choices_held-returns
-choices_held-returns t c = let z : length c.args.new ≡ 4 = omega arith in let u : c.args.q < length c.args.new = omega (arith, z, c.if-processes-q.false, c.requires.message.small.processes) in placed-too c.requires (leaf_of c.args.file.now c.args.list.now c.args.shape c.args.states c.args.aim) c.args.messages c.args.places c.args.new c.if-processes-q.false c.choices_held-unplaced.ensures u c.if-places-q-ne0.false (not-false _ c.if-not-unplaced.false-raw) c.choices_held.ensures
+choices_held-returns t c = let z : length c.args.new ≡ 4 = omega arith in let u : c.args.q < length c.args.new = omega (arith, z, c.if-processes-q.false, c.requires.message.small.processes) in placed_too c.requires (leaf_of c.args.file.now c.args.list.now c.args.shape c.args.states c.args.aim) c.args.messages c.args.places c.args.new c.if-processes-q.false c.choices_held-unplaced.ensures u c.if-places-q-ne0.false (not-false _ c.if-not-unplaced.false-raw) c.choices_held.ensures
 
 pub outlines_held-all_placed-requires : goal.outlines_held-all_placed-requires
 outlines_held-all_placed-requires t c = c.requires.small.processes
@@ -90,7 +90,7 @@ pub outlines_held-choices_held-held-requires : goal.outlines_held-choices_held-h
 outlines_held-choices_held-held-requires t c = (omega arith, first_place c.requires c.loop-p.p c.loop-v.v c.if-most-d.false c.loop-p-test.true c.loop-v-test.true)
 
 pub outlines_held-returns-then-not-held : goal.outlines_held-returns-then-not-held
-outlines_held-returns-then-not-held t c = label-not c.requires (leaf_of c.args.file.now c.args.list.now c.args.shape c.args.states c.args.aim) c.args.messages c.args.places c.loop-p.p c.loop-v.v (sym c.all_placed.ensures ∙ c.if-all_placed.false) c.loop-p-test.true c.loop-v-test.true c.choices_held-held.ensures (not-true _ c.if-not-held.true-raw)
+outlines_held-returns-then-not-held t c = label_not c.requires (leaf_of c.args.file.now c.args.list.now c.args.shape c.args.states c.args.aim) c.args.messages c.args.places c.loop-p.p c.loop-v.v (sym c.all_placed.ensures ∙ c.if-all_placed.false) c.loop-p-test.true c.loop-v-test.true c.choices_held-held.ensures (not-true _ c.if-not-held.true-raw)
 
 pub outlines_held-overflow_step-v : goal.outlines_held-overflow_step-v
 outlines_held-overflow_step-v t c = omega (arith, c.requires.small.variables, c.loop-v-test.true)
@@ -111,4 +111,4 @@ pub outlines_held-loop-p-preserved : goal.outlines_held-loop-p-preserved
 outlines_held-loop-p-preserved t c = held_next c.loop-p.invariant c.loop-p-test.true (held_all c.loop-v.invariant c.loop-v-test.false)
 
 pub outlines_held-returns : goal.outlines_held-returns
-outlines_held-returns t c = labels-held c.requires (leaf_of c.args.file.now c.args.list.now c.args.shape c.args.states c.args.aim) c.args.messages c.args.places (sym c.all_placed.ensures ∙ c.if-all_placed.false) c.loop-p.invariant c.loop-p-test.false
+outlines_held-returns t c = labels_held c.requires (leaf_of c.args.file.now c.args.list.now c.args.shape c.args.states c.args.aim) c.args.messages c.args.places (sym c.all_placed.ensures ∙ c.if-all_placed.false) c.loop-p.invariant c.loop-p-test.false

@@ -15,7 +15,7 @@ use Rattle.file_records.specs.Records.{checked, target_number}
 use Rattle.file_records.specs.ProgramPart.{refusal_of, unless_end, at_end, targets_from}
 use Rattle.base.proofs.ByteLaws.{cut_fits}
 use Rattle.file_records.proofs.ProgramLaws.{few_targets}
-use Rattle.file_records.proofs.RecordLaws.{unless_fine, target-fine, row_ends, row_stops, row_step}
+use Rattle.file_records.proofs.RecordLaws.{unless_fine, target_fine, row_ends, row_stops, row_step}
 use Rattle.file_program.proofs.program.targets_from.Goals as goal
 
 abbrev ends : Bool → List ℕ → ℕ → ℕ → Bool
@@ -47,7 +47,7 @@ overflow_add-k c = let a = c.args in
     let k = c.loop-format.k in
     let n = c.loop-format.n in
     let e : check a.format a.shape a.states f k n ≡ Fine = sym (c.unless_end-answer.ensures ∙ ap (unless_end f k) c.check_target.ensures) ∙ c.in-Fine.is in
-    omega (arith, cut_fits f k 4 (target-fine f k a.format a.shape a.states n (unless_fine f k _ e).1).whole)
+    omega (arith, cut_fits f k 4 (target_fine f k a.format a.shape a.states n (unless_fine f k _ e).1).whole)
 
 pub overflow_add-n : goal.overflow_add-n
 unfolding targets_from
@@ -60,7 +60,7 @@ loop-format-smaller c = let a = c.args in
     let k = c.loop-format.k in
     let n = c.loop-format.n in
     let e : check a.format a.shape a.states f k n ≡ Fine = sym (c.unless_end-answer.ensures ∙ ap (unless_end f k) c.check_target.ensures) ∙ c.in-Fine.is in
-    omega (arith, leb-false (most_targets a.format) n (target-fine f k a.format a.shape a.states n (unless_fine f k _ e).1).room)
+    omega (arith, leb-false (most_targets a.format) n (target_fine f k a.format a.shape a.states n (unless_fine f k _ e).1).room)
 
 pub loop-format-preserved : goal.loop-format-preserved
 unfolding targets_from
@@ -70,7 +70,7 @@ loop-format-preserved c = let a = c.args in
     let n = c.loop-format.n in
     let d' : at_end a.alone f k n ≡ false = sym c.at_end.ensures ∙ not-true _ c.loop-format-test.true-raw in
     let e : check a.format a.shape a.states f k n ≡ Fine = sym (c.unless_end-answer.ensures ∙ ap (unless_end f k) c.check_target.ensures) ∙ c.in-Fine.is in
-    let l = leb-false (most_targets a.format) n (target-fine f k a.format a.shape a.states n (unless_fine f k _ e).1).room in
+    let l = leb-false (most_targets a.format) n (target_fine f k a.format a.shape a.states n (unless_fine f k _ e).1).room in
     (omega arith, sym (row_step (ends a.alone f) (check a.format a.shape a.states f) (λ k. 5) (most_targets a.format) k n l d' e) ∙ c.loop-format.invariant.1)
 
 pub returns : goal.returns

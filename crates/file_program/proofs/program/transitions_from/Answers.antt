@@ -14,7 +14,7 @@ use Rattle.file_records.specs.Format.{transition_kind}
 use Rattle.file_records.specs.Records.{checked, is_kind, transition_number}
 use Rattle.file_records.specs.ProgramPart.{refusal_of, transitions_from}
 use Rattle.base.proofs.ByteLaws.{cut_fits}
-use Rattle.file_records.proofs.RecordLaws.{transition-fine, row_ends, row_stops, row_step}
+use Rattle.file_records.proofs.RecordLaws.{transition_fine, row_ends, row_stops, row_step}
 use Rattle.file_program.proofs.program.transitions_from.Goals as goal
 
 abbrev ends : Format → List ℕ → ℕ → ℕ → Bool
@@ -47,7 +47,7 @@ overflow_add-k c = let a = c.args in
     let k = c.loop-format.k in
     let n = c.loop-format.n in
     let e : check a.format a.shape a.states f k n ≡ Fine = sym c.check_transition-answer.ensures ∙ c.in-Fine.is in
-    omega (arith, cut_fits f k 7 (transition-fine f k a.format a.shape a.states n e).whole)
+    omega (arith, cut_fits f k 7 (transition_fine f k a.format a.shape a.states n e).whole)
 
 pub loop-format-smaller : goal.loop-format-smaller
 unfolding transitions_from
@@ -56,7 +56,7 @@ loop-format-smaller c = let a = c.args in
     let k = c.loop-format.k in
     let n = c.loop-format.n in
     let e : check a.format a.shape a.states f k n ≡ Fine = sym c.check_transition-answer.ensures ∙ c.in-Fine.is in
-    omega (arith, leb-false 256 n (transition-fine f k a.format a.shape a.states n e).room)
+    omega (arith, leb-false 256 n (transition_fine f k a.format a.shape a.states n e).room)
 
 pub loop-format-preserved : goal.loop-format-preserved
 unfolding transitions_from
@@ -67,7 +67,7 @@ loop-format-preserved c = let a = c.args in
     let n = c.loop-format.n in
     let d : is_kind f k (transition_kind a.format) ≡ true = ap (is_kind f k) (sym kind) ∙ sym c.is_kind.ensures ∙ c.loop-format-test.true in
     let e : check a.format a.shape a.states f k n ≡ Fine = sym c.check_transition-answer.ensures ∙ c.in-Fine.is in
-    let l = leb-false 256 n (transition-fine f k a.format a.shape a.states n e).room in
+    let l = leb-false 256 n (transition_fine f k a.format a.shape a.states n e).room in
     (omega arith, sym (row_step (ends a.format f) (check a.format a.shape a.states f) (λ k. 8) 256 k n l (ap not d) e) ∙ c.loop-format.invariant.1)
 
 pub returns : goal.returns

@@ -1,6 +1,6 @@
 use Prim.Native.Nat.{ℕ, ◌≤◌}
 use mathlib.Core.Path.{◌≡◌}
-use Rattle.file_reading.proofs.EvidenceLaws.{claim_room, refused_returned, entries-returned, run-returned}
+use Rattle.file_reading.proofs.EvidenceLaws.{claim_room, refused_returned, entries_returned, run_returned}
 use Rattle.file_contents.specs.EvidencePart.{entries_allowed}
 use native.Mathlib.Omega.{arith}
 use Rattle.file_reading.proofs.evidence.read_evidence.Goals as goal
@@ -22,10 +22,10 @@ pub overflow_add-at-then-said-eq0 : goal.overflow_add-at-then-said-eq0
 overflow_add-at-then-said-eq0 c = omega (arith, claim_room c.args.file.now c.args.at c.args.program c.args.work.now _ _ c.check_claim.ensures c.unless_end-claim.ensures c.in-Fine.is)
 
 pub returns-then-said-eq0 : goal.returns-then-said-eq0
-returns-then-said-eq0 c = let r = entries-returned c.args.file.now c.args.at c.args.program c.args.work.now _ _ c.check_claim.ensures c.unless_end-claim.ensures c.in-Fine.is _ c.field-said.ensures c.if-said-eq0.true c.requires.0 _ c.entries_allowed-most.ensures _ c.entries_from-listed.ensures.value _ c.entries_from-listed.ensures.list_after _ c.reading_with.ensures in record { value = r.0; work_after = r.1 }
+returns-then-said-eq0 c = let r = entries_returned c.args.file.now c.args.at c.args.program c.args.work.now _ _ c.check_claim.ensures c.unless_end-claim.ensures c.in-Fine.is _ c.field-said.ensures c.if-said-eq0.true c.requires.0 _ c.entries_allowed-most.ensures _ c.entries_from-listed.ensures.value _ c.entries_from-listed.ensures.list_after _ c.reading_with.ensures in record { value = r.0; work_after = r.1 }
 
 pub overflow_add-at-2 : goal.overflow_add-at-2
 overflow_add-at-2 c = omega (arith, claim_room c.args.file.now c.args.at c.args.program c.args.work.now _ _ c.check_claim.ensures c.unless_end-claim.ensures c.in-Fine.is)
 
 pub returns : goal.returns
-returns c = let r = run-returned c.args.file.now c.args.at c.args.program c.args.work.now _ _ c.check_claim.ensures c.unless_end-claim.ensures c.in-Fine.is _ c.field-said.ensures c.if-said-eq0.false _ c.read_run.ensures in record { value = r.0; work_after = r.1 }
+returns c = let r = run_returned c.args.file.now c.args.at c.args.program c.args.work.now _ _ c.check_claim.ensures c.unless_end-claim.ensures c.in-Fine.is _ c.field-said.ensures c.if-said-eq0.false _ c.read_run.ensures in record { value = r.0; work_after = r.1 }

@@ -18,7 +18,7 @@ use Rattle.file_contents.specs.Tally.{count_of}
 use Rattle.file_reading.specs.Tally.{end_of, end_refusal}
 use Rattle.base.proofs.ByteLaws.{cut_fits}
 use Rattle.file_records.proofs.RecordLaws.{entry_fine}
-use Rattle.file_reading.proofs.ListLaws.{entry_past, end_whole, end_bad, list_ends, head-stops, entry_refused, wrote_length, listed_begin, listed_next}
+use Rattle.file_reading.proofs.ListLaws.{entry_past, end_whole, end_bad, list_ends, head_stops, entry_refused, wrote_length, listed_begin, listed_next}
 use Rattle.file_reading.proofs.list.entries_from.Goals as goal
 
 -- the 10 is fine, or its refusal
@@ -43,7 +43,7 @@ returns-in_default c = let a = c.args in
     let r = c.in_default.field-0 in
     let q : checked (entry_number a.shape a.states a.file.now c.loop-k.k (leb a.allowed c.loop-k.n)) c.loop-k.k ≡ Refused r = sym c.check_entry-head.ensures ∙ c.in_default.is in
     let e : entries_from a.allowed a.shape a.states a.file.now a.at [] [] ≡ stop_at L.offsets L.entries r =
-    sym L.reads ∙ head-stops a.shape a.states a.file.now c.loop-k.k L.offsets L.entries a.allowed c.loop-k.n c.loop-k-test.true r q in
+    sym L.reads ∙ head_stops a.shape a.states a.file.now c.loop-k.k L.offsets L.entries a.allowed c.loop-k.n c.loop-k-test.true r q in
     record { value = ap Stopped (c.refusal_of.ensures ∙ ap refusal_of c.in_default.is) ∙ sym (ap count_of e); list_after = L.wrote ∙ sym (ap (λ (x : EntriesRead). wrote_from 0 x.offsets a.list.now) e) }
 
 pub entry_from-end-requires : goal.entry_from-end-requires

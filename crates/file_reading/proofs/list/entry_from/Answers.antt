@@ -12,7 +12,7 @@ use Rattle.file_records.specs.Records.{checked, pointer_at}
 use Rattle.file_records.specs.ProgramPart.{refusal_of}
 use Rattle.file_contents.specs.EvidencePart.{complete}
 use Rattle.file_reading.specs.Tally.{number_by, end_of}
-use Rattle.file_reading.proofs.EntryLaws.{sofar_begin, sofar-room, sofar-fits, sofar-next, sofar_stops, sofar_ends}
+use Rattle.file_reading.proofs.EntryLaws.{sofar_begin, sofar_room, sofar_fits, sofar_next, sofar_stops, sofar_ends}
 use Rattle.file_reading.proofs.list.entry_from.Goals as goal
 
 -- the record's number was found fine, or its refusal
@@ -32,17 +32,17 @@ returns-in_default c = let a = c.args in
     ∙ sym (ap end_of (sofar_stops a.shape c.requires.1 c.requires.2 f a.start t k c.loop-answer.invariant c.in_default.field-0 (sym c.at_boundary.ensures ∙ c.loop-answer-test.true) e))
 
 pub tallied-tally-requires : goal.tallied-tally-requires
-tallied-tally-requires c = sofar-room c.args.shape c.requires.1 c.requires.2 c.args.file.now c.args.start c.loop-answer.tally c.loop-answer.k c.loop-answer.invariant (sym c.at_boundary.ensures ∙ c.loop-answer-test.true) (told c.args.shape c.args.file.now c.loop-answer.tally c.loop-answer.k c.answer-answer.ensures c.body_number.ensures c.in-Fine.is)
+tallied-tally-requires c = sofar_room c.args.shape c.requires.1 c.requires.2 c.args.file.now c.args.start c.loop-answer.tally c.loop-answer.k c.loop-answer.invariant (sym c.at_boundary.ensures ∙ c.loop-answer-test.true) (told c.args.shape c.args.file.now c.loop-answer.tally c.loop-answer.k c.answer-answer.ensures c.body_number.ensures c.in-Fine.is)
 
 pub overflow_add-k-in-loop-answer : goal.overflow_add-k-in-loop-answer
-overflow_add-k-in-loop-answer c = omega (arith, c.body_size-k.ensures, (sofar-fits c.args.shape c.requires.1 c.requires.2 c.args.file.now c.args.start c.loop-answer.tally c.loop-answer.k c.loop-answer.invariant (sym c.at_boundary.ensures ∙ c.loop-answer-test.true) (told c.args.shape c.args.file.now c.loop-answer.tally c.loop-answer.k c.answer-answer.ensures c.body_number.ensures c.in-Fine.is)).0)
+overflow_add-k-in-loop-answer c = omega (arith, c.body_size-k.ensures, (sofar_fits c.args.shape c.requires.1 c.requires.2 c.args.file.now c.args.start c.loop-answer.tally c.loop-answer.k c.loop-answer.invariant (sym c.at_boundary.ensures ∙ c.loop-answer-test.true) (told c.args.shape c.args.file.now c.loop-answer.tally c.loop-answer.k c.answer-answer.ensures c.body_number.ensures c.in-Fine.is)).0)
 
 pub loop-answer-smaller : goal.loop-answer-smaller
-loop-answer-smaller c = let w = sofar-fits c.args.shape c.requires.1 c.requires.2 c.args.file.now c.args.start c.loop-answer.tally c.loop-answer.k c.loop-answer.invariant (sym c.at_boundary.ensures ∙ c.loop-answer-test.true) (told c.args.shape c.args.file.now c.loop-answer.tally c.loop-answer.k c.answer-answer.ensures c.body_number.ensures c.in-Fine.is) in
+loop-answer-smaller c = let w = sofar_fits c.args.shape c.requires.1 c.requires.2 c.args.file.now c.args.start c.loop-answer.tally c.loop-answer.k c.loop-answer.invariant (sym c.at_boundary.ensures ∙ c.loop-answer-test.true) (told c.args.shape c.args.file.now c.loop-answer.tally c.loop-answer.k c.answer-answer.ensures c.body_number.ensures c.in-Fine.is) in
     omega (arith, c.body_size-k.ensures, w.0, w.1)
 
 pub loop-answer-preserved : goal.loop-answer-preserved
-loop-answer-preserved c = rw (c.tallied-tally.ensures, c.body_size-k.ensures) (sofar-next c.args.shape c.requires.1 c.requires.2 c.args.file.now c.args.start c.loop-answer.tally c.loop-answer.k c.loop-answer.invariant (sym c.at_boundary.ensures ∙ c.loop-answer-test.true) (told c.args.shape c.args.file.now c.loop-answer.tally c.loop-answer.k c.answer-answer.ensures c.body_number.ensures c.in-Fine.is))
+loop-answer-preserved c = rw (c.tallied-tally.ensures, c.body_size-k.ensures) (sofar_next c.args.shape c.requires.1 c.requires.2 c.args.file.now c.args.start c.loop-answer.tally c.loop-answer.k c.loop-answer.invariant (sym c.at_boundary.ensures ∙ c.loop-answer-test.true) (told c.args.shape c.args.file.now c.loop-answer.tally c.loop-answer.k c.answer-answer.ensures c.body_number.ensures c.in-Fine.is))
 
 pub returns-then-is_complete : goal.returns-then-is_complete
 returns-then-is_complete c = let a = c.args in

@@ -7,7 +7,7 @@ use lib.ListN.{replicate}
 use borrow.Author.Tests.{not-false}
 use Rattle.list_key.specs.Tags.{lowest_pointer}
 use Rattle.list_bytes.proofs.SameLaws.{never}
-use Rattle.list_bytes.proofs.PlacedLaws.{PointsSame, placed_begin, placed_keep, placed_skip, placed_over, placed_points, placed-yes, first_lowest, table_other, table_alike}
+use Rattle.list_bytes.proofs.PlacedLaws.{PointsSame, placed_begin, placed_keep, placed_skip, placed_over, placed_points, placed_yes, first_lowest, table_other, table_alike}
 use Rattle.list_bytes.proofs.messages.channel_at.Goals as goal
 
 pub pointers_at-pointers-requires : goal.pointers_at-pointers-requires
@@ -68,4 +68,4 @@ pub returns-then-not-points_within : goal.returns-then-not-points_within
 returns-then-not-points_within c = λ t. absurd (never c.not_same-then-not-points_within.result.same c.not_same-then-not-points_within.ensures t)
 
 pub returns : goal.returns
-returns c = λ t e k A. (λ x n. let w = (c.loop-j.invariant c.args.cube c.least-j.ensures c.pointing-2.ensures) in placed-yes w.1 (omega (arith, c.if-j-i.false, c.if-j-eq0.true)) c.if-j-eq0.true (not-false c.loop-j.all c.if-not-all.false-raw) e k n (ap (lowest_pointer c.args.shape) (k.pointers ∙ sym c.pointers_at-pointers.ensures) ∙ first_lowest c.args.shape c.pointers_at-pointers.result c.pointing.new.who c.pointing.ensures c.if-theirs-eq0.false) (subst (λ (zs : List ℕ). PointsSame c.args.shape.processes zs c.args.cube.pointers w.0 c.args.m) (sym (k.pointers ∙ sym c.pointers_at-pointers.ensures)) (placed_points w.1 c.requires.m_bound (omega (arith, c.if-j-i.false, c.if-j-eq0.true)) (c.points_within.ensures (not-false c.points_within.result c.if-not-points_within.false-raw)))) A, λ x. absurd (false≢true (sym x ∙ c.told-2.ensures)))
+returns c = λ t e k A. (λ x n. let w = (c.loop-j.invariant c.args.cube c.least-j.ensures c.pointing-2.ensures) in placed_yes w.1 (omega (arith, c.if-j-i.false, c.if-j-eq0.true)) c.if-j-eq0.true (not-false c.loop-j.all c.if-not-all.false-raw) e k n (ap (lowest_pointer c.args.shape) (k.pointers ∙ sym c.pointers_at-pointers.ensures) ∙ first_lowest c.args.shape c.pointers_at-pointers.result c.pointing.new.who c.pointing.ensures c.if-theirs-eq0.false) (subst (λ (zs : List ℕ). PointsSame c.args.shape.processes zs c.args.cube.pointers w.0 c.args.m) (sym (k.pointers ∙ sym c.pointers_at-pointers.ensures)) (placed_points w.1 c.requires.m_bound (omega (arith, c.if-j-i.false, c.if-j-eq0.true)) (c.points_within.ensures (not-false c.points_within.result c.if-not-points_within.false-raw)))) A, λ x. absurd (false≢true (sym x ∙ c.told-2.ensures)))

@@ -11,7 +11,7 @@ use Rattle.list_key.specs.Number.{with_tags}
 use Rattle.list_key.proofs.ChannelLaws.{low_positive}
 use Rattle.list_key.proofs.PackLaws.{tags_hit, tags_pass, number_gathered}
 use Rattle.list_key.proofs.CueLaws.{cueing_begin, cueing_next, cueing_end}
-use Rattle.list_key.proofs.SignatureLaws.{Signing, signing_begin, message-signed, message-unsigned, signing_end, queues_small}
+use Rattle.list_key.proofs.SignatureLaws.{Signing, signing_begin, message_signed, message_unsigned, signing_end, queues_small}
 use native.Mathlib.Omega.{arith}
 use Rattle.list_key.proofs.number.number_of.Goals as goal
 
@@ -52,13 +52,13 @@ pub loop-i-smaller-then-role : goal.loop-i-smaller-then-role
 loop-i-smaller-then-role c = omega (arith, c.loop-i-test.true)
 
 pub loop-i-preserved-then-role : goal.loop-i-preserved-then-role
-loop-i-preserved-then-role c = (tags_hit c.args.tags.now c.loop-i.i c.loop-i.h (with_tags c.args.tags.now c.least-i.result c.queues_taken-waiting.result.packed) c.loop-i.invariant.0 c.loop-i-test.true (leb-true 65536 (get_or c.args.tags.now (c.loop-i.i - 1) 0) c.if-role.true-raw) c.stir.ensures, message-signed (min c.args.shape.variables 4) c.wide-low.result c.args.tags.now c.args.cube.messages (signed (min c.args.shape.variables 4) c.wide-low.result c.args.tags.now c.args.cube.messages c.least-i.result 0 c.queues_taken-waiting.result.bits) c.loop-i.i c.loop-i.r c.loop-i.bits (leb 65536 (get_or c.args.tags.now (c.loop-i.i - 1) 0)) c.loop-i.invariant.1 (subst (λ (k : ℕ). 0 < k) (sym (c.wide-low.ensures ∙ c.lowest.ensures)) (low_positive c.args.shape c.args.cube.pointers)) c.loop-i-test.true refl (c.with_message-bits.ensures ∙ ap (λ (j : ℕ). cond (leb c.wide-low.result j) (bit_or c.loop-i.bits (message_bits (min c.args.shape.variables 4) c.loop-i.r (leb 65536 (get_or c.args.tags.now (c.loop-i.i - 1) 0)) (get_or c.args.cube.messages (c.loop-i.i - 1) no_message))) c.loop-i.bits) (again_one c.loop-i-test.true)) c.if-role.true-raw, λ e. cueing_next (c.loop-i.invariant.2 e) c.loop-i-test.true (omega (arith, c.loop-i.invariant.1.few)) c.cue_of.ensures)
+loop-i-preserved-then-role c = (tags_hit c.args.tags.now c.loop-i.i c.loop-i.h (with_tags c.args.tags.now c.least-i.result c.queues_taken-waiting.result.packed) c.loop-i.invariant.0 c.loop-i-test.true (leb-true 65536 (get_or c.args.tags.now (c.loop-i.i - 1) 0) c.if-role.true-raw) c.stir.ensures, message_signed (min c.args.shape.variables 4) c.wide-low.result c.args.tags.now c.args.cube.messages (signed (min c.args.shape.variables 4) c.wide-low.result c.args.tags.now c.args.cube.messages c.least-i.result 0 c.queues_taken-waiting.result.bits) c.loop-i.i c.loop-i.r c.loop-i.bits (leb 65536 (get_or c.args.tags.now (c.loop-i.i - 1) 0)) c.loop-i.invariant.1 (subst (λ (k : ℕ). 0 < k) (sym (c.wide-low.ensures ∙ c.lowest.ensures)) (low_positive c.args.shape c.args.cube.pointers)) c.loop-i-test.true refl (c.with_message-bits.ensures ∙ ap (λ (j : ℕ). cond (leb c.wide-low.result j) (bit_or c.loop-i.bits (message_bits (min c.args.shape.variables 4) c.loop-i.r (leb 65536 (get_or c.args.tags.now (c.loop-i.i - 1) 0)) (get_or c.args.cube.messages (c.loop-i.i - 1) no_message))) c.loop-i.bits) (again_one c.loop-i-test.true)) c.if-role.true-raw, λ e. cueing_next (c.loop-i.invariant.2 e) c.loop-i-test.true (omega (arith, c.loop-i.invariant.1.few)) c.cue_of.ensures)
 
 pub loop-i-smaller : goal.loop-i-smaller
 loop-i-smaller c = omega (arith, c.loop-i-test.true)
 
 pub loop-i-preserved : goal.loop-i-preserved
-loop-i-preserved c = (tags_pass c.args.tags.now c.loop-i.i c.loop-i.h (with_tags c.args.tags.now c.least-i.result c.queues_taken-waiting.result.packed) c.loop-i.invariant.0 c.loop-i-test.true (leb-false 65536 (get_or c.args.tags.now (c.loop-i.i - 1) 0) c.if-role.false-raw), message-unsigned (min c.args.shape.variables 4) c.wide-low.result c.args.tags.now c.args.cube.messages (signed (min c.args.shape.variables 4) c.wide-low.result c.args.tags.now c.args.cube.messages c.least-i.result 0 c.queues_taken-waiting.result.bits) c.loop-i.i c.loop-i.r c.loop-i.bits (leb 65536 (get_or c.args.tags.now (c.loop-i.i - 1) 0)) c.loop-i.invariant.1 (subst (λ (k : ℕ). 0 < k) (sym (c.wide-low.ensures ∙ c.lowest.ensures)) (low_positive c.args.shape c.args.cube.pointers)) c.loop-i-test.true refl (c.with_message-bits.ensures ∙ ap (λ (j : ℕ). cond (leb c.wide-low.result j) (bit_or c.loop-i.bits (message_bits (min c.args.shape.variables 4) c.loop-i.r (leb 65536 (get_or c.args.tags.now (c.loop-i.i - 1) 0)) (get_or c.args.cube.messages (c.loop-i.i - 1) no_message))) c.loop-i.bits) (again_one c.loop-i-test.true)) c.if-role.false-raw, λ e. cueing_next (c.loop-i.invariant.2 e) c.loop-i-test.true (omega (arith, c.loop-i.invariant.1.few)) c.cue_of.ensures)
+loop-i-preserved c = (tags_pass c.args.tags.now c.loop-i.i c.loop-i.h (with_tags c.args.tags.now c.least-i.result c.queues_taken-waiting.result.packed) c.loop-i.invariant.0 c.loop-i-test.true (leb-false 65536 (get_or c.args.tags.now (c.loop-i.i - 1) 0) c.if-role.false-raw), message_unsigned (min c.args.shape.variables 4) c.wide-low.result c.args.tags.now c.args.cube.messages (signed (min c.args.shape.variables 4) c.wide-low.result c.args.tags.now c.args.cube.messages c.least-i.result 0 c.queues_taken-waiting.result.bits) c.loop-i.i c.loop-i.r c.loop-i.bits (leb 65536 (get_or c.args.tags.now (c.loop-i.i - 1) 0)) c.loop-i.invariant.1 (subst (λ (k : ℕ). 0 < k) (sym (c.wide-low.ensures ∙ c.lowest.ensures)) (low_positive c.args.shape c.args.cube.pointers)) c.loop-i-test.true refl (c.with_message-bits.ensures ∙ ap (λ (j : ℕ). cond (leb c.wide-low.result j) (bit_or c.loop-i.bits (message_bits (min c.args.shape.variables 4) c.loop-i.r (leb 65536 (get_or c.args.tags.now (c.loop-i.i - 1) 0)) (get_or c.args.cube.messages (c.loop-i.i - 1) no_message))) c.loop-i.bits) (again_one c.loop-i-test.true)) c.if-role.false-raw, λ e. cueing_next (c.loop-i.invariant.2 e) c.loop-i-test.true (omega (arith, c.loop-i.invariant.1.few)) c.cue_of.ensures)
 
 pub with_signature-requires : goal.with_signature-requires
 with_signature-requires c = c.loop-i.invariant.1.small

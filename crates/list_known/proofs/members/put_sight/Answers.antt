@@ -8,7 +8,7 @@ use Rattle.file_records.proofs.ProgramLaws.{and_true}
 use Rattle.file_again.specs.Again.{entries_of}
 use Rattle.list_theory.specs.Family.{FamilyHeld}
 use Rattle.list_known.specs.FamilyTable.{clue_of}
-use Rattle.list_known.proofs.MemberLaws.{sight-fits, sight-yes}
+use Rattle.list_known.proofs.MemberLaws.{sight_fits, sight_yes}
 use native.Mathlib.Omega.{arith}
 use Rattle.list_known.proofs.members.put_sight.Goals as goal
 
@@ -22,5 +22,5 @@ returns c = let d = c.put_family.ensures in
       full = λ l h F.
           let variable : c.args.v < c.args.shape.variables = omega (arith, c.if-shape-v.false) in
           d.1 _ _ (subst (λ (y : ℕ). FamilyHeld (shape_of c.args.shape) (entries_of c.args.file.now c.args.list.now c.args.n) (clue_of (1 + y + 4 * (c.args.v + 4 * c.args.p))) (entry (entries_of c.args.file.now c.args.list.now c.args.n) c.args.k)) (sym c.wide.ensures)
-          (sight-yes c.args.shape c.args.k c.args.file.now c.args.list.now c.args.sum.now c.args.n l h c.args.p c.args.v c.visible-x.result c.requires.1 c.requires.2 xe variable value (c.sees_held.ensures l h (sight-fits c.args.shape c.args.k c.args.file.now c.args.list.now c.args.sum.now c.args.n l h c.args.p c.args.v c.visible-x.result c.requires.1 c.requires.2 xe variable value) (not-false _ c.if-not-sees_held.false-raw)))) F;
+          (sight_yes c.args.shape c.args.k c.args.file.now c.args.list.now c.args.sum.now c.args.n l h c.args.p c.args.v c.visible-x.result c.requires.1 c.requires.2 xe variable value (c.sees_held.ensures l h (sight_fits c.args.shape c.args.k c.args.file.now c.args.list.now c.args.sum.now c.args.n l h c.args.p c.args.v c.visible-x.result c.requires.1 c.requires.2 xe variable value) (not-false _ c.if-not-sees_held.false-raw)))) F;
     }

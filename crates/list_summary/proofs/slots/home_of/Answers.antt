@@ -1,5 +1,5 @@
 use native.Mathlib.Omega.{arith}
-use Rattle.list_summary.proofs.SlotLaws.{zeros_few, home_few, home-low, home-high, home-none}
+use Rattle.list_summary.proofs.SlotLaws.{zeros_few, home_few, home_low, home_high, home_none}
 use borrow.Author.Rules.{rules}
 use Rattle.list_summary.proofs.slots.home_of.Goals as goal
 
@@ -13,10 +13,10 @@ pub overflow_shr-y : goal.overflow_shr-y
 overflow_shr-y c = zeros_few c.args.n c.if-n-lt2.false (search rules)
 
 pub returns-then-y-n : goal.returns-then-y-n
-returns-then-y-n c = home-low c.args.number c.args.n c.if-n-lt2.false c.if-y-n.true
+returns-then-y-n c = home_low c.args.number c.args.n c.if-n-lt2.false c.if-y-n.true
 
 pub returns-then-y-n-2 : goal.returns-then-y-n-2
-returns-then-y-n-2 c = home-high c.args.number c.args.n c.if-n-lt2.false c.if-y-n.false c.if-y-n-2.true
+returns-then-y-n-2 c = home_high c.args.number c.args.n c.if-n-lt2.false c.if-y-n.false c.if-y-n-2.true
 
 pub returns : goal.returns
-returns c = home-none c.args.number c.args.n c.if-n-lt2.false c.if-y-n.false c.if-y-n-2.false
+returns c = home_none c.args.number c.args.n c.if-n-lt2.false c.if-y-n.false c.if-y-n-2.false

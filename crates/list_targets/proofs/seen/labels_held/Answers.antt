@@ -5,7 +5,7 @@ use Rattle.file_contents.specs.Cube.{configuration_of}
 use Rattle.list_theory.specs.Lists.{for_below}
 use Rattle.list_targets.specs.Seeing.{witnessed_at}
 use Rattle.list_targets.proofs.JudgeLaws.{held_begin, held_next, held_all, judges_is}
-use Rattle.list_targets.proofs.SeenLaws.{label-unheld}
+use Rattle.list_targets.proofs.SeenLaws.{label_unheld}
 use Rattle.list_targets.proofs.seen.labels_held.Goals as goal
 
 pub loop-p-init : goal.loop-p-init
@@ -18,7 +18,7 @@ pub witness_held-held-requires : goal.witness_held-held-requires
 witness_held-held-requires c = (c.requires.0, (c.requires.1, (c.loop-p-test.true, c.loop-v-test.true)))
 
 pub returns-then-not-held : goal.returns-then-not-held
-returns-then-not-held c = label-unheld c.requires.0 c.args.i c.loop-p.p c.loop-v.v c.loop-p-test.true c.loop-v-test.true c.witness_held-held.ensures (not-true _ c.if-not-held.true-raw)
+returns-then-not-held c = label_unheld c.requires.0 c.args.i c.loop-p.p c.loop-v.v c.loop-p-test.true c.loop-v-test.true c.witness_held-held.ensures (not-true _ c.if-not-held.true-raw)
 
 pub overflow_step-v : goal.overflow_step-v
 overflow_step-v c = omega (arith, c.loop-v-test.true, c.requires.0.movable.variables)

@@ -13,7 +13,7 @@ use Rattle.file_records.specs.Records.{checked}
 use Rattle.file_records.specs.ProgramPart.{refusal_of}
 use Rattle.pattern_reading.specs.Reading.{at_boundary}
 use Rattle.pattern_pass.specs.Seen.{seen_number, seen_complete, end_of_pattern}
-use Rattle.pattern_pass.proofs.SeenLaws.{sofar_begin, sofar-room, sofar-fits, sofar-next, sofar_stops, sofar_ends}
+use Rattle.pattern_pass.proofs.SeenLaws.{sofar_begin, sofar_room, sofar_fits, sofar_next, sofar_stops, sofar_ends}
 use Rattle.pattern_pass.proofs.pass.pattern_from.Goals as goal
 
 beyond : {r : Bool} (f : List ℕ) (k : ℕ) → r ≡ at_boundary f k → r ≡ false → at_boundary f k ≡ false
@@ -35,17 +35,17 @@ returns-in_default c = let a = c.args in
     ∙ sym (ap end_of_pattern (sofar_stops a.shape c.requires.1 c.requires.2 f a.start t k c.loop-answer.invariant c.in_default.field-0 (beyond c.args.file.now c.loop-answer.k c.at_boundary.ensures (not-true _ c.loop-answer-test.true-raw)) e))
 
 pub seen_more-seen-requires : goal.seen_more-seen-requires
-seen_more-seen-requires c = sofar-room c.args.shape c.requires.1 c.requires.2 c.args.file.now c.args.start c.loop-answer.seen c.loop-answer.k c.loop-answer.invariant (beyond c.args.file.now c.loop-answer.k c.at_boundary.ensures (not-true _ c.loop-answer-test.true-raw)) (found c.args.shape c.args.file.now c.loop-answer.k c.loop-answer.seen c.answer-answer.ensures c.seen_number.ensures c.in-Fine.is)
+seen_more-seen-requires c = sofar_room c.args.shape c.requires.1 c.requires.2 c.args.file.now c.args.start c.loop-answer.seen c.loop-answer.k c.loop-answer.invariant (beyond c.args.file.now c.loop-answer.k c.at_boundary.ensures (not-true _ c.loop-answer-test.true-raw)) (found c.args.shape c.args.file.now c.loop-answer.k c.loop-answer.seen c.answer-answer.ensures c.seen_number.ensures c.in-Fine.is)
 
 pub overflow_add-k-in-loop-answer : goal.overflow_add-k-in-loop-answer
-overflow_add-k-in-loop-answer c = omega (arith, c.body_size-k.ensures, (sofar-fits c.args.shape c.requires.1 c.requires.2 c.args.file.now c.args.start c.loop-answer.seen c.loop-answer.k c.loop-answer.invariant (beyond c.args.file.now c.loop-answer.k c.at_boundary.ensures (not-true _ c.loop-answer-test.true-raw)) (found c.args.shape c.args.file.now c.loop-answer.k c.loop-answer.seen c.answer-answer.ensures c.seen_number.ensures c.in-Fine.is)).0)
+overflow_add-k-in-loop-answer c = omega (arith, c.body_size-k.ensures, (sofar_fits c.args.shape c.requires.1 c.requires.2 c.args.file.now c.args.start c.loop-answer.seen c.loop-answer.k c.loop-answer.invariant (beyond c.args.file.now c.loop-answer.k c.at_boundary.ensures (not-true _ c.loop-answer-test.true-raw)) (found c.args.shape c.args.file.now c.loop-answer.k c.loop-answer.seen c.answer-answer.ensures c.seen_number.ensures c.in-Fine.is)).0)
 
 pub loop-answer-smaller : goal.loop-answer-smaller
-loop-answer-smaller c = let w = sofar-fits c.args.shape c.requires.1 c.requires.2 c.args.file.now c.args.start c.loop-answer.seen c.loop-answer.k c.loop-answer.invariant (beyond c.args.file.now c.loop-answer.k c.at_boundary.ensures (not-true _ c.loop-answer-test.true-raw)) (found c.args.shape c.args.file.now c.loop-answer.k c.loop-answer.seen c.answer-answer.ensures c.seen_number.ensures c.in-Fine.is) in
+loop-answer-smaller c = let w = sofar_fits c.args.shape c.requires.1 c.requires.2 c.args.file.now c.args.start c.loop-answer.seen c.loop-answer.k c.loop-answer.invariant (beyond c.args.file.now c.loop-answer.k c.at_boundary.ensures (not-true _ c.loop-answer-test.true-raw)) (found c.args.shape c.args.file.now c.loop-answer.k c.loop-answer.seen c.answer-answer.ensures c.seen_number.ensures c.in-Fine.is) in
     omega (arith, c.body_size-k.ensures, w.0, w.1)
 
 pub loop-answer-preserved : goal.loop-answer-preserved
-loop-answer-preserved c = rw (c.seen_more-seen.ensures, c.body_size-k.ensures) (sofar-next c.args.shape c.requires.1 c.requires.2 c.args.file.now c.args.start c.loop-answer.seen c.loop-answer.k c.loop-answer.invariant (beyond c.args.file.now c.loop-answer.k c.at_boundary.ensures (not-true _ c.loop-answer-test.true-raw)) (found c.args.shape c.args.file.now c.loop-answer.k c.loop-answer.seen c.answer-answer.ensures c.seen_number.ensures c.in-Fine.is))
+loop-answer-preserved c = rw (c.seen_more-seen.ensures, c.body_size-k.ensures) (sofar_next c.args.shape c.requires.1 c.requires.2 c.args.file.now c.args.start c.loop-answer.seen c.loop-answer.k c.loop-answer.invariant (beyond c.args.file.now c.loop-answer.k c.at_boundary.ensures (not-true _ c.loop-answer-test.true-raw)) (found c.args.shape c.args.file.now c.loop-answer.k c.loop-answer.seen c.answer-answer.ensures c.seen_number.ensures c.in-Fine.is))
 
 pub returns-then-is_complete : goal.returns-then-is_complete
 returns-then-is_complete c = let a = c.args in

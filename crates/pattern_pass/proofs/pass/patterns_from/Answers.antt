@@ -13,7 +13,7 @@ use Rattle.pattern_reading.specs.Records.{pattern_number}
 use Rattle.pattern_pass.specs.Seen.{end_refused}
 use Rattle.pattern_pass.specs.Passing.{PatternsListed, stopped_at, listed_from, count_listed}
 use Rattle.pattern_pass.proofs.SeenLaws.{read_pattern}
-use Rattle.pattern_pass.proofs.ListedLaws.{pattern_past, end_whole, end_bad, head_fine, list_ends, head-stops, pattern-refused, wrote_length, listed_begin, listed_next}
+use Rattle.pattern_pass.proofs.ListedLaws.{pattern_past, end_whole, end_bad, head_fine, list_ends, head_stops, pattern_refused, wrote_length, listed_begin, listed_next}
 use Rattle.pattern_pass.proofs.pass.patterns_from.Goals as goal
 
 same : (list₀ : List ℕ) {list : List ℕ} (os : List ℕ) → list ≡ wrote_from 0 os list₀ → length list ≡ length list₀
@@ -31,7 +31,7 @@ returns-in_default c = let a = c.args in
     let r = c.in_default.field-0 in
     let q : checked (pattern_number a.shape a.states a.file.now c.loop-k.k (leb a.allowed c.loop-k.n)) c.loop-k.k ≡ Refused r = sym c.check_pattern-head.ensures ∙ c.in_default.is in
     let e : listed_from a.allowed a.shape a.states a.file.now a.at [] [] ≡ stopped_at L.offsets L.patterns r =
-    sym L.reads ∙ head-stops a.shape a.states a.file.now c.loop-k.k L.offsets L.patterns a.allowed c.loop-k.n c.loop-k-test.true r q in
+    sym L.reads ∙ head_stops a.shape a.states a.file.now c.loop-k.k L.offsets L.patterns a.allowed c.loop-k.n c.loop-k-test.true r q in
     record { value = ap Stopped (c.refusal_of.ensures ∙ ap refusal_of c.in_default.is) ∙ sym (ap count_listed e); list_after = L.wrote ∙ sym (ap (λ (x : PatternsListed). wrote_from 0 x.offsets a.list.now) e) }
 
 pub pattern_from-end-requires : goal.pattern_from-end-requires
@@ -47,7 +47,7 @@ returns-in_default-end c = let a = c.args in
     let r = c.in_default-end.field-0 in
     let d = end_bad (read_pattern a.shape a.file.now c.loop-k.k) r (sym c.pattern_from-end.ensures ∙ c.in_default-end.is) in
     let e : listed_from a.allowed a.shape a.states a.file.now a.at [] [] ≡ stopped_at L.offsets L.patterns r =
-    sym L.reads ∙ pattern-refused a.shape a.states a.file.now c.loop-k.k L.offsets L.patterns a.allowed c.loop-k.n c.loop-k-test.true (sym c.check_pattern-head.ensures ∙ c.in-Fine.is) r d in
+    sym L.reads ∙ pattern_refused a.shape a.states a.file.now c.loop-k.k L.offsets L.patterns a.allowed c.loop-k.n c.loop-k-test.true (sym c.check_pattern-head.ensures ∙ c.in-Fine.is) r d in
     record { value = ap Stopped (c.end_refusal.ensures ∙ ap end_refused c.in_default-end.is) ∙ sym (ap count_listed e); list_after = L.wrote ∙ sym (ap (λ (x : PatternsListed). wrote_from 0 x.offsets a.list.now) e) }
 
 pub overflow_add-n : goal.overflow_add-n

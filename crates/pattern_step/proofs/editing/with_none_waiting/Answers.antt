@@ -1,5 +1,5 @@
 use Rattle.pattern_step.proofs.ClueLaws.{length_mapped}
-use Rattle.pattern_step.proofs.EditLaws.{none-stands}
+use Rattle.pattern_step.proofs.EditLaws.{none_stands}
 use native.Mathlib.Omega.{arith}
 use borrow.Author.Rules.{rules}
 use Rattle.pattern_step.proofs.editing.with_none_waiting.Goals as goal
@@ -8,4 +8,4 @@ pub returns-then-p-ge4 : goal.returns-then-p-ge4
 returns-then-p-ge4 c s k l e w b = absurd (omega (arith, c.if-p-ge4.true, w.processes))
 
 pub returns : goal.returns
-returns c s k l e w b = none-stands w c.args.p c.empty_clue-none.result (search (rules, length_mapped)) b c.empty_clue-none.ensures.0 c.empty_clue-none.ensures.1
+returns c s k l e w b = none_stands w c.args.p c.empty_clue-none.result (search (rules, length_mapped)) b c.empty_clue-none.ensures.0 c.empty_clue-none.ensures.1

@@ -5,7 +5,7 @@ use lib.ListN.{set}
 use lib.Dec.{eqb}
 use Rattle.pattern_step.specs.Meaning.{given, newest_of}
 use Rattle.pattern_step.proofs.ClueLaws.{length_mapped}
-use Rattle.pattern_step.proofs.PathLaws.{own_unjoined, free-joined, asked-joined}
+use Rattle.pattern_step.proofs.PathLaws.{own_unjoined, free_joined, asked_joined}
 use native.Mathlib.Omega.{arith}
 use borrow.Author.Rules.{rules}
 use Rattle.pattern_step.proofs.paths.join_read.Goals as goal
@@ -20,7 +20,7 @@ pub bounds-next-at : goal.bounds-next-at
 bounds-next-at c = omega (arith, c.wide-at.ensures, c.if-at-ge4.false)
 
 pub returns-then-u : goal.returns-then-u
-returns-then-u c w = ap (λ (k : ℕ). some (newest_of (set c.args.newest k c.args.r.value))) c.wide-at.ensures ∙ free-joined c.args.newest c.args.r c.if-r.false (search (rules, length_mapped)) w c.newest_of-u.ensures c.if-u.true
+returns-then-u c w = ap (λ (k : ℕ). some (newest_of (set c.args.newest k c.args.r.value))) c.wide-at.ensures ∙ free_joined c.args.newest c.args.r c.if-r.false (search (rules, length_mapped)) w c.newest_of-u.ensures c.if-u.true
 
 pub returns : goal.returns
-returns c w = ap (λ (k : ℕ). given (eqb c.newest_of-u.result c.args.r.value) (newest_of (set c.args.newest k c.args.r.value))) c.wide-at.ensures ∙ asked-joined c.args.newest c.args.r c.if-r.false (search (rules, length_mapped)) w c.newest_of-u.ensures c.if-u.false
+returns c w = ap (λ (k : ℕ). given (eqb c.newest_of-u.result c.args.r.value) (newest_of (set c.args.newest k c.args.r.value))) c.wide-at.ensures ∙ asked_joined c.args.newest c.args.r c.if-r.false (search (rules, length_mapped)) w c.newest_of-u.ensures c.if-u.false

@@ -10,7 +10,7 @@ use Rattle.pattern_reading.specs.Records.{asked}
 use Rattle.pattern_step.specs.Meaning.{clue_of}
 use Rattle.pattern_step.specs.Numbers.{message_numbered, swapped}
 use Rattle.pattern_step.proofs.ClueLaws.{asked_value}
-use Rattle.pattern_step.proofs.OperationLaws.{gives_none, gives_one, provided_no, provided_yes, clue-here}
+use Rattle.pattern_step.proofs.OperationLaws.{gives_none, gives_one, provided_no, provided_yes, clue_here}
 use Rattle.pattern_step.proofs.StoreLaws.{no_given, given_one, same_path, agrees_is, finished}
 use Rattle.pattern_theory.specs.Within.{covers}
 use native.Mathlib.Omega.{arith}
@@ -18,18 +18,18 @@ use Rattle.pattern_step.proofs.stores.before_arw.Goals as goal
 
 pub returns-then-not-can_empty : goal.returns-then-not-can_empty
 returns-then-not-can_empty c e w b d u = let dw : c.wide-at.result < c.args.shape.variables = omega (arith, c.wide-at.ensures) in
-    let k = clue-here w c.args.p b c.wide-at.result dw c.clue_of.result c.clue_of.ensures ∙ ap (e.clue c.args.p) c.wide-at.ensures in
+    let k = clue_here w c.args.p b c.wide-at.result dw c.clue_of.result c.clue_of.ensures ∙ ap (e.clue c.args.p) c.wide-at.ensures in
     gives_none (c.no_pattern.ensures c.args.shape) (provided_no (message_numbered c.args.shape.processes e.newest e.path c.args.p c.args.x (record { front = []; end = e.path c.args.p }) (swapped e c.args.p c.args.x c.args.old c.args.new) c.args.j) (ap can_empty (sym k) ∙ sym c.can_empty.ensures ∙ not-true c.can_empty.result c.if-not-can_empty.true-raw))
 
 pub returns-then-not-message : goal.returns-then-not-message
 returns-then-not-message c e w b d u = let dw : c.wide-at.result < c.args.shape.variables = omega (arith, c.wide-at.ensures) in
-    let k = clue-here w c.args.p b c.wide-at.result dw c.clue_of.result c.clue_of.ensures ∙ ap (e.clue c.args.p) c.wide-at.ensures in
+    let k = clue_here w c.args.p b c.wide-at.result dw c.clue_of.result c.clue_of.ensures ∙ ap (e.clue c.args.p) c.wide-at.ensures in
     let m = c.new_message-message.ensures e (e.path c.args.p) (swapped e c.args.p c.args.x c.args.old c.args.new) (same_path c.args.p w) b in
     gives_none (c.no_pattern-then-not-message.ensures c.args.shape) (no_given m (not-true c.new_message-message.result.there c.if-not-message.true) ∙ provided_yes (message_numbered c.args.shape.processes e.newest e.path c.args.p c.args.x (record { front = []; end = e.path c.args.p }) (swapped e c.args.p c.args.x c.args.old c.args.new) c.args.j) (ap can_empty (sym k) ∙ sym c.can_empty.ensures ∙ not-false c.can_empty.result c.if-not-can_empty.false-raw))
 
 pub returns-then-not-goes_to : goal.returns-then-not-goes_to
 returns-then-not-goes_to c e w b d u = let dw : c.wide-at.result < c.args.shape.variables = omega (arith, c.wide-at.ensures) in
-    let k = clue-here w c.args.p b c.wide-at.result dw c.clue_of.result c.clue_of.ensures ∙ ap (e.clue c.args.p) c.wide-at.ensures in
+    let k = clue_here w c.args.p b c.wide-at.result dw c.clue_of.result c.clue_of.ensures ∙ ap (e.clue c.args.p) c.wide-at.ensures in
     let m = c.new_message-message.ensures e (e.path c.args.p) (swapped e c.args.p c.args.x c.args.old c.args.new) (same_path c.args.p w) b in
     let g = given_one m (not-false c.new_message-message.result.there c.if-not-message.false) in
     let x4 : c.args.x < 4 = omega (arith, w.variables) in
@@ -38,7 +38,7 @@ returns-then-not-goes_to c e w b d u = let dw : c.wide-at.result < c.args.shape.
 
 pub returns : goal.returns
 returns c e w b d u = let dw : c.wide-at.result < c.args.shape.variables = omega (arith, c.wide-at.ensures) in
-    let k = clue-here w c.args.p b c.wide-at.result dw c.clue_of.result c.clue_of.ensures ∙ ap (e.clue c.args.p) c.wide-at.ensures in
+    let k = clue_here w c.args.p b c.wide-at.result dw c.clue_of.result c.clue_of.ensures ∙ ap (e.clue c.args.p) c.wide-at.ensures in
     let m = c.new_message-message.ensures e (e.path c.args.p) (swapped e c.args.p c.args.x c.args.old c.args.new) (same_path c.args.p w) b in
     let g = given_one m (not-false c.new_message-message.result.there c.if-not-message.false) in
     let x4 : c.args.x < 4 = omega (arith, w.variables) in

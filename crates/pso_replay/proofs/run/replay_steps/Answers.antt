@@ -5,7 +5,7 @@ use lib.ListN.{replicate}
 use Rattle.pso_layout.specs.Layout.{pso_move_of}
 use Rattle.pso_step.specs.Answering.{answer_in}
 use Rattle.pso_replay.specs.Loop.{run_from, replay_in}
-use Rattle.pso_replay.proofs.LoopLaws.{replaying_begin, replaying-done, replaying-stopped, replaying-next}
+use Rattle.pso_replay.proofs.LoopLaws.{replaying_begin, replaying_done, replaying_stopped, replaying_next}
 use Rattle.pso_replay.proofs.Replaying.{replay_right}
 use borrow.Author.Rules.{rules}
 use Rattle.pso_replay.proofs.run.replay_steps.Goals as goal
@@ -28,7 +28,7 @@ loop-i-smaller c = omega (arith, c.if-count-i.false)
 
 pub loop-i-preserved : goal.loop-i-preserved
 loop-i-preserved c = let g = c.args.code.now in
-    replaying-next c.loop-i.invariant c.pso_move-step.result c.if-count-i.false
+    replaying_next c.loop-i.invariant c.pso_move-step.result c.if-count-i.false
     (c.pso_move-step.ensures ∙ ap (pso_move_of g c.args.program.transitions) c.step_at.ensures)
     (sym c.step_answer-answer.ensures ∙ c.in-Permitted.is) c.next_step-k.ensures c.run_after-next.ensures c.store.ensures
 
@@ -38,9 +38,9 @@ returns c =
     let I = c.loop-i.invariant in
     let said : c.if-count-i.verdict ≡ replay_in a.code.now a.file.now a.program a.memory a.at a.count a.lower.now =
     (elim c.if-count-i.branch [
-      | then-count-i w ↦ w.verdict-is ∙ w.last_answer-verdict.ensures ∙ replaying-done I w.if-count-i.true
+      | then-count-i w ↦ w.verdict-is ∙ w.last_answer-verdict.ensures ∙ replaying_done I w.if-count-i.true
       | else-count-i+in_default w ↦ w.verdict-is ∙ w.stopped_by-verdict.ensures
-          ∙ replaying-stopped I w.step_answer-answer.result w.in_default.field-0 w.if-count-i.false
+          ∙ replaying_stopped I w.step_answer-answer.result w.in_default.field-0 w.if-count-i.false
           (w.step_answer-answer.ensures ∙ ap (answer_in c.loop-i.run c.loop-i.lower a.program.shape) (w.pso_move-step.ensures ∙ ap (pso_move_of a.code.now a.program.transitions) w.step_at.ensures))
           w.in_default.is
     ])

@@ -7,7 +7,7 @@ use lib.Dec.{eqb}
 use Rattle.register_machine.specs.Written.{states_of}
 use Rattle.register_program.proofs.Found.{found_read}
 use Rattle.register_program.proofs.HasLaws.{transitions_at, expand}
-use Rattle.register_program.proofs.CountLaws.{states_most, counting_begin, expansion, counting-step, counting-over, counting_end, said_over, said_count}
+use Rattle.register_program.proofs.CountLaws.{states_most, counting_begin, expansion, counting_step, counting_over, counting_end, said_over, said_count}
 use Rattle.register_program.proofs.count.transitions_of.Goals as goal
 
 pub loop-i-init : goal.loop-i-init
@@ -27,7 +27,7 @@ returns-then-total-gt256 c = let f = c.args.file.now in
     let e : x ≡ length (expand a.has (transitions_at f a.program.transitions.at i)) =
     c.expansions-total.ensures ∙ ap₂ (λ (b : Bool) (o : ℕ). states_of (b && not (eqb o 8)) (states_of (eqb o 6) 1)) (c.has_at.ensures ∙ ap (λ (q : ℕ). get_or a.has q false) (c.wide.ensures ∙ c.field.ensures)) c.field-in-loop-i.ensures
     ∙ expansion f a.has a.program.transitions.at i k C.place in
-    let w = counting-over C l x e c.if-total-gt256.true in
+    let w = counting_over C l x e c.if-total-gt256.true in
     said_over c.requires.0 c.requires.1 i w.0 w.1
 
 pub overflow_add-k : goal.overflow_add-k
@@ -46,7 +46,7 @@ loop-i-preserved c = let f = c.args.file.now in
     let e : x ≡ length (expand a.has (transitions_at f a.program.transitions.at i)) =
     c.expansions-total.ensures ∙ ap₂ (λ (b : Bool) (o : ℕ). states_of (b && not (eqb o 8)) (states_of (eqb o 6) 1)) (c.has_at.ensures ∙ ap (λ (q : ℕ). get_or a.has q false) (c.wide.ensures ∙ c.field.ensures)) c.field-in-loop-i.ensures
     ∙ expansion f a.has a.program.transitions.at i k C.place in
-    counting-step C l x e c.if-total-gt256.false
+    counting_step C l x e c.if-total-gt256.false
 
 pub returns : goal.returns
 returns c = let C = c.loop-i.invariant in

@@ -8,7 +8,7 @@ use lib.ListN.{length}
 use lib.Dec.{leb}
 use borrow.Author.Tests.{not-true, not-false}
 use Rattle.report_reading.specs.Parts.{ends_part}
-use Rattle.report_reading.proofs.EndLaws.{record_size, record_some, stops_at, goes_inside, walk_begins, walk_ends, walk-on}
+use Rattle.report_reading.proofs.EndLaws.{record_size, record_some, stops_at, goes_inside, walk_begins, walk_ends, walk_on}
 use Rattle.report_reading.proofs.parts.end_from.Goals as goal
 
 -- the test is that of the definition
@@ -27,7 +27,7 @@ loop-k-smaller c = let e = goes_inside c.args.program c.args.file.now c.loop-k.k
     omega (arith, ap length c.record_at.ensures, record_some c.args.file.now c.loop-k.k e, e)
 
 pub loop-k-preserved : goal.loop-k-preserved
-loop-k-preserved c = walk-on c.args.program c.args.file.now c.args.at c.loop-k.k c.loop-k.invariant (sym (test c.args.program c.args.file.now c.loop-k.k c.byte_at.ensures c.ends_part.ensures c.either.ensures) ∙ not-true _ c.loop-k-test.true-raw) _ (ap length c.record_at.ensures)
+loop-k-preserved c = walk_on c.args.program c.args.file.now c.args.at c.loop-k.k c.loop-k.invariant (sym (test c.args.program c.args.file.now c.loop-k.k c.byte_at.ensures c.ends_part.ensures c.either.ensures) ∙ not-true _ c.loop-k-test.true-raw) _ (ap length c.record_at.ensures)
 
 pub returns : goal.returns
 returns c = walk_ends c.args.program c.args.file.now c.args.at c.loop-k.k c.loop-k.invariant (sym (test c.args.program c.args.file.now c.loop-k.k c.byte_at.ensures c.ends_part.ensures c.either.ensures) ∙ not-false _ c.loop-k-test.false-raw)

@@ -5,7 +5,7 @@ use lib.ListN.{length}
 use lib.Seq.{length-take-le}
 use Rattle.file_records.specs.declared.program.Refusal.{Refusal}
 use Rattle.file_records.specs.ProgramPart.{refusal_of}
-use Rattle.report_reading.proofs.PartReturns.{end_room, part_begins, part_ends, place-room, fine-returned, refused_returned, area_returned}
+use Rattle.report_reading.proofs.PartReturns.{end_room, part_begins, part_ends, place_room, fine_returned, refused_returned, area_returned}
 use Rattle.report_reading.proofs.reading.read_part.Goals as goal
 
 pub slice_bounds-read-end : goal.slice_bounds-read-end
@@ -24,7 +24,7 @@ pub in_report-requires : goal.in_report-requires
 in_report-requires c = let a = c.args in
     let q = c.in_default.field-0 in
     let e : c.refusal_of.result.place ≡ q.place = ap (λ (r : Refusal). r.place) (c.refusal_of.ensures ∙ ap refusal_of c.in_default.is) in
-    let l : a.at + q.place ≤ length a.file.now = place-room a.file.now _ _ _ c.requires _ c.evidence_end-next.ensures _ c.read-reading.ensures.value q c.in_default.is in
+    let l : a.at + q.place ≤ length a.file.now = place_room a.file.now _ _ _ c.requires _ c.evidence_end-next.ensures _ c.read-reading.ensures.value q c.in_default.is in
     omega arith
 
 pub returns-in_default : goal.returns-in_default
@@ -33,4 +33,4 @@ returns-in_default c = let a = c.args in
 
 pub returns : goal.returns
 returns c = let a = c.args in
-    record { value = fine-returned a.file.now _ _ _ c.requires _ c.evidence_end-next.ensures _ c.read-reading.ensures.value c.in-Fine.is; work_after = area_returned a.file.now _ _ _ c.requires _ c.evidence_end-next.ensures a.work.now _ c.read-reading.ensures.work_after }
+    record { value = fine_returned a.file.now _ _ _ c.requires _ c.evidence_end-next.ensures _ c.read-reading.ensures.value c.in-Fine.is; work_after = area_returned a.file.now _ _ _ c.requires _ c.evidence_end-next.ensures a.work.now _ c.read-reading.ensures.work_after }

@@ -7,7 +7,7 @@ use Rattle.file_records.specs.declared.program.Checked.{Checked}
 use Rattle.file_records.specs.declared.program.Checked.TheVariants.{Refused}
 use Rattle.report_reading.specs.Reading.{read_part}
 use Rattle.report_reading.specs.Answers.{part_answer}
-use Rattle.report_reading.proofs.RunLaws.{known_begin, known_over, known_more, known-due, known_ready, known-refused, known_kept, known_next}
+use Rattle.report_reading.proofs.RunLaws.{known_begin, known_over, known_more, known_due, known_ready, known_refused, known_kept, known_next}
 use Rattle.report_reading.proofs.reading.runs_from.Goals as goal
 
 said : (f : List ℕ) (k : ℕ) {work work₀ : List ℕ} {x y : Checked} → work ≡ work₀ → x ≡ part_answer f k (read_part f (length work) k) → x ≡ y → part_answer f k (read_part f (length work₀) k) ≡ y
@@ -20,7 +20,7 @@ pub shape_of-work-in_default : goal.shape_of-work-in_default
 shape_of-work-in_default c = ap length c.loop-i.invariant.same
 
 pub returns-in_default : goal.returns-in_default
-returns-in_default c = record { value = c.in_default.is ∙ known-due c.loop-i.invariant c.loop-i-test.true c.in_default.field-0 (sym c.due_claim-due.ensures ∙ c.in_default.is); work_unchanged = c.loop-i.invariant.same }
+returns-in_default c = record { value = c.in_default.is ∙ known_due c.loop-i.invariant c.loop-i-test.true c.in_default.field-0 (sym c.due_claim-due.ensures ∙ c.in_default.is); work_unchanged = c.loop-i.invariant.same }
 
 pub read_part-answer-requires : goal.read_part-answer-requires
 read_part-answer-requires c = known_ready c.loop-i.invariant c.requires
@@ -34,7 +34,7 @@ returns-in_default-answer c = let a = c.args in
     let k = c.loop-i.k in
     let r = c.in_default-answer.field-0 in
     let e = sym c.due_claim-due.ensures ∙ c.in-Fine.is in
-    record { value = c.in_default-answer.is ∙ known-refused K c.loop-i-test.true e r (said a.file.now k K.same c.read_part-answer.ensures.value c.in_default-answer.is); work_unchanged = known_kept K c.loop-i-test.true e c.requires c.read_part-answer.ensures.work_after }
+    record { value = c.in_default-answer.is ∙ known_refused K c.loop-i-test.true e r (said a.file.now k K.same c.read_part-answer.ensures.value c.in_default-answer.is); work_unchanged = known_kept K c.loop-i-test.true e c.requires c.read_part-answer.ensures.work_after }
 
 pub loop-i-preserved : goal.loop-i-preserved
 loop-i-preserved c = let a = c.args in
