@@ -240,7 +240,7 @@ module _ (S : Shape) (R : WellFormedShape S) (es : List Configuration) (oes : (k
       let s = seen_memory S R p v x d.memory od.memory w k.shape (memory_shape S R k.shape k.in_shapes) k.fill a.below.h M in
       record {
         memory = s.memory;
-        in_cubes = in_each (memory_shapes S) (λ m. map (with_memory e) (seen_memories S p v x m)) k.in_shapes (Memᴰ.map (with_memory e) s.in-seen);
+        in_cubes = in_each (memory_shapes S) (λ m. map (with_memory e) (seen_memories S p v x m)) k.in_shapes (Memᴰ.map (with_memory e) s.in_seen);
         filled = s.filled;
       }
 

@@ -12,8 +12,8 @@ pub returns-then-c-eq0 : goal.returns-then-c-eq0
 unfolding mean_of
 returns-then-c-eq0 c = rw (sym c.is_plausible.ensures ∙ not-false _ c.if-not-is_plausible.false-raw, eq-eqb _ _ c.if-c-eq0.true) c.refused-then-c-eq0.ensures
 
-pub reduced_requires : goal.reduced_requires
-reduced_requires c = omega (arith, c.if-c-eq0.false)
+pub reduced-requires : goal.reduced-requires
+reduced-requires c = omega (arith, c.if-c-eq0.false)
 
 pub returns : goal.returns
 unfolding mean_of

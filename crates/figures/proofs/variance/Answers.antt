@@ -26,8 +26,8 @@ overflow_sub-c c = (plausible_bounds c.args.c (sym c.is_plausible.ensures ∙ no
 pub overflow_mul-c-3 : goal.overflow_mul-c-3
 overflow_mul-c-3 c = let b = plausible_bounds c.args.c (sym c.is_plausible.ensures ∙ not-false _ c.if-not-is_plausible.false-raw) in record { fits = product_fits _ _ (omega arith) (omega arith) }
 
-pub reduced_requires : goal.reduced_requires
-reduced_requires c = let b = plausible_bounds c.args.c (sym c.is_plausible.ensures ∙ not-false _ c.if-not-is_plausible.false-raw) in mul-pos (omega (arith, c.if-c-eq0.false)) (omega (arith, c.if-c-eq0.false))
+pub reduced-requires : goal.reduced-requires
+reduced-requires c = let b = plausible_bounds c.args.c (sym c.is_plausible.ensures ∙ not-false _ c.if-not-is_plausible.false-raw) in mul-pos (omega (arith, c.if-c-eq0.false)) (omega (arith, c.if-c-eq0.false))
 
 pub returns : goal.returns
 unfolding variance_of

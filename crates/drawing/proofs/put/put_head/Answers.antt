@@ -20,8 +20,8 @@ put-c-requires c = omega (arith, c.requires.1, head_length c.args.k, ap (λ (m :
 pub put_number-d-requires : goal.put_number-d-requires
 put_number-d-requires c = (omega (arith, c.requires.0), omega (arith, c.requires.1, head_length c.args.k, ap (λ (m : ℕ). length (decimal m)) (add-one c.args.k), c.put-a.ensures.after, c.put-a.auto.out, c.put_number-b.ensures.after, c.put_number-b.auto.out, c.put-c.ensures.after, c.put-c.auto.out))
 
-pub put_requires : goal.put_requires
-put_requires c = omega (arith, c.requires.1, head_length c.args.k, ap (λ (m : ℕ). length (decimal m)) (add-one c.args.k), c.put-a.ensures.after, c.put-a.auto.out, c.put_number-b.ensures.after, c.put_number-b.auto.out, c.put-c.ensures.after, c.put-c.auto.out, c.put_number-d.ensures.after, c.put_number-d.auto.out)
+pub put-requires : goal.put-requires
+put-requires c = omega (arith, c.requires.1, head_length c.args.k, ap (λ (m : ℕ). length (decimal m)) (add-one c.args.k), c.put-a.ensures.after, c.put-a.auto.out, c.put_number-b.ensures.after, c.put_number-b.auto.out, c.put-c.ensures.after, c.put-c.auto.out, c.put_number-d.ensures.after, c.put_number-d.auto.out)
 
 pub returns : goal.returns
 returns c = put_as (then_put (then_put (then_put (then_put c.put-a.ensures c.put_number-b.ensures) c.put-c.ensures) c.put_number-d.ensures) c.put.ensures) (head_parts c.args.k)

@@ -3,23 +3,23 @@ use Rattle.drawing.proofs.PutLaws.{then_put, put_as}
 use native.Mathlib.Omega.{arith}
 use Rattle.drawing.proofs.put.put_letters.Goals as goal
 
-pub put_next_requires : goal.put_next_requires
+pub put-next-requires : goal.put-next-requires
 unfolding letters
-put_next_requires c = let h = rw c.in-Take.is at c.requires.1 in omega (arith, h)
+put-next-requires c = let h = rw c.in-Take.is at c.requires.1 in omega (arith, h)
 
 pub put_number-requires : goal.put_number-requires
 unfolding letters
 put_number-requires c = let h = rw c.in-Take.is at c.requires.1 in let g = rw c.in-Take.is at c.requires.0 in (omega (arith, g), omega (arith, h, c.put-next.ensures.after, c.put-next.auto.out))
 
-pub digit_requires : goal.digit_requires
-digit_requires c = let g = rw c.in-Serialise.is at c.requires.0 in omega (arith, g.0)
+pub digit-requires : goal.digit-requires
+digit-requires c = let g = rw c.in-Serialise.is at c.requires.0 in omega (arith, g.0)
 
 pub digit-requires-in-Serialise : goal.digit-requires-in-Serialise
 digit-requires-in-Serialise c = let g = rw c.in-Serialise.is at c.requires.0 in omega (arith, g.1)
 
-pub put_requires : goal.put_requires
+pub put-requires : goal.put-requires
 unfolding letters
-put_requires c = let h = rw c.in-Serialise.is at c.requires.1 in omega (arith, h)
+put-requires c = let h = rw c.in-Serialise.is at c.requires.1 in omega (arith, h)
 
 pub digit-requires-in-Update : goal.digit-requires-in-Update
 digit-requires-in-Update c = let g = rw c.in-Update.is at c.requires.0 in omega (arith, g)

@@ -5,8 +5,8 @@ use mathlib.Core.Path.{ap}
 use native.Mathlib.Omega.{arith}
 use Rattle.drawing.proofs.put.put_number.Goals as goal
 
-pub put_requires : goal.put_requires
-put_requires c = let n = c.args.n in omega (arith, ap length (decimal_one n c.if-n-lt10.true), c.requires.1)
+pub put-requires : goal.put-requires
+put-requires c = let n = c.args.n in omega (arith, ap length (decimal_one n c.if-n-lt10.true), c.requires.1)
 
 pub returns-then-n-lt10 : goal.returns-then-n-lt10
 returns-then-n-lt10 c = let n = c.args.n in put_as c.put.ensures (rw (decimal_one n c.if-n-lt10.true, c.digit.ensures))
@@ -23,8 +23,8 @@ put-requires-then-n-lt1000 c = let n = c.args.n in omega (arith, ap length (deci
 pub returns-then-n-lt1000 : goal.returns-then-n-lt1000
 returns-then-n-lt1000 c = let n = c.args.n in put_as c.put-then-n-lt1000.ensures (rw (decimal_three n c.if-n-lt100.false c.if-n-lt1000.true, c.digit-then-n-lt1000.ensures, c.digit-then-n-lt1000-2.ensures, c.digit-then-n-lt1000-3.ensures))
 
-pub put_requires_2 : goal.put_requires_2
-put_requires_2 c = let n = c.args.n in omega (arith, ap length (decimal_four n c.if-n-lt1000.false c.requires.0), c.requires.1)
+pub put-requires-2 : goal.put-requires-2
+put-requires-2 c = let n = c.args.n in omega (arith, ap length (decimal_four n c.if-n-lt1000.false c.requires.0), c.requires.1)
 
 pub returns : goal.returns
 returns c = let n = c.args.n in put_as c.put-2.ensures (rw (decimal_four n c.if-n-lt1000.false c.requires.0, c.digit-2.ensures, c.digit-3.ensures, c.digit-4.ensures, c.digit-5.ensures))

@@ -2,11 +2,11 @@ use Rattle.drawing.proofs.PutLaws.{put_as}
 use native.Mathlib.Omega.{arith}
 use Rattle.drawing.proofs.read.put_record.Goals as goal
 
-pub narrow_requires : goal.narrow_requires
-narrow_requires c = let g = rw c.in-Take.is at c.requires.0 in omega (arith, g)
+pub narrow-requires : goal.narrow-requires
+narrow-requires c = let g = rw c.in-Take.is at c.requires.0 in omega (arith, g)
 
-pub put_requires : goal.put_requires
-put_requires c = let h = rw c.in-Take.is at c.requires.1 in omega (arith, h)
+pub put-requires : goal.put-requires
+put-requires c = let h = rw c.in-Take.is at c.requires.1 in omega (arith, h)
 
 pub narrow-requires-in-Serialise : goal.narrow-requires-in-Serialise
 narrow-requires-in-Serialise c = let g = rw c.in-Serialise.is at c.requires.0 in omega (arith, g.0)

@@ -13,8 +13,8 @@ put_head-a-requires c = let k = c.args.k in let s = c.args.step in (c.requires.0
 pub put_letters-b-requires : goal.put_letters-b-requires
 put_letters-b-requires c = let k = c.args.k in let s = c.args.step in (c.requires.1, omega (arith, c.requires.2, edge_length k s, head_length k, c.put_head-a.ensures.after, c.put_head-a.auto.out))
 
-pub put_requires : goal.put_requires
-put_requires c = let k = c.args.k in let s = c.args.step in omega (arith, c.requires.2, edge_length k s, head_length k, c.put_head-a.ensures.after, c.put_head-a.auto.out, c.put_letters-b.ensures.after, c.put_letters-b.auto.out)
+pub put-requires : goal.put-requires
+put-requires c = let k = c.args.k in let s = c.args.step in omega (arith, c.requires.2, edge_length k s, head_length k, c.put_head-a.ensures.after, c.put_head-a.auto.out, c.put_letters-b.ensures.after, c.put_letters-b.auto.out)
 
 pub returns : goal.returns
 returns c = put_as (then_put (then_put c.put_head-a.ensures c.put_letters-b.ensures) c.put.ensures) (append_assoc (edge_head c.args.k) (letters c.args.step) edge_tail ∙ sym (edge_parts c.args.k c.args.step))

@@ -12,8 +12,8 @@ put_nodes-b-requires c = let f = c.args.steps.now in let n = c.args.n in let h =
 pub put_edges-c-requires : goal.put_edges-c-requires
 put_edges-c-requires c = let f = c.args.steps.now in let n = c.args.n in let h = text_sum f n in (c.requires.0, omega (arith, c.requires.1, h, c.put_opening-a.ensures.after, c.put_opening-a.auto.out, c.put_nodes-b.ensures.after, c.put_nodes-b.auto.out))
 
-pub put_requires : goal.put_requires
-put_requires c = let f = c.args.steps.now in let n = c.args.n in let h = text_sum f n in omega (arith, c.requires.1, h, c.put_opening-a.ensures.after, c.put_opening-a.auto.out, c.put_nodes-b.ensures.after, c.put_nodes-b.auto.out, c.put_edges-c.ensures.after, c.put_edges-c.auto.out)
+pub put-requires : goal.put-requires
+put-requires c = let f = c.args.steps.now in let n = c.args.n in let h = text_sum f n in omega (arith, c.requires.1, h, c.put_opening-a.ensures.after, c.put_opening-a.auto.out, c.put_nodes-b.ensures.after, c.put_nodes-b.auto.out, c.put_edges-c.ensures.after, c.put_edges-c.auto.out)
 
 pub returns : goal.returns
 returns c = (put_as (then_put (then_put (then_put c.put_opening-a.ensures c.put_nodes-b.ensures) c.put_edges-c.ensures) c.put.ensures) (text_parts c.args.steps.now c.args.n)).is

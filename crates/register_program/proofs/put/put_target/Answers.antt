@@ -19,9 +19,9 @@ pub pair-d-requires : goal.pair-d-requires
 unfolding chosen
 pair-d-requires c = (omega (arith, c.requires.0 3), c.requires.1 3)
 
-pub put_requires : goal.put_requires
+pub put-requires : goal.put-requires
 unfolding chosen
-put_requires c = omega (arith, c.requires.2)
+put-requires c = omega (arith, c.requires.2)
 
 pub returns : goal.returns
 unfolding chosen
