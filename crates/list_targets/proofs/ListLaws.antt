@@ -2,7 +2,7 @@
 use Prim.Native.Nat.{ℕ, zero, suc}
 use mathlib.Core.Path.{◌≡◌, refl, sym, ap, ap₂, ◌∙◌}
 use mathlib.Core.Bool.{Bool, true, false, ◌&&◌}
-use mathlib.Core.List.{List, [], ◌∷◌, ◌++◌, map, map_append, append-nil, append_assoc, Memᴰ}
+use mathlib.Core.List.{List, [], ◌∷◌, ◌++◌, map, map-append, append-nil, append_assoc, Memᴰ}
 use Rattle.list_theory.specs.Lists.{for_below, for_each, every}
 
 module _ {A : Type 0} (f : A → Bool) where
@@ -58,7 +58,7 @@ each_itself (x ∷ xs) = ap {A = List _} {B = List _} (λ ys. x ∷ ys) (each_it
 
 pub map_below : {A B : Type 0} (h : B → A) (n : ℕ) (f : ℕ → List B) → map h (for_below n f) ≡ for_below n (λ i. map h (f i))
 map_below h zero f = refl
-map_below h (suc n) f = map_append h (for_below n f) (f n) ∙ ap (λ (xs : List _). xs ++ map h (f n)) (map_below h n f)
+map_below h (suc n) f = map-append h (for_below n f) (f n) ∙ ap (λ (xs : List _). xs ++ map h (f n)) (map_below h n f)
 
 -- what is the same for each of a list
 pub each_same : {A B : Type 0} (xs : List B) (f g : B → List A) → ((x : B) → Memᴰ x xs → f x ≡ g x) → for_each xs f ≡ for_each xs g

@@ -1,7 +1,7 @@
 -- The walk over the queues of a shape.
 use Prim.Native.Nat.{ℕ, zero, suc, ◌+◌, ◌-◌, ◌*◌, ◌<◌, ◌≤◌}
 use mathlib.Core.Path.{fun_ext, ◌≡◌, sym, ap, subst, ◌∙◌}
-use mathlib.Core.List.{List, [], ◌∷◌, ◌++◌, map, append-nil, map_append}
+use mathlib.Core.List.{List, [], ◌∷◌, ◌++◌, map, append-nil, map-append}
 use native.Mathlib.Omega.{arith}
 use native.Mathlib.Numerals.{add-one}
 use lib.ListN.{length, length-set}
@@ -83,7 +83,7 @@ module _ (s : Shape) where
   unfolding queue_cubes
   cubes_branch c p v a b n l =
       ap (map (with_queues (configuration_of c))) (queue_branch p v (queue_of c.queues) l)
-      ∙ map_append (with_queues (configuration_of c)) (queues_from s p (v + 1) (queue_of c.queues)) (queues_from s p (v + 1) (put_queue (queue_of c.queues) p v (FF ∷ [])))
+      ∙ map-append (with_queues (configuration_of c)) (queues_from s p (v + 1) (queue_of c.queues)) (queues_from s p (v + 1) (put_queue (queue_of c.queues) p v (FF ∷ [])))
       ∙ ap (λ (q : Queues). map (with_queues (configuration_of c)) (queues_from s p (v + 1) (queue_of c.queues)) ++ map (with_queues (configuration_of c)) (queues_from s p (v + 1) q))
       (sym (queue_put c.queues p v one_free a b n))
 

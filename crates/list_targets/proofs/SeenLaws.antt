@@ -3,7 +3,7 @@ use Prim.Native.Nat.{ℕ, zero, suc, ◌+◌, ◌*◌, ◌-◌, ◌<◌, ◌≤�
 use mathlib.Core.Path.{fun_ext, ◌≡◌, refl, sym, ap, ap₂, subst, ◌∙◌}
 use mathlib.Core.Bool.{Bool, true, false, cond, not, ◌&&◌}
 use mathlib.Core.List.Memᴰ
-use mathlib.Core.List.{List, [], ◌∷◌, ◌++◌, map, map_append, Memᴰ}
+use mathlib.Core.List.{List, [], ◌∷◌, ◌++◌, map, map-append, Memᴰ}
 use native.Mathlib.Omega.{arith}
 use native.Mathlib.Numerals.{add-one}
 use lib.ListN.{length, get_or}
@@ -157,7 +157,7 @@ module _ (s : Shape) (aim : Aim) (c : Cube) where
 
   whole_is : whole ≡ for_below c.count (valued_at (configuration_of c) aim) ++ for_below c.count (labelled_at (shape_of s) (configuration_of c) aim)
   whole_is =
-      map_append (with_memory (configuration_of c)) (for_below (length (configuration_of c).memory.channel) (λ i. valued aim.process aim.variable aim.value (configuration_of c).memory (suc i)))
+      map-append (with_memory (configuration_of c)) (for_below (length (configuration_of c).memory.channel) (λ i. valued aim.process aim.variable aim.value (configuration_of c).memory (suc i)))
       (for_below (length (configuration_of c).memory.channel) (λ i. for_below s.processes (λ r. for_below s.variables (λ u. witnessed (shape_of s) aim.process aim.variable aim.value (configuration_of c).memory (suc i) r u))))
       ∙ ap₂ {A = List Configuration} {B = List Configuration} ◌++◌ values_are witnesses_are
     where
