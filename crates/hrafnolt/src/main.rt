@@ -135,7 +135,8 @@ fn line_for(input: &[u8], line: &mut [u8]) -> usize
     ensures prefix_len { IsPrefixLen result line.new }
     ensures line_of { LineOf (said input.now) (take result line.new) }
 {
-    if input.len() > 65536 {
+    let is_long = input.len() > 65536;
+    if is_long {
         return put_line(
             line,
             Verdict {
