@@ -86,7 +86,8 @@ pub fn add_safe(c: Collection, entries: u64) -> Collected
     if !has_room(c) {
         return unchanged(c);
     }
-    if MOST_ENTRIES < entries {
+    let is_long = MOST_ENTRIES < entries;
+    if is_long {
         return unchanged(c);
     }
     let next = Collection {
@@ -129,7 +130,8 @@ pub fn join(a: Collection, b: Collection) -> Collected
     if !is_plausible(b) {
         return unchanged(a);
     }
-    if MOST_RESULTS < a.results + b.results {
+    let are_many = MOST_RESULTS < a.results + b.results;
+    if are_many {
         return unchanged(a);
     }
     let next = Collection {
