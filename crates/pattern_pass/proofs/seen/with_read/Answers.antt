@@ -23,8 +23,8 @@ bounds-next-p-then-n-eq0 c = omega (arith, c.wide-p.ensures, c.field.ensures, c.
 
 pub returns-then-n-eq0 : goal.returns-then-n-eq0
 unfolding seen_read
-returns-then-n-eq0 c = rw (← c.field-then-n-eq0.ensures, ← c.field.ensures, ← c.wide-p.ensures, eq-eqb (get_or c.args.seen.reads c.wide-p.result 0) 0 c.if-n-eq0.true)
+returns-then-n-eq0 c = rw (← c.field-then-n-eq0.ensures, ← c.field.ensures, ← c.wide-p.ensures, eq-eqb _ 0 c.if-n-eq0.true)
 
 pub returns-else-n-eq0 : goal.returns-else-n-eq0
 unfolding seen_read
-returns-else-n-eq0 c = rw (← c.field.ensures, ← c.wide-p.ensures, ne_eqb (get_or c.args.seen.reads c.wide-p.result 0) 0 c.if-n-eq0.false)
+returns-else-n-eq0 c = rw (← c.field.ensures, ← c.wide-p.ensures, ne_eqb _ 0 c.if-n-eq0.false)
