@@ -2,5 +2,7 @@
 
 #![tactic(auto)]
 
+pub mod arrays;
+pub mod below;
 pub mod bytes;
 pub mod places;

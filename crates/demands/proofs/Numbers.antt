@@ -1,4 +1,5 @@
 -- The reading of the records refuses with a number from 1 to 7, or with 8 where the area is too short.
+use Rattle.std.specs.Prelude.{Result, Ok, Err, ⊤}
 use Prim.Native.Nat.{ℕ, zero, suc, ◌+◌, ◌≤◌}
 use mathlib.Core.Path.{◌≡◌, refl, sym, ap, subst, ◌∙◌}
 use mathlib.Core.Bool.{Bool, true, false, cond}
@@ -13,12 +14,7 @@ use Rattle.file_records.specs.declared.program.Format.{Format}
 use Rattle.file_records.specs.declared.program.Format.TheVariants.{Plain}
 use Rattle.file_records.specs.declared.program.Shape.{Shape}
 use Rattle.file_records.specs.declared.program.Refusal.{Refusal}
-use Rattle.file_records.specs.declared.program.Checked.{Checked}
-use Rattle.file_records.specs.declared.program.Checked.TheVariants.{Fine, Refused}
-use Rattle.file_records.specs.declared.program.Counted.{Counted}
-use Rattle.file_records.specs.declared.program.Counted.TheVariants.{Records, Stopped}
 use Rattle.file_records.specs.declared.program.Program.{Program}
-use Rattle.file_records.specs.declared.program.ProgramRead.{ProgramRead}
 use Rattle.base.specs.Bytes.{byte}
 use Rattle.file_records.specs.Format.{most_targets}
 use Rattle.file_records.specs.Records.{
@@ -39,13 +35,12 @@ use Rattle.file_records.specs.Records.{
 use Rattle.file_records.specs.ProgramPart.{
   unless_end,
   and_then,
-  count_then,
+  whether,
+  program_read,
   states_from,
   row_from,
   transitions_from,
   targets_from,
-  or_refused,
-  with_count,
   rows_from,
   rest_from,
   program_with,
@@ -82,13 +77,13 @@ Low r = (1 ≤ r.number) × (r.number ≤ 7)
 low : (n place : ℕ) → 1 ≤ n → n ≤ 7 → Low (record { number = n; place = place })
 low n place a b = (a, b)
 
-abbrev pub LowChecked : Checked → Type 0
-LowChecked Fine = Unit {0}
-LowChecked (Refused r) = Low r
+abbrev pub LowChecked : Result ⊤ Refusal → Type 0
+LowChecked (Ok _) = Unit {0}
+LowChecked (Err r) = Low r
 
-abbrev pub LowCounted : Counted → Type 0
-LowCounted (Records n) = Unit {0}
-LowCounted (Stopped r) = Low r
+abbrev pub LowCounted : Result ℕ Refusal → Type 0
+LowCounted (Ok n) = Unit {0}
+LowCounted (Err r) = Low r
 
 abbrev LowEntry : EntryRead → Type 0
 LowEntry (whole e next) = Unit {0}
@@ -126,17 +121,17 @@ pub checked_low : (n place : ℕ) → n ≤ 5 → LowChecked (checked n place)
 unfolding checked
 checked_low n place l = elim (ℕ_discrete n 0) [ yes e ↦ rw (eq-eqb n 0 e) tt | no e ↦ rw (ne_eqb n 0 e) (omega arith, omega arith) ]
 
-pub unless_low : (f : List ℕ) (at : ℕ) (x : Checked) → LowChecked x → LowChecked (unless_end f at x)
+pub unless_low : (f : List ℕ) (at : ℕ) (x : Result ⊤ Refusal) → LowChecked x → LowChecked (unless_end f at x)
 unfolding unless_end
-unless_low f at x h = each_cond LowChecked (leb (length f) at) (Refused (record { number = 6; place = length f })) x (low 6 (length f) (omega arith) (omega arith)) h
+unless_low f at x h = each_cond LowChecked (leb (length f) at) (Err (record { number = 6; place = length f })) x (low 6 (length f) (omega arith) (omega arith)) h
 
-and_low : (x : Checked) (y : Unit {0} → Checked) → LowChecked x → LowChecked (y tt) → LowChecked (and_then x y)
-and_low Fine y h k = k
-and_low (Refused r) y h k = h
+and_low : (x : Result ⊤ Refusal) (y : Unit {0} → Result ⊤ Refusal) → LowChecked x → LowChecked (y tt) → LowChecked (and_then x y)
+and_low (Ok _) y h k = k
+and_low (Err r) y h k = h
 
-count_low : (x : Checked) (y : Unit {0} → Counted) → LowChecked x → LowCounted (y tt) → LowCounted (count_then x y)
-count_low Fine y h k = k
-count_low (Refused r) y h k = h
+count_low : (x : Result ⊤ Refusal) (y : Unit {0} → Result ℕ Refusal) → LowChecked x → LowCounted (y tt) → LowCounted (and_then x y)
+count_low (Ok _) y h k = k
+count_low (Err r) y h k = h
 
 -- ---- the program part
 
@@ -147,20 +142,20 @@ states_low f (suc n) at =
     and_low (unless_end f at (checked (states_number f at) at)) (λ _. states_from f (at + 3) n)
     (unless_low f at _ (checked_low (states_number f at) at (first_low _ _ _ _ _))) (states_low f n (at + 3))
 
-pub row_low : (ends : ℕ → ℕ → Bool) (check : ℕ → ℕ → Checked) (size : ℕ → ℕ) → ((at n : ℕ) → LowChecked (check at n)) → (left at n : ℕ)
+pub row_low : (ends : ℕ → ℕ → Bool) (check : ℕ → ℕ → Result ⊤ Refusal) (size : ℕ → ℕ) → ((at n : ℕ) → LowChecked (check at n)) → (left at n : ℕ)
     → LowCounted (row_from ends check size left at n)
 unfolding row_from
 row_low ends check size h zero at n = each_choice LowCounted (ends at n) _ _ tt (count_low (check at n) _ (h at n) tt)
 row_low ends check size h (suc left) at n =
     each_choice LowCounted (ends at n) _ _ tt (count_low (check at n) _ (h at n) (row_low ends check size h left (at + size at) (suc n)))
 
-or_low : (x : Checked) (y : Unit {0} → ProgramRead) → LowChecked x → LowChecked (y tt).answer → LowChecked (or_refused x y).answer
-or_low Fine y h k = k
-or_low (Refused r) y h k = h
+or_low : (x : Result ⊤ Refusal) (y : Unit {0} → Result Program Refusal) → LowChecked x → LowChecked (whether (y tt)) → LowChecked (whether (and_then x y))
+or_low (Ok _) y h k = k
+or_low (Err r) y h k = h
 
-with_low : (x : Counted) (y : ℕ → ProgramRead) → LowCounted x → ((n : ℕ) → LowChecked (y n).answer) → LowChecked (with_count x y).answer
-with_low (Records n) y h k = k n
-with_low (Stopped r) y h k = h
+with_low : (x : Result ℕ Refusal) (y : ℕ → Result Program Refusal) → LowCounted x → ((n : ℕ) → LowChecked (whether (y n))) → LowChecked (whether (and_then x y))
+with_low (Ok n) y h k = k n
+with_low (Err r) y h k = h
 
 module _ (k : Format) where
   transitions_low : (s : Shape) (states f : List ℕ) (at : ℕ) → LowCounted (transitions_from k s states f at)
@@ -172,17 +167,17 @@ module _ (k : Format) where
   targets_low alone s states f at =
       row_low _ _ _ (λ i n. unless_low f i _ (checked_low (target_number k s states f i n) i (first_low _ _ _ _ _))) (most_targets k) at 0
 
-  rows_low : (alone : Bool) (f : List ℕ) (at : ℕ) (s : Shape) (states initial : List ℕ) → LowChecked (rows_from k alone f at s states initial).answer
+  rows_low : (alone : Bool) (f : List ℕ) (at : ℕ) (s : Shape) (states initial : List ℕ) → LowChecked (whether (rows_from k alone f at s states initial))
   unfolding rows_from
   rows_low alone f at s states initial =
       with_low (transitions_from k s states f at) _ (transitions_low s states f at) (λ n.
       with_low (targets_from k alone s states f _) _ (targets_low alone s states f _) (λ m. tt))
 
-  rest_low : (alone : Bool) (f : List ℕ) (at : ℕ) (s : Shape) → LowChecked (rest_from k alone f at s).answer
+  rest_low : (alone : Bool) (f : List ℕ) (at : ℕ) (s : Shape) → LowChecked (whether (rest_from k alone f at s))
   unfolding rest_from
   rest_low alone f at s = or_low (states_from f at s.processes) _ (states_low f s.processes at) (rows_low alone f _ s _ _)
 
-  pub program_low : (alone : Bool) (f : List ℕ) (at : ℕ) → LowChecked (program_with k alone f at).answer
+  pub program_low : (alone : Bool) (f : List ℕ) (at : ℕ) → LowChecked (whether (program_with k alone f at))
   unfolding program_with shape_number
   program_low alone f at =
       or_low (unless_end f at (checked (shape_number k f at) at)) _ (unless_low f at _ (checked_low (shape_number k f at) at (first_low _ _ _ _ _)))
@@ -205,9 +200,9 @@ body_low s f at e = each_cond UpToFive (is_kind f at 17) _ _ (first_low _ _ _ _ 
     UpToFive : ℕ → Type 0
     UpToFive n = n ≤ 5
 
-body_then_lem : (x : Checked) (y : Unit {0} → EntryRead) → LowChecked x → LowEntry (y tt) → LowEntry (body_then x y)
-body_then_lem Fine y h k = k
-body_then_lem (Refused r) y h k = h
+body_then_lem : (x : Result ⊤ Refusal) (y : Unit {0} → EntryRead) → LowChecked x → LowEntry (y tt) → LowEntry (body_then x y)
+body_then_lem (Ok _) y h k = k
+body_then_lem (Err r) y h k = h
 
 entry_low : (bytes : ℕ) (s : Shape) (f : List ℕ) (start at : ℕ) (e : Configuration) → LowEntry (entry_from bytes s f start at e)
 unfolding entry_from
@@ -216,10 +211,10 @@ entry_low (suc bytes) s f start at e =
     each_choice LowEntry (at_boundary f at) _ _ (finished_low s start at e)
     (body_then_lem (checked (body_number s f at e) at) _ (checked_low (body_number s f at e) at (body_low s f at e)) (entry_low bytes s f start _ _))
 
-head_low : (x : Checked) (offsets : List ℕ) (es : List Configuration) (y : Unit {0} → EntriesRead) → LowChecked x → LowChecked (y tt).answer
+head_low : (x : Result ⊤ Refusal) (offsets : List ℕ) (es : List Configuration) (y : Unit {0} → EntriesRead) → LowChecked x → LowChecked (y tt).answer
     → LowChecked (head_then x offsets es y).answer
-head_low Fine offsets es y h k = k
-head_low (Refused r) offsets es y h k = h
+head_low (Ok _) offsets es y h k = k
+head_low (Err r) offsets es y h k = h
 
 entry_then_lem : (x : EntryRead) (offsets : List ℕ) (es : List Configuration) (y : Configuration → ℕ → EntriesRead) → LowEntry x
     → ((e : Configuration) (n : ℕ) → LowChecked (y e n).answer) → LowChecked (entry_then x offsets es y).answer
@@ -238,9 +233,9 @@ entries_low (suc left) s states f at offsets es =
     (head_low (checked (entry_number s states f at false) at) offsets es _ (checked_low (entry_number s states f at false) at (first_low _ _ _ _ _))
     (entry_then_lem (entry_read s f at) offsets es _ (entry_low _ s f at _ _) (λ e next. entries_low left s states f next _ _)))
 
-claim_then_lem : (x : Checked) (y : Unit {0} → Evidence) → LowChecked x → LowEvidence (y tt) → LowEvidence (claim_then x y)
-claim_then_lem Fine y h k = k
-claim_then_lem (Refused r) y h k = h
+claim_then_lem : (x : Result ⊤ Refusal) (y : Unit {0} → Evidence) → LowChecked x → LowEvidence (y tt) → LowEvidence (claim_then x y)
+claim_then_lem (Ok _) y h k = k
+claim_then_lem (Err r) y h k = h
 
 run_low : (f : List ℕ) (claim at : ℕ) (p : Program) → LowEvidence (run_evidence f claim at p)
 unfolding run_evidence start_number
@@ -260,24 +255,24 @@ evidence_file : (x : Input) (p : Program) (e : Evidence) → LowEvidence e → L
 evidence_file x p (refusal r) h = h
 evidence_file x p (entries r) h = go r.answer h
   where
-    go : (y : Checked) → LowChecked y → LowFile (list_read x p y r)
-    go Fine h = tt
-    go (Refused q) h = h
-evidence_file x p (steps claim m (Records n)) h = each_cond LowFile (eqb claim 1) _ _ tt tt
-evidence_file x p (steps claim m (Stopped r)) h = h
+    go : (y : Result ⊤ Refusal) → LowChecked y → LowFile (list_read x p y r)
+    go (Ok _) h = tt
+    go (Err q) h = h
+evidence_file x p (steps claim m (Ok n)) h = each_cond LowFile (eqb claim 1) _ _ tt tt
+evidence_file x p (steps claim m (Err r)) h = h
 
 pub file_low : (x : Input) (area : ℕ) → 65536 ≤ area → LowFile (read_file x area)
 unfolding read_file
-file_low x area l = go (program_from x.alone x.code 0).answer refl
+file_low x area l = go (whether (program_from x.alone x.code 0)) refl
   where
     p : Program
-    p = (program_from x.alone x.code 0).program
+    p = program_read (program_from x.alone x.code 0)
 
-    go : (y : Checked) → (program_from x.alone x.code 0).answer ≡ y → LowFile (parts_read x (parts_of x area))
-    go Fine e =
+    go : (y : Result ⊤ Refusal) → whether (program_from x.alone x.code 0) ≡ y → LowFile (parts_read x (parts_of x area))
+    go (Ok _) e =
         subst (λ y. LowFile (parts_read x y)) (sym (parts_both x area l e))
         (evidence_file x p (evidence_from x.file (evidence_at x p) p area) (evidence_low x.file (evidence_at x p) p area))
-    go (Refused r) e =
+    go (Err r) e =
         subst (λ y. LowFile (parts_read x y)) (sym (parts_refused x area r l e)) (subst LowChecked e (program_low Plain x.alone x.code 0))
 
 -- the numbers of a refused reading

@@ -9,11 +9,10 @@ use Rattle.machine_pws.specs.Program.{Program}
 use Rattle.machine_pso.specs.declared.PsoStep.{PsoStep}
 use Rattle.machine_pso.specs.declared.PsoStep.TheVariants.{Operate, UpdateVariable, RemoveMark}
 use Rattle.machine_pso.specs.Machine.{PsoConfiguration, pso_may}
-use Rattle.run_causes.specs.declared.Answer.{Answer}
-use Rattle.run_causes.specs.declared.Answer.TheVariants.{Permitted, Refused}
+use Rattle.std.specs.Prelude.{Ok, Err}
 use Rattle.run_causes.specs.declared.Cause.{Cause}
 use Rattle.run_causes.specs.declared.Cause.TheVariants.{Pointer}
-use Rattle.run_causes.specs.Causes.{is_permitted}
+use Rattle.run_causes.specs.Causes.{Answer, is_permitted}
 use Rattle.pso_step.specs.Causes.{Because, pso_step_answer}
 use Rattle.pso_replay.specs.Answers.{PsoStopped}
 use Rattle.pso_step.proofs.CauseLaws.{Answers, answers, because_only}
@@ -30,15 +29,15 @@ cause_cannot : (P : Program) (d : PsoConfiguration) (u : PsoStep) (cause : Cause
 cause_cannot P d u cause x = go (pso_may P d u) refl
   where
     go : (b : Bool) → pso_may P d u ≡ b → b ≡ false
-    go true e = ap is_permitted (because_only P d u Permitted (subst T (sym e) tt) ∙ sym (because_only P d u (Refused cause) x))
+    go true e = ap is_permitted (because_only P d u (Ok tt) (subst T (sym e) tt) ∙ sym (because_only P d u (Err cause) x))
     go false e = refl
 
 cannot_cause : (P : Program) (d : PsoConfiguration) (u : PsoStep) → pso_may P d u ≡ false → (cause : Cause) × Because P d u cause
 cannot_cause P d u e = go (pso_step_answer P d u) (answers P d u)
   where
     go : (a : Answer) → Answers P d u a → (cause : Cause) × Because P d u cause
-    go Permitted t = absurd (subst T e t)
-    go (Refused cause) x = (cause, x)
+    go (Ok _) t = absurd (subst T e t)
+    go (Err cause) x = (cause, x)
 
 -- ---- a run
 

@@ -1,5 +1,8 @@
 -- The theorems of specs/RegisterDemands: what C gets for the program file that is written (ForC), which is read as the program that is written
 -- (register_program), whose machines go step for step with those of the program with registers (register_machine).
+use Rattle.std.specs.Prelude.{Result, Ok, Err, ⊤}
+use Rattle.file_records.specs.declared.program.Refusal.{Refusal}
+use Rattle.file_records.specs.ProgramPart.{whether, program_read}
 use Prim.Native.Nat.{ℕ, suc, ◌+◌, ◌<◌}
 use mathlib.Core.Path.{◌≡◌, refl, sym, ap, subst, ◌∙◌}
 use mathlib.Core.List.{List, [], ◌∷◌}
@@ -18,8 +21,6 @@ use Rattle.machine_pso.specs.Runs.{PsoTakes, PsoVisited}
 use Rattle.machine_pso.specs.Runs as runs
 use Rattle.machine_equal.proofs.Reachability.{start_of_lem, same_reachability}
 use Rattle.list_theory.specs.Verdict.{target}
-use Rattle.file_records.specs.declared.program.Checked.{Checked}
-use Rattle.file_records.specs.declared.program.Checked.TheVariants.{Fine, Refused}
 use Rattle.file_contents.specs.Reading.{Input, pair, read_file}
 use Rattle.file_again.specs.Offending.{offending}
 use Rattle.drawing.specs.Writing.{made}
@@ -236,13 +237,13 @@ module _ (R : RegisterProgram) (I : RegisterWellFormed R) (ts : List (ℕ → �
 -- ---- the file
 
 -- every record of a file for which bytes are written is fine
-written_fine : (f w : List ℕ) → registers_of f ≡ made w → (part_of f).answer ≡ Fine
+written_fine : (f w : List ℕ) → registers_of f ≡ made w → whether (part_of f) ≡ Ok tt
 unfolding registers_of
-written_fine f w e = go (part_of f).answer e
+written_fine f w e = go (whether (part_of f)) e
   where
-    go : (x : Checked) → of_read f (part_of f).program x ≡ made w → x ≡ Fine
-    go Fine e = refl
-    go (Refused r) e = absurd (let z : ◌≡◌ {A = ℕ} 0 1 = cc in omega arith)
+    go : (x : Result ⊤ Refusal) → of_read f (program_read (part_of f)) x ≡ made w → x ≡ Ok tt
+    go (Ok _) e = refl
+    go (Err r) e = absurd (let z : ◌≡◌ {A = ℕ} 0 1 = cc in omega arith)
 
 module _ (f w : List ℕ) (q : registers_of f ≡ made w) where
   formed : RegisterWellFormed (program_in f)

@@ -1,4 +1,5 @@
 -- The numbers of the refusals of a report's records: none is past 8.
+use Rattle.std.specs.Prelude.{Result, Ok, Err, ⊤}
 use Prim.Native.Nat.{ℕ, zero, suc, ◌+◌, ◌*◌, ◌≤◌}
 use mathlib.Core.Path.{◌≡◌, refl, sym, ap, subst, ◌∙◌}
 use mathlib.Core.Bool.{Bool, true, false, cond, ◌&&◌}
@@ -11,11 +12,7 @@ use Rattle.machine_pws.specs.Program as pws
 use Rattle.machine_pws.specs.Machine.{Configuration}
 use Rattle.file_records.specs.declared.program.Format.TheVariants.{Plain}
 use Rattle.file_records.specs.declared.program.Refusal.{Refusal}
-use Rattle.file_records.specs.declared.program.Checked.{Checked}
-use Rattle.file_records.specs.declared.program.Checked.TheVariants.{Fine, Refused}
-use Rattle.file_records.specs.declared.program.Counted.{Counted}
-use Rattle.file_records.specs.declared.program.Counted.TheVariants.{Records, Stopped}
-use Rattle.file_records.specs.ProgramPart.{program_from, program_of, targets_of}
+use Rattle.file_records.specs.ProgramPart.{program_from, program_of, targets_of, whether, program_read}
 use Rattle.file_contents.specs.Reading.{pair, FileRead, refused, list, run, pso_run, read_file}
 use Rattle.verdict.proofs.AreaLaws.{each_choice}
 use Rattle.report_theory.specs.Report.{Run}
@@ -74,26 +71,26 @@ marks_low transitions f at = row_low _ _ _ (λ i n. checked_low (mark_number tra
 -- ---- up to the claim of the list
 
 module _ (f : List ℕ) (area : ℕ) where
-  by_due : (l : 65536 ≤ area) (n : ℕ) → (program_from true (program_part f) 0).answer ≡ Fine
-      → marks_from (program_from true (program_part f) 0).program.transitions.count f (program_end f) ≡ Records n
-      → (x : Checked) → due_claim 0 f (program_end f + 2 * n) ≡ x → LowOpened (open_report f area)
-  by_due l n a b (Refused r) e =
+  by_due : (l : 65536 ≤ area) (n : ℕ) → whether (program_from true (program_part f) 0) ≡ Ok tt
+      → marks_from (program_read (program_from true (program_part f) 0)).transitions.count f (program_end f) ≡ Ok n
+      → (x : Result ⊤ Refusal) → due_claim 0 f (program_end f + 2 * n) ≡ x → LowOpened (open_report f area)
+  by_due l n a b (Err r) e =
       let h = subst LowChecked e (due_low 0 f (program_end f + 2 * n)) in
       subst LowOpened (sym (open_due f area l n r a b e)) (omega (arith, h.1))
-  by_due l n a b Fine e = subst LowOpened (sym (open_all f area l n a b e)) tt
+  by_due l n a b (Ok _) e = subst LowOpened (sym (open_all f area l n a b e)) tt
 
-  by_marks : (l : 65536 ≤ area) → (program_from true (program_part f) 0).answer ≡ Fine
-      → (x : Counted) → marks_from (program_from true (program_part f) 0).program.transitions.count f (program_end f) ≡ x → LowOpened (open_report f area)
-  by_marks l a (Stopped r) e =
+  by_marks : (l : 65536 ≤ area) → whether (program_from true (program_part f) 0) ≡ Ok tt
+      → (x : Result ℕ Refusal) → marks_from (program_read (program_from true (program_part f) 0)).transitions.count f (program_end f) ≡ x → LowOpened (open_report f area)
+  by_marks l a (Err r) e =
       let h = subst LowCounted e (marks_low _ f (program_end f)) in
       subst LowOpened (sym (open_marks f area l r a e)) (omega (arith, h.1))
-  by_marks l a (Records n) e = by_due l n a e _ refl
+  by_marks l a (Ok n) e = by_due l n a e _ refl
 
-  by_program : (l : 65536 ≤ area) (x : Checked) → (program_from true (program_part f) 0).answer ≡ x → LowOpened (open_report f area)
-  by_program l (Refused r) e =
+  by_program : (l : 65536 ≤ area) (x : Result ⊤ Refusal) → whether (program_from true (program_part f) 0) ≡ x → LowOpened (open_report f area)
+  by_program l (Err r) e =
       let h = subst LowChecked e (program_low Plain true (program_part f) 0) in
       subst LowOpened (sym (open_program f area l r e)) (in_report_low f 0 (program_end f) r (omega (arith, h.1)))
-  by_program l Fine e = by_marks l e _ refl
+  by_program l (Ok _) e = by_marks l e _ refl
 
   open_low : LowOpened (open_report f area)
   open_low = elim (dec_lt area 65536) [
@@ -117,9 +114,9 @@ module _ (f : List ℕ) (area : ℕ) where
   run_low at (run P ts m ss) e y h = with_low _ y h
   run_low at (pso_run P ts m ss) e y h = omega arith
 
-  run_due_low : (x : Checked) (y : Unit {0} → RunsRead) → LowChecked x → LowRuns (y tt) → LowRuns (run_due x y)
-  run_due_low Fine y h k = k
-  run_due_low (Refused r) y h k = omega (arith, h.1)
+  run_due_low : (x : Result ⊤ Refusal) (y : Unit {0} → RunsRead) → LowChecked x → LowRuns (y tt) → LowRuns (run_due x y)
+  run_due_low (Ok _) y h k = k
+  run_due_low (Err r) y h k = omega (arith, h.1)
 
   over_low : (at : ℕ) → over_number f at ≤ 5
   unfolding over_number

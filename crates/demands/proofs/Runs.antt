@@ -16,14 +16,13 @@ use Rattle.machine_pws.specs.Configurations.{StartingMemory, starting_memory, St
 use Rattle.machine_pws.specs.Sequences.{Takes, done, step}
 use Rattle.machine_pws.proofs.Starts.{start_exists}
 use Rattle.list_theory.specs.Verdict.{target}
-use Rattle.run_causes.specs.declared.Answer.{Answer}
-use Rattle.run_causes.specs.declared.Answer.TheVariants.{Permitted, Refused}
+use Rattle.std.specs.Prelude.{Ok, Err}
 use Rattle.run_causes.specs.declared.Cause.{Cause}
 use Rattle.run_causes.specs.declared.Cause.TheVariants.{State}
 use Rattle.run_step.specs.declared.last_test.RunAnswer.{RunAnswer}
 use Rattle.run_step.specs.declared.last_test.RunAnswer.TheVariants.{Reachable, Stopped, Missed}
 use Rattle.run_replay.specs.Replay.{lowest_met}
-use Rattle.run_causes.specs.Causes.{step_answer, is_permitted}
+use Rattle.run_causes.specs.Causes.{Answer, step_answer, is_permitted}
 use Rattle.run_replay.specs.Answers.{last_answer, answer_then, answer_from, run_answer}
 use Rattle.run_causes.proofs.CauseLaws.{answer_may}
 use Rattle.run_replay.proofs.Accepted.{answer_free, target_yes, target_is}
@@ -59,9 +58,9 @@ last_stays n (some k) = refl
 true_false : {A : Type 0} → true ≡ false → A
 true_false e = absurd (subst T e tt)
 
-permitted_is : (x : Answer) → T (is_permitted x) → x ≡ Permitted
-permitted_is Permitted t = refl
-permitted_is (Refused cause) t = absurd t
+permitted_is : (x : Answer) → T (is_permitted x) → x ≡ Ok tt
+permitted_is (Ok _) t = refl
+permitted_is (Err cause) t = absurd t
 
 take_first : {P : Program} {c d : Configuration} {s : Step} {ss : List Step} → Takes P c (s ∷ ss) d → T (may P c s) × Takes P (after P c s) ss d
 take_first (step s t r) = (t, r)
@@ -75,10 +74,10 @@ module _ (P : Program) (ts : List (ℕ → ℕ)) (n : ℕ) where
   last : Configuration → RunAnswer
   last d = last_answer n (lowest_met P.shape 0 ts d)
 
-  taken : (c : Configuration) (s : Step) → T (may P c s) → step_answer P c s ≡ Permitted
+  taken : (c : Configuration) (s : Step) → T (may P c s) → step_answer P c s ≡ Ok tt
   taken c s t = permitted_is (step_answer P c s) (subst T (sym (answer_may P c s)) t)
 
-  may_take : (c : Configuration) (s : Step) → step_answer P c s ≡ Permitted → T (may P c s)
+  may_take : (c : Configuration) (s : Step) → step_answer P c s ≡ Ok tt → T (may P c s)
   may_take c s e = subst T (answer_may P c s) (subst (λ (x : Answer). T (is_permitted x)) (sym e) tt)
 
   answer_takes : (k : ℕ) (c : Configuration) (s : Step) (ss : List Step) → T (may P c s) → answer_from P ts n k c (s ∷ ss) ≡ answer_from P ts n (suc k) (after P c s) ss
@@ -93,8 +92,8 @@ module _ (P : Program) (ts : List (ℕ → ℕ)) (n : ℕ) where
       go : (answer_from P ts n (suc k) (after P c s) ss ≡ x → is_stopped x ≡ false → (d : Configuration) × Takes P (after P c s) ss d × (x ≡ last d))
           → (a : Answer) → step_answer P c s ≡ a → answer_then a k (λ _. answer_from P ts n (suc k) (after P c s) ss) ≡ x
           → (d : Configuration) × Takes P c (s ∷ ss) d × (x ≡ last d)
-      go f Permitted m e = let r = f e i in (r.0, step s (may_take c s m) r.1, r.2)
-      go f (Refused cause) m e = true_false (ap is_stopped e ∙ i)
+      go f (Ok _) m e = let r = f e i in (r.0, step s (may_take c s m) r.1, r.2)
+      go f (Err cause) m e = true_false (ap is_stopped e ∙ i)
 
   answer_ends : (k : ℕ) (c d : Configuration) (ss : List Step) → Takes P c ss d → answer_from P ts n k c ss ≡ last d
   unfolding last
@@ -109,26 +108,26 @@ module _ (P : Program) (ts : List (ℕ → ℕ)) (n : ℕ) where
     answer : step_answer P before (get_or ss i (Update 0)) ≡ a
 
   stops_from : (k j : ℕ) (cause : Cause) (c : Configuration) (ss : List Step) → answer_from P ts n k c ss ≡ Stopped j cause
-      → (i : ℕ) × (j ≡ k + i) × AnsweredAt (Refused cause) c ss i
+      → (i : ℕ) × (j ≡ k + i) × AnsweredAt (Err cause) c ss i
   stops_from k j cause c [] e = true_false (sym (ap is_stopped e) ∙ last_stays n (lowest_met P.shape 0 ts c))
   stops_from k j cause c (s ∷ ss) e = go (stops_from (suc k) j cause (after P c s) ss) (step_answer P c s) refl e
     where
-      go : (answer_from P ts n (suc k) (after P c s) ss ≡ Stopped j cause → (i : ℕ) × (j ≡ suc k + i) × AnsweredAt (Refused cause) (after P c s) ss i)
+      go : (answer_from P ts n (suc k) (after P c s) ss ≡ Stopped j cause → (i : ℕ) × (j ≡ suc k + i) × AnsweredAt (Err cause) (after P c s) ss i)
           → (a : Answer) → step_answer P c s ≡ a → answer_then a k (λ _. answer_from P ts n (suc k) (after P c s) ss) ≡ Stopped j cause
-          → (i : ℕ) × (j ≡ k + i) × AnsweredAt (Refused cause) c (s ∷ ss) i
-      go f Permitted m e =
+          → (i : ℕ) × (j ≡ k + i) × AnsweredAt (Err cause) c (s ∷ ss) i
+      go f (Ok _) m e =
           let r = f e in
           let w = r.2 in (
             suc r.0,
             omega (arith, r.1),
             record { exists = omega (arith, w.exists); before = w.before; takes = step s (may_take c s m) w.takes; answer = w.answer },
           )
-      go f (Refused x) m e =
+      go f (Err x) m e =
           let z : k ≡ j = ap step_of e in
-          (0, omega arith, record { exists = omega arith; before = c; takes = done; answer = m ∙ ap Refused (ap cause_in e) })
+          (0, omega arith, record { exists = omega arith; before = c; takes = done; answer = m ∙ ap Err (ap cause_in e) })
 
   from_stops : (k : ℕ) (c b : Configuration) (ss : List Step) (i : ℕ) (cause : Cause) → i < length ss → Takes P c (take i ss) b
-      → step_answer P b (get_or ss i (Update 0)) ≡ Refused cause → answer_from P ts n k c ss ≡ Stopped (k + i) cause
+      → step_answer P b (get_or ss i (Update 0)) ≡ Err cause → answer_from P ts n k c ss ≡ Stopped (k + i) cause
   from_stops k c b [] i cause l t m = absurd (omega arith)
   from_stops k c b (s ∷ ss) zero cause l t m =
       ap (λ (x : Answer). answer_then x k (λ _. answer_from P ts n (suc k) (after P c s) ss)) (ap (λ (x : Configuration). step_answer P x s) (take_none t) ∙ m)
@@ -227,7 +226,7 @@ module _ (P : Program) (R : WellFormed P) (ts : List (ℕ → ℕ)) (m : List �
   unfolding last
   ended_answer c d s w t = sym (answer_free P R ts m ss c s w) ∙ answer_ends P ts (length ss) 0 c d ss t
 
-  stopped_answer : (k : ℕ) (cause : Cause) → Stops (λ P c s. step_answer P c s ≡ Refused cause) P m ss k → run_answer P ts m ss ≡ Stopped k cause
+  stopped_answer : (k : ℕ) (cause : Cause) → Stops (λ P c s. step_answer P c s ≡ Err cause) P m ss k → run_answer P ts m ss ≡ Stopped k cause
   stopped_answer k cause x =
       sym (answer_free P R ts m ss x.start x.permitted x.memory)
       ∙ from_stops P ts (length ss) 0 x.start x.before ss k cause x.exists x.takes x.reason
@@ -281,8 +280,8 @@ module _ (P : Program) (R : WellFormed P) (ts : List (ℕ → ℕ)) (m : List �
   cannot_stopped k x = go (step_answer P x.before (get_or ss k (Update 0))) refl
     where
       go : (a : Answer) → step_answer P x.before (get_or ss k (Update 0)) ≡ a → (cause : Cause) × (run_answer P ts m ss ≡ Stopped k cause)
-      go Permitted e = true_false (sym (ap is_permitted e) ∙ answer_may P x.before (get_or ss k (Update 0)) ∙ x.reason)
-      go (Refused cause) e = (
+      go (Ok _) e = true_false (sym (ap is_permitted e) ∙ answer_may P x.before (get_or ss k (Update 0)) ∙ x.reason)
+      go (Err cause) e = (
         cause,
         stopped_answer k cause (record { exists = x.exists; start = x.start; permitted = x.permitted; memory = x.memory; before = x.before; takes = x.takes; reason = e }),
       )

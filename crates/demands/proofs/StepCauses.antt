@@ -14,11 +14,10 @@ use Rattle.machine_pws.specs.declared.Step.{Step}
 use Rattle.machine_pws.specs.declared.Step.TheVariants.{Take, Serialise, Update}
 use Rattle.machine_pws.specs.Program.{Shape, Program, transition}
 use Rattle.machine_pws.specs.Machine.{Configuration, is_empty, all_below, newest, sees}
-use Rattle.run_causes.specs.declared.Answer.{Answer}
-use Rattle.run_causes.specs.declared.Answer.TheVariants.{Permitted, Refused}
+use Rattle.std.specs.Prelude.{Ok, Err}
 use Rattle.run_causes.specs.declared.Cause.{Cause}
 use Rattle.run_causes.specs.declared.Cause.TheVariants.{State, Queue, Pointer, Value, Nothing}
-use Rattle.run_causes.specs.Causes.{first_cause, queue_fits, pointer_fits, value_fits, take_answer, step_answer}
+use Rattle.run_causes.specs.Causes.{Answer, first_cause, queue_fits, pointer_fits, value_fits, take_answer, step_answer}
 use Rattle.demands.specs.Demands.{InState, QueuesEmpty, AtNewest, ValueThere, OtherState, QueueWaits, PointerBehind, OtherValue, NothingThere}
 
 -- the reason that each cause stands for
@@ -103,12 +102,12 @@ tells_all (suc n) f F t =
 -- ---- the first of five
 
 abbrev By : (A B C D E : Type 0) → Answer → Type 0
-By A B C D E Permitted = Unit {0}
-By A B C D E (Refused State) = A → ⊥
-By A B C D E (Refused Queue) = A × (B → ⊥)
-By A B C D E (Refused Pointer) = A × B × (C → ⊥)
-By A B C D E (Refused Value) = A × B × C × (D → ⊥)
-By A B C D E (Refused Nothing) = A × B × C × D × (E → ⊥)
+By A B C D E (Ok _) = Unit {0}
+By A B C D E (Err State) = A → ⊥
+By A B C D E (Err Queue) = A × (B → ⊥)
+By A B C D E (Err Pointer) = A × B × (C → ⊥)
+By A B C D E (Err Value) = A × B × C × (D → ⊥)
+By A B C D E (Err Nothing) = A × B × C × D × (E → ⊥)
 
 first_by : {A B C D E : Type 0} {a b c d e : Bool} → Tells A a → Tells B b → Tells C c → Tells D d → Tells E e → By A B C D E (first_cause a b c d e)
 unfolding first_cause
@@ -120,7 +119,7 @@ first_by (holds x) (holds y) (holds z) (holds w) (fails n) = (x, y, z, w, n)
 first_by (holds x) (holds y) (holds z) (holds w) (holds i) = tt
 
 by_first : {A B C D E : Type 0} {a b c d e : Bool} → Tells A a → Tells B b → Tells C c → Tells D d → Tells E e
-    → (cause : Cause) → By A B C D E (Refused cause) → first_cause a b c d e ≡ Refused cause
+    → (cause : Cause) → By A B C D E (Err cause) → first_cause a b c d e ≡ Err cause
 unfolding first_cause
 by_first r s t u v State w = rw (is_false r w)
 by_first r s t u v Queue w = rw (is_true r w.0, is_false s w.1)
@@ -131,7 +130,7 @@ by_first r s t u v Nothing w = rw (is_true r w.0, is_true s w.1, is_true t w.2, 
 -- ---- a transition
 
 -- a transition that does not exist is in no local state
-with_state : (x y b c d : Bool) → cond x (first_cause y b c d true) (Refused State) ≡ first_cause (x && y) b c d true
+with_state : (x y b c d : Bool) → cond x (first_cause y b c d true) (Err State) ≡ first_cause (x && y) b c d true
 unfolding first_cause
 with_state true y b c d = refl
 with_state false y b c d = refl
@@ -178,14 +177,14 @@ module _ (P : Program) (c : Configuration) where
         ≡ first_cause (ltb n (length P.transitions) && eqb (c.state p) (transition P n).from) (queue_fits P.shape c p o) (pointer_fits c p o) (value_fits c p o) true
     taken = with_state (ltb n (length P.transitions)) (eqb (c.state p) (transition P n).from) (queue_fits P.shape c p o) (pointer_fits c p o) (value_fits c p o)
 
-    take_reason : (cause : Cause) → TakeBy (Refused cause) → ReasonOf cause P c (Take n)
+    take_reason : (cause : Cause) → TakeBy (Err cause) → ReasonOf cause P c (Take n)
     take_reason State w = w
     take_reason Queue w = w
     take_reason Pointer w = w
     take_reason Value w = w
     take_reason Nothing w = w.4 tt
 
-    reason_take : (cause : Cause) → ReasonOf cause P c (Take n) → TakeBy (Refused cause)
+    reason_take : (cause : Cause) → ReasonOf cause P c (Take n) → TakeBy (Err cause)
     reason_take State w = w
     reason_take Queue w = w
     reason_take Pointer w = w
@@ -195,7 +194,7 @@ module _ (P : Program) (c : Configuration) where
     take_by : TakeBy (step_answer P c (Take n))
     take_by = subst TakeBy (sym taken) (first_by state_told (queues_told p o) (pointer_told p o) (value_told p o) (holds tt))
 
-    by_take : (cause : Cause) → TakeBy (Refused cause) → step_answer P c (Take n) ≡ Refused cause
+    by_take : (cause : Cause) → TakeBy (Err cause) → step_answer P c (Take n) ≡ Err cause
     by_take cause w = taken ∙ by_first state_told (queues_told p o) (pointer_told p o) (value_told p o) (holds tt) cause w
 
   -- ---- the memory's own steps: one test, and nothing else
@@ -206,10 +205,10 @@ module _ (P : Program) (c : Configuration) where
   own_by : {E : Type 0} {b : Bool} → Tells E b → OwnBy E (first_cause true true true true b)
   own_by {E} t = first_by {A = Unit {0}} {B = Unit {0}} {C = Unit {0}} {D = Unit {0}} {E = E} (holds tt) (holds tt) (holds tt) (holds tt) t
 
-  by_own : {E : Type 0} {b : Bool} → Tells E b → (E → ⊥) → first_cause true true true true b ≡ Refused Nothing
+  by_own : {E : Type 0} {b : Bool} → Tells E b → (E → ⊥) → first_cause true true true true b ≡ Err Nothing
   by_own {E} t n = by_first {A = Unit {0}} {B = Unit {0}} {C = Unit {0}} {D = Unit {0}} {E = E} (holds tt) (holds tt) (holds tt) (holds tt) t Nothing (tt, tt, tt, tt, n)
 
-  own_reason : (E : Type 0) (cause : Cause) → OwnBy E (Refused cause) → (cause ≡ Nothing) × (E → ⊥)
+  own_reason : (E : Type 0) (cause : Cause) → OwnBy E (Err cause) → (cause ≡ Nothing) × (E → ⊥)
   own_reason E State w = absurd (w tt)
   own_reason E Queue w = absurd (w.1 tt)
   own_reason E Pointer w = absurd (w.2 tt)
@@ -230,7 +229,7 @@ module _ (P : Program) (c : Configuration) where
 
   -- ---- every step
 
-  pub cause_reason : (s : Step) (cause : Cause) → step_answer P c s ≡ Refused cause → ReasonOf cause P c s
+  pub cause_reason : (s : Step) (cause : Cause) → step_answer P c s ≡ Err cause → ReasonOf cause P c s
   cause_reason (Take n) cause e = take_reason n cause (subst (TakeBy n) e (take_by n))
   cause_reason (Serialise q v) cause e =
       let r = own_reason (CanSerialise q v) cause (subst (OwnBy (CanSerialise q v)) e (own_by (serialise_told q v))) in
@@ -239,7 +238,7 @@ module _ (P : Program) (c : Configuration) where
       let r = own_reason (CanUpdate q) cause (subst (OwnBy (CanUpdate q)) e (own_by (update_told q))) in
       subst (λ (x : Cause). ReasonOf x P c (Update q)) (sym r.0) r.1
 
-  pub reason_cause : (s : Step) (cause : Cause) → ReasonOf cause P c s → step_answer P c s ≡ Refused cause
+  pub reason_cause : (s : Step) (cause : Cause) → ReasonOf cause P c s → step_answer P c s ≡ Err cause
   reason_cause (Take n) cause w = by_take n cause (reason_take n cause w)
   reason_cause (Serialise q v) State w = absurd w
   reason_cause (Serialise q v) Queue w = absurd w

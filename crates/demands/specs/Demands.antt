@@ -2,7 +2,7 @@
 -- document 02, N6). First what C gets, then the verdict itself. The theorems are in proofs/Demands and proofs/ForC, under the same names in small letters. A
 -- configuration, a step and a sequence of steps are the machine's (machine_pws/specs), with no bound of any kind; `area` is the length of any work area.
 -- Of a file whose claim is 2 they speak of the PSO machine (machine_pso/specs). What the answers to claims 0 and 1 say of it stands in specs/PsoDemands.
-use Rattle.std.specs.Prelude.{ℕ, ◌+◌, ◌<◌, ◌≤◌, ◌≡◌, ◌↔◌, ◌⊎◌, false, List, [], ◌∷◌, length, get_or, take}
+use Rattle.std.specs.Prelude.{ℕ, ◌+◌, ◌<◌, ◌≤◌, ◌≡◌, ◌↔◌, ◌⊎◌, false, List, [], ◌∷◌, length, get_or, take, Ok}
 use Rattle.machine_pws.specs.declared.Step.{Step}
 use Rattle.machine_pws.specs.declared.Step.TheVariants.{Take, Serialise, Update}
 use Rattle.machine_pws.specs.declared.Operation.{Operation}
@@ -19,11 +19,9 @@ use Rattle.machine_pso.specs.Runs.{PsoStart, PsoVisited, PsoInTarget, PsoReachab
 use Rattle.machine_pso.specs.Ranges.{PsoKeepsRanges}
 use Rattle.list_theory.specs.Verdict.{target, SafeList, Unheld, Started, Entered}
 use Rattle.base.specs.Bytes.{byte}
-use Rattle.file_records.specs.declared.program.Checked.TheVariants.{Fine}
-use Rattle.file_records.specs.declared.program.Counted.TheVariants.{Records}
 use Rattle.file_records.specs.declared.program.Program as records
 use Rattle.file_records.specs.Records.{memory_at}
-use Rattle.file_records.specs.ProgramPart.{program_from, program_of, targets_of}
+use Rattle.file_records.specs.ProgramPart.{program_from, program_of, targets_of, whether, program_read}
 use Rattle.file_contents.specs.declared.evidence.Part.{Part}
 use Rattle.file_contents.specs.EvidencePart.{steps_from, steps_of}
 use Rattle.file_contents.specs.Reading as reading
@@ -38,7 +36,7 @@ use Rattle.demands.specs.PsoRuns.{OfPsoRun, PsoHalts}
 
 -- where the records of the program stand, and the program and the targets that they are; none of them is refused
 abbrev pub records_in : reading.Input → records.Program
-records_in x = (program_from x.alone x.code 0).program
+records_in x = program_read (program_from x.alone x.code 0)
 
 abbrev pub program_in : reading.Input → Program
 program_in x = program_of x.code (records_in x)
@@ -47,7 +45,7 @@ abbrev pub targets_in : reading.Input → List (ℕ → ℕ)
 targets_in x = targets_of x.code (records_in x)
 
 abbrev pub ProgramIsRead : reading.Input → Type 0
-ProgramIsRead x = (program_from x.alone x.code 0).answer ≡ Fine
+ProgramIsRead x = whether (program_from x.alone x.code 0) ≡ Ok tt
 
 -- after the two bytes of its claim, the starting memory of a run; after the five of that, n steps; up to the file's end there are so many
 abbrev pub memory_in : reading.Input → List ℕ
@@ -57,7 +55,7 @@ abbrev pub steps_in : reading.Input → ℕ → List Step
 steps_in x n = steps_of x.file (reading.evidence_at x (records_in x) + 2 + 5) n
 
 abbrev pub StepsAreRead : reading.Input → ℕ → Type 0
-StepsAreRead x n = steps_from (records_in x).shape (records_in x).transitions.count x.file (reading.evidence_at x (records_in x) + 2 + 5) ≡ Records n
+StepsAreRead x n = steps_from (records_in x).shape (records_in x).transitions.count x.file (reading.evidence_at x (records_in x) + 2 + 5) ≡ Ok n
 
 -- no sequence of steps of the PSO machine, of any length and from any memory, visits a target: not at its start and not after any step
 abbrev pub NoneVisited : Program → List (ℕ → ℕ) → Type 0

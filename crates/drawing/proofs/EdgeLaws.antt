@@ -10,15 +10,16 @@ use borrow.Author.Tests.{ltb-false, le-ltb}
 use Rattle.machine_pws.specs.declared.Step.{Step}
 use Rattle.machine_pws.specs.declared.Step.TheVariants.{Take}
 use Rattle.base.specs.Bytes.{choose}
-use Rattle.drawing.specs.declared.word.Way.{Way}
-use Rattle.drawing.specs.declared.word.Way.TheVariants.{On, Stuck}
-use Rattle.drawing.specs.declared.label.EdgeRead.{EdgeRead}
-use Rattle.drawing.specs.declared.label.EdgeRead.TheVariants.{Edge, NoEdge}
+use Rattle.std.specs.Prelude.{Result}
+use Rattle.std.specs.Prelude.{Ok, Err}
+use Rattle.file_records.specs.ProgramPart.{and_then}
+use Rattle.drawing.specs.declared.word.Outside.{Outside}
+use Rattle.drawing.specs.declared.label.Edge.{Edge}
 use Rattle.drawing.specs.Text.{line, letters, edge_line, edge_lines}
 use Rattle.drawing.specs.Runs.{StepInRange, AllInRange}
 use Rattle.drawing.specs.Parts.{edge_head, edge_tail}
 use Rattle.drawing.specs.Accepted.{Reading, run, place}
-use Rattle.drawing.specs.Reading.{has_byte, expect_at, label_at, way_then, label_then, edge_end, edge_at, ending, step_then, edges_at}
+use Rattle.drawing.specs.Reading.{has_byte, expect_at, label_at, edge_end, edge_at, ending, step_then, edges_at, stuck, edge_of}
 use Rattle.drawing.proofs.LineLaws.{edge_parts, edge_length}
 use Rattle.drawing.proofs.WordLaws.{Common, Stands, Agree, word_next, word_was, word_stuck, word_on, stands_then, stands_as, stands_from, common_none, common_more, common_as, stands_common, same_on, same_stuck, same_end}
 use Rattle.drawing.proofs.LabelLaws.{LabelCase, label_is, label_case, label_was, label_stuck, label_on, label_same, label_same_stuck}
@@ -35,41 +36,41 @@ place_same e = cc
 -- ---- one edge
 
 module _ (t : List ℕ) (at k : ℕ) where
-  pub data EdgeCase : EdgeRead → Type 0 where
-    no_head : {p : ℕ} → expect_at t at (edge_head k) ≡ Stuck p → EdgeCase (NoEdge p)
-    no_label : {a p : ℕ} → expect_at t at (edge_head k) ≡ On a → LabelCase t a (NoEdge p) → EdgeCase (NoEdge p)
-    no_tail : {a b p : ℕ} {s : Step} → expect_at t at (edge_head k) ≡ On a → LabelCase t a (Edge s b) → expect_at t b edge_tail ≡ Stuck p
-        → EdgeCase (NoEdge p)
-    whole : {a b d : ℕ} {s : Step} → expect_at t at (edge_head k) ≡ On a → LabelCase t a (Edge s b) → expect_at t b edge_tail ≡ On d → EdgeCase (Edge s d)
+  pub data EdgeCase : Result Edge Outside → Type 0 where
+    no_head : {p : ℕ} → expect_at t at (edge_head k) ≡ stuck p → EdgeCase (stuck p)
+    no_label : {a p : ℕ} → expect_at t at (edge_head k) ≡ Ok a → LabelCase t a (stuck p) → EdgeCase (stuck p)
+    no_tail : {a b p : ℕ} {s : Step} → expect_at t at (edge_head k) ≡ Ok a → LabelCase t a (edge_of s b) → expect_at t b edge_tail ≡ stuck p
+        → EdgeCase (stuck p)
+    whole : {a b d : ℕ} {s : Step} → expect_at t at (edge_head k) ≡ Ok a → LabelCase t a (edge_of s b) → expect_at t b edge_tail ≡ Ok d → EdgeCase (edge_of s d)
 
-  pub edge_is : {r : EdgeRead} → EdgeCase r → edge_at t at k ≡ r
+  pub edge_is : {r : Result Edge Outside} → EdgeCase r → edge_at t at k ≡ r
   unfolding edge_at edge_end
   edge_is (no_head e) = rw e
   edge_is (no_label {a = a} e c) = rw (e, label_is t a c)
   edge_is (no_tail {a = a} e c d) = rw (e, label_is t a c, d)
   edge_is (whole {a = a} e c d) = rw (e, label_is t a c, d)
 
-  end_case : {a b : ℕ} {s : Step} → expect_at t at (edge_head k) ≡ On a → LabelCase t a (Edge s b) → EdgeCase (edge_end t b s)
+  end_case : {a b : ℕ} {s : Step} → expect_at t at (edge_head k) ≡ Ok a → LabelCase t a (edge_of s b) → EdgeCase (edge_end t b s)
   unfolding edge_end
   end_case {a} {b} {s} e c = go (expect_at t b edge_tail) refl
     where
-      go : (x : Way) → expect_at t b edge_tail ≡ x → EdgeCase (way_then x (λ d. Edge s d))
-      go (On d) h = whole e c h
-      go (Stuck p) h = no_tail e c h
+      go : (x : Result ℕ Outside) → expect_at t b edge_tail ≡ x → EdgeCase (and_then x (λ d. edge_of s d))
+      go (Ok d) h = whole e c h
+      go (Err o) h = no_tail e c h
 
   pub edge_case : EdgeCase (edge_at t at k)
   unfolding edge_at
   edge_case = go (expect_at t at (edge_head k)) refl
     where
-      label : {a : ℕ} → expect_at t at (edge_head k) ≡ On a → (r : EdgeRead) → LabelCase t a r → EdgeCase (label_then r (λ s b. edge_end t b s))
-      label e (Edge s b) c = end_case e c
-      label e (NoEdge p) c = no_label e c
+      label : {a : ℕ} → expect_at t at (edge_head k) ≡ Ok a → (r : Result Edge Outside) → LabelCase t a r → EdgeCase (and_then r (λ x. edge_end t x.next x.step))
+      label e (Ok x) c = end_case e c
+      label e (Err o) c = no_label e c
 
-      go : (x : Way) → expect_at t at (edge_head k) ≡ x → EdgeCase (way_then x (λ a. label_then (label_at t a) (λ s b. edge_end t b s)))
-      go (On a) e = label e (label_at t a) (label_case t a)
-      go (Stuck p) e = no_head e
+      go : (x : Result ℕ Outside) → expect_at t at (edge_head k) ≡ x → EdgeCase (and_then x (λ a. and_then (label_at t a) (λ x. edge_end t x.next x.step)))
+      go (Ok a) e = label e (label_at t a) (label_case t a)
+      go (Err o) e = no_head e
 
-  pub edge_was : {s : Step} {d : ℕ} → EdgeCase (Edge s d) → StepInRange s × Stands t at d (edge_line k s)
+  pub edge_was : {s : Step} {d : ℕ} → EdgeCase (edge_of s d) → StepInRange s × Stands t at d (edge_line k s)
   edge_was (whole {a = a} {b = b} {d = d} {s = s} e c f) =
       let w = label_was t a c in (
         w.0,
@@ -82,7 +83,7 @@ module _ (t : List ℕ) (at k : ℕ) where
     pub range : StepInRange step
     pub common : Common t at p (edge_line k step)
 
-  pub edge_stuck : {p : ℕ} → EdgeCase (NoEdge p) → EdgeViable p
+  pub edge_stuck : {p : ℕ} → EdgeCase (stuck p) → EdgeViable p
   edge_stuck (no_head {p = p} e) =
       record {
         step = Take 0;
@@ -107,7 +108,7 @@ module _ (t : List ℕ) (at k : ℕ) where
             (sym (edge_parts k s));
       }
 
-  pub edge_on : (s : Step) (x : List ℕ) → StepInRange s → drop at t ≡ edge_line k s ++ x → edge_at t at k ≡ Edge s (at + length (edge_line k s))
+  pub edge_on : (s : Step) (x : List ℕ) → StepInRange s → drop at t ≡ edge_line k s ++ x → edge_at t at k ≡ edge_of s (at + length (edge_line k s))
   edge_on s x l e =
       let tail : List ℕ = edge_tail ++ x in
       let q : drop at t ≡ edge_head k ++ (letters s ++ tail) =
@@ -120,15 +121,15 @@ module _ (t : List ℕ) (at k : ℕ) where
       let q' = stands_from t at (edge_head k) (letters s ++ tail) q in
       let b : ℕ = a + length (letters s) in
       let q'' = stands_from t a (letters s) tail q' in
-      let c : LabelCase t a (Edge s b) = subst (LabelCase t a) (label_on t a s (59 ∷ 10 ∷ x) l q') (label_case t a) in
+      let c : LabelCase t a (edge_of s b) = subst (LabelCase t a) (label_on t a s (59 ∷ 10 ∷ x) l q') (label_case t a) in
       let p : b + 3 ≡ at + length (edge_line k s) =
       omega
       (arith, ap length (edge_parts k s), length-append (edge_head k) (letters s ++ edge_tail), length-append (letters s) edge_tail)
       in
-      edge_is (whole (word_on t at (edge_head k) (letters s ++ tail) q) c (word_on t b edge_tail x q'')) ∙ ap (Edge s) p
+      edge_is (whole (word_on t at (edge_head k) (letters s ++ tail) q) c (word_on t b edge_tail x q'')) ∙ ap (edge_of s) p
 
   -- an edge that begins as it should stops no sooner than at its second byte
-  pub edge_past : {p : ℕ} → has_byte t at 99 ≡ true → EdgeCase (NoEdge p) → at + 1 ≤ p
+  pub edge_past : {p : ℕ} → has_byte t at 99 ≡ true → EdgeCase (stuck p) → at + 1 ≤ p
   unfolding edge_head
   edge_past h (no_head {p = p} e) =
       let c = word_stuck t (at + 1) _ p (sym (word_next t at 99 _ h) ∙ e) in omega (arith, c.place)
@@ -157,11 +158,11 @@ fill_range zero = tt
 fill_range (suc n) = (omega arith, fill_range n)
 
 module _ (t : List ℕ) where
-  pub edges_edge : (m at k : ℕ) {s : Step} {a : ℕ} → edge_at t at k ≡ Edge s a → edges_at (suc m) t at k ≡ step_then s (edges_at m t a (k + 1))
+  pub edges_edge : (m at k : ℕ) {s : Step} {a : ℕ} → edge_at t at k ≡ edge_of s a → edges_at (suc m) t at k ≡ step_then s (edges_at m t a (k + 1))
   unfolding edges_at
   edges_edge m at k e = rw e
 
-  pub edges_none : (m at k : ℕ) {p : ℕ} → edge_at t at k ≡ NoEdge p → edges_at (suc m) t at k ≡ place p
+  pub edges_none : (m at k : ℕ) {p : ℕ} → edge_at t at k ≡ stuck p → edges_at (suc m) t at k ≡ place p
   unfolding edges_at
   edges_none m at k e = rw e
 
@@ -189,7 +190,7 @@ module _ (t : List ℕ) where
   unfolding edge_lines
   end_was at k ss e = go (expect_at t at closing) refl e
     where
-      over : (a : ℕ) → expect_at t at closing ≡ On a → (b : Bool) → ltb a (length t) ≡ b → choose b (λ _. place a) (λ _. run []) ≡ run ss
+      over : (a : ℕ) → expect_at t at closing ≡ Ok a → (b : Bool) → ltb a (length t) ≡ b → choose b (λ _. place a) (λ _. run []) ≡ run ss
           → EdgesWere 0 at k ss
       over a h true d e = absurd (run_place (sym e))
       over a h false d e =
@@ -201,15 +202,15 @@ module _ (t : List ℕ) where
             here = s.here ∙ ap (λ (w : List ℕ). closing ++ w) (drop_of_length-le t (ltb-false a (length t) d)) ∙ plain closing;
           })
 
-      go : (x : Way) → expect_at t at closing ≡ x → ending t x ≡ run ss → EdgesWere 0 at k ss
-      go (On a) h e = over a h (ltb a (length t)) refl e
-      go (Stuck p) h e = absurd (run_place (sym e))
+      go : (x : Result ℕ Outside) → expect_at t at closing ≡ x → ending t x ≡ run ss → EdgesWere 0 at k ss
+      go (Ok a) h e = over a h (ltb a (length t)) refl e
+      go (Err o) h e = absurd (run_place (sym e))
 
   end_stuck : (at k p : ℕ) → ending t (expect_at t at closing) ≡ place p → EdgesViable 0 at k p
   unfolding edge_lines
   end_stuck at k p e = go (expect_at t at closing) refl e
     where
-      over : (a : ℕ) → expect_at t at closing ≡ On a → (b : Bool) → ltb a (length t) ≡ b → choose b (λ _. place a) (λ _. run []) ≡ place p
+      over : (a : ℕ) → expect_at t at closing ≡ Ok a → (b : Bool) → ltb a (length t) ≡ b → choose b (λ _. place a) (λ _. run []) ≡ place p
           → EdgesViable 0 at k p
       over a h true d e =
           record {
@@ -222,14 +223,14 @@ module _ (t : List ℕ) where
           }
       over a h false d e = absurd (run_place e)
 
-      go : (x : Way) → expect_at t at closing ≡ x → ending t x ≡ place p → EdgesViable 0 at k p
-      go (On a) h e = over a h (ltb a (length t)) refl e
-      go (Stuck q) h e =
+      go : (x : Result ℕ Outside) → expect_at t at closing ≡ x → ending t x ≡ place p → EdgesViable 0 at k p
+      go (Ok a) h e = over a h (ltb a (length t)) refl e
+      go (Err o) h e =
           record {
             steps = [];
             range = tt;
             count = refl;
-            common = subst (λ (r : ℕ). Common t at r closing) (place_same e) (word_stuck t at closing q h);
+            common = subst (λ (r : ℕ). Common t at r closing) (place_same e) (word_stuck t at closing o.place h);
           }
 
   edges_join : {m at k a : ℕ} {s : Step} {ss : List Step} → StepInRange s → Stands t at a (edge_line k s) → EdgesWere m a (k + 1) ss
@@ -247,17 +248,17 @@ module _ (t : List ℕ) where
             ∙ ap (λ (j : ℕ). (edge_line k s ++ edge_lines j ss) ++ closing) n;
       }
 
-  were_after : (m at k : ℕ) (ss : List Step) (s : Step) (a : ℕ) → EdgeCase t at k (Edge s a) → (r : Reading)
+  were_after : (m at k : ℕ) (ss : List Step) (s : Step) (a : ℕ) → EdgeCase t at k (edge_of s a) → (r : Reading)
       → ((rs : List Step) → r ≡ run rs → EdgesWere m a (k + 1) rs) → step_then s r ≡ run ss → EdgesWere (suc m) at k ss
   were_after m at k ss s a c (run rs) ih e =
       let w = edge_was t at k c in subst (EdgesWere (suc m) at k) (run_same e) (edges_join w.0 w.1 (ih rs refl))
   were_after m at k ss s a c (place p) ih e = absurd (run_place (sym e))
 
-  were_next : (m at k : ℕ) (ss : List Step) (r : EdgeRead) → EdgeCase t at k r → edges_at (suc m) t at k ≡ run ss
+  were_next : (m at k : ℕ) (ss : List Step) (r : Result Edge Outside) → EdgeCase t at k r → edges_at (suc m) t at k ≡ run ss
       → ((a : ℕ) (rs : List Step) → edges_at m t a (k + 1) ≡ run rs → EdgesWere m a (k + 1) rs) → EdgesWere (suc m) at k ss
-  were_next m at k ss (Edge s a) c e ih =
-      were_after m at k ss s a c (edges_at m t a (k + 1)) (ih a) (sym (edges_edge m at k (edge_is t at k c)) ∙ e)
-  were_next m at k ss (NoEdge p) c e ih = absurd (run_place (sym e ∙ edges_none m at k (edge_is t at k c)))
+  were_next m at k ss (Ok x) c e ih =
+      were_after m at k ss x.step x.next c (edges_at m t x.next (k + 1)) (ih x.next) (sym (edges_edge m at k (edge_is t at k c)) ∙ e)
+  were_next m at k ss (Err o) c e ih = absurd (run_place (sym e ∙ edges_none m at k (edge_is t at k c)))
 
   pub edges_were : (m at k : ℕ) (ss : List Step) → edges_at m t at k ≡ run ss → EdgesWere m at k ss
   edges_were zero at k ss e = end_was at k ss (sym (edges_end at k) ∙ e)
@@ -289,17 +290,17 @@ module _ (t : List ℕ) where
             (sym (append_assoc (edge_line k v.step) (edge_lines (suc k) (fill m)) closing));
       }
 
-  stuck_after : (m at k p : ℕ) (s : Step) (a : ℕ) → EdgeCase t at k (Edge s a) → (r : Reading)
+  stuck_after : (m at k p : ℕ) (s : Step) (a : ℕ) → EdgeCase t at k (edge_of s a) → (r : Reading)
       → (r ≡ place p → EdgesViable m a (k + 1) p) → step_then s r ≡ place p → EdgesViable (suc m) at k p
   stuck_after m at k p s a c (run rs) ih e = absurd (run_place e)
   stuck_after m at k p s a c (place q) ih e = let w = edge_was t at k c in viable_join s w.0 w.1 (ih (ap place (place_same e)))
 
-  stuck_next : (m at k p : ℕ) (r : EdgeRead) → EdgeCase t at k r → edges_at (suc m) t at k ≡ place p
+  stuck_next : (m at k p : ℕ) (r : Result Edge Outside) → EdgeCase t at k r → edges_at (suc m) t at k ≡ place p
       → ((a : ℕ) → edges_at m t a (k + 1) ≡ place p → EdgesViable m a (k + 1) p) → EdgesViable (suc m) at k p
-  stuck_next m at k p (Edge s a) c e ih =
-      stuck_after m at k p s a c (edges_at m t a (k + 1)) (ih a) (sym (edges_edge m at k (edge_is t at k c)) ∙ e)
-  stuck_next m at k p (NoEdge q) c e ih =
-      subst (EdgesViable (suc m) at k) (place_same (sym (edges_none m at k (edge_is t at k c)) ∙ e)) (viable_first m at k q (edge_stuck t at k c))
+  stuck_next m at k p (Ok x) c e ih =
+      stuck_after m at k p x.step x.next c (edges_at m t x.next (k + 1)) (ih x.next) (sym (edges_edge m at k (edge_is t at k c)) ∙ e)
+  stuck_next m at k p (Err o) c e ih =
+      subst (EdgesViable (suc m) at k) (place_same (sym (edges_none m at k (edge_is t at k c)) ∙ e)) (viable_first m at k o.place (edge_stuck t at k c))
 
   pub edges_stuck : (m at k p : ℕ) → edges_at m t at k ≡ place p → EdgesViable m at k p
   edges_stuck zero at k p e = end_stuck at k p (sym (edges_end at k) ∙ e)
@@ -313,8 +314,8 @@ module _ (t : List ℕ) where
       ∙ ap (ending t) (closes at e)
       ∙ ended a (ended_here at e)
     where
-      closes : (at : ℕ) → drop at t ≡ closing → expect_at t at closing ≡ On (at + 2)
-      closes at e = word_on t at closing [] (e ∙ sym (plain closing)) ∙ ap (λ (n : ℕ). On (at + n)) two
+      closes : (at : ℕ) → drop at t ≡ closing → expect_at t at closing ≡ Ok (at + 2)
+      closes at e = word_on t at closing [] (e ∙ sym (plain closing)) ∙ ap (λ (n : ℕ). Ok (at + n)) two
         where
           two : length closing ≡ 2
           two = unfold closing in refl
@@ -322,7 +323,7 @@ module _ (t : List ℕ) where
       ended_here : (at : ℕ) → drop at t ≡ closing → length t ≤ at + 2
       ended_here at e = unfold closing in omega (arith, lib.ListN.length-drop at t, ap length e)
 
-      ended : (a : ℕ) → length t ≤ a → ending t (On a) ≡ run []
+      ended : (a : ℕ) → length t ≤ a → ending t (Ok a) ≡ run []
       ended a l = rw (le-ltb a (length t) l)
   edges_on (s ∷ ss) at k l e =
       let n : k + 1 ≡ suc k = omega arith in
@@ -340,21 +341,21 @@ module _ (t : List ℕ) where
       inner s a (run rs) d q = absurd (run_place q)
       inner s a (place q) d f = omega (arith, (edges_stuck m a (k + 1) q d).common.place, place_same f)
 
-      go : (r : EdgeRead) → EdgeCase t at k r → at + 1 ≤ p
-      go (Edge s a) c =
+      go : (r : Result Edge Outside) → EdgeCase t at k r → at + 1 ≤ p
+      go (Ok x) c =
           let w = (edge_was t at k c).1 in
-          omega (arith, w.next, edge_length k s, inner s a (edges_at m t a (k + 1)) refl (sym (edges_edge m at k (edge_is t at k c)) ∙ e))
-      go (NoEdge q) c = omega (arith, edge_past t at k h c, place_same (sym (edges_none m at k (edge_is t at k c)) ∙ e))
+          omega (arith, w.next, edge_length k x.step, inner x.step x.next (edges_at m t x.next (k + 1)) refl (sym (edges_edge m at k (edge_is t at k c)) ∙ e))
+      go (Err o) c = omega (arith, edge_past t at k h c, place_same (sym (edges_none m at k (edge_is t at k c)) ∙ e))
 
 -- ---- the same bytes, the same edges
 
 module _ (t u : List ℕ) (p : ℕ) (same : Agree t u p) where
-  pub on_same_word : (at a : ℕ) (w : List ℕ) → expect_at t at w ≡ On a → a ≤ p + 1 → expect_at u at w ≡ On a
+  pub on_same_word : (at a : ℕ) (w : List ℕ) → expect_at t at w ≡ Ok a → a ≤ p + 1 → expect_at u at w ≡ Ok a
   on_same_word at a w e l =
       let n = (word_was t at w a e).next in
-      same_on t u p same at w (omega arith) (e ∙ ap On n) ∙ ap On (sym n)
+      same_on t u p same at w (omega arith) (e ∙ ap Ok n) ∙ ap Ok (sym n)
 
-  edge_same : (at k : ℕ) {s : Step} {d : ℕ} → EdgeCase t at k (Edge s d) → d ≤ p + 1 → edge_at u at k ≡ Edge s d
+  edge_same : (at k : ℕ) {s : Step} {d : ℕ} → EdgeCase t at k (edge_of s d) → d ≤ p + 1 → edge_at u at k ≡ edge_of s d
   edge_same at k (whole {a = a} {b = b} {d = d} {s = s} e c f) l =
       let w = (label_was t a c).1 in
       let v = word_was t b edge_tail d f in
@@ -362,7 +363,7 @@ module _ (t u : List ℕ) (p : ℕ) (same : Agree t u p) where
       edge_is u at k
       (whole (on_same_word at a (edge_head k) e (omega (arith, w.next, v.next))) (subst (LabelCase u a) g (label_case u a)) (on_same_word b d edge_tail f l))
 
-  edge_same_stuck : (at k : ℕ) → EdgeCase t at k (NoEdge p) → edge_at u at k ≡ NoEdge p
+  edge_same_stuck : (at k : ℕ) → EdgeCase t at k (stuck p) → edge_at u at k ≡ stuck p
   edge_same_stuck at k (no_head e) = edge_is u at k (no_head (same_stuck t u p same at (edge_head k) e))
   edge_same_stuck at k (no_label {a = a} e c) =
       let v = (label_stuck t a c).common in
@@ -380,7 +381,7 @@ module _ (t u : List ℕ) (p : ℕ) (same : Agree t u p) where
   end_same : (at k : ℕ) → ending t (expect_at t at closing) ≡ place p → ending u (expect_at u at closing) ≡ place p
   end_same at k e = go (expect_at t at closing) refl e
     where
-      over : (a : ℕ) → expect_at t at closing ≡ On a → (b : Bool) → ltb a (length t) ≡ b → choose b (λ _. place a) (λ _. run []) ≡ place p
+      over : (a : ℕ) → expect_at t at closing ≡ Ok a → (b : Bool) → ltb a (length t) ≡ b → choose b (λ _. place a) (λ _. run []) ≡ place p
           → ending u (expect_at u at closing) ≡ place p
       over a h true d e =
           let q = place_same e in
@@ -389,11 +390,11 @@ module _ (t u : List ℕ) (p : ℕ) (same : Agree t u p) where
           ∙ e
       over a h false d e = absurd (run_place e)
 
-      go : (x : Way) → expect_at t at closing ≡ x → ending t x ≡ place p → ending u (expect_at u at closing) ≡ place p
-      go (On a) h e = over a h (ltb a (length t)) refl e
-      go (Stuck q) h e = ap (ending u) (same_stuck t u p same at closing (h ∙ ap Stuck (place_same e)))
+      go : (x : Result ℕ Outside) → expect_at t at closing ≡ x → ending t x ≡ place p → ending u (expect_at u at closing) ≡ place p
+      go (Ok a) h e = over a h (ltb a (length t)) refl e
+      go (Err o) h e = ap (ending u) (same_stuck t u p same at closing (h ∙ ap stuck (place_same e)))
 
-  same_after : (m at k : ℕ) (s : Step) (a : ℕ) → EdgeCase t at k (Edge s a) → (r : Reading) → edges_at m t a (k + 1) ≡ r → step_then s r ≡ place p
+  same_after : (m at k : ℕ) (s : Step) (a : ℕ) → EdgeCase t at k (edge_of s a) → (r : Reading) → edges_at m t a (k + 1) ≡ r → step_then s r ≡ place p
       → (edges_at m t a (k + 1) ≡ place p → edges_at m u a (k + 1) ≡ place p) → edges_at (suc m) u at k ≡ place p
   same_after m at k s a c (run rs) d e ih = absurd (run_place e)
   same_after m at k s a c (place q) d e ih =
@@ -401,13 +402,13 @@ module _ (t u : List ℕ) (p : ℕ) (same : Agree t u p) where
       let v = (edges_stuck t m a (k + 1) p d').common in
       edges_edge u m at k (edge_same at k c (omega (arith, v.place))) ∙ ap (step_then s) (ih d')
 
-  same_next : (m at k : ℕ) (r : EdgeRead) → EdgeCase t at k r → edges_at (suc m) t at k ≡ place p
+  same_next : (m at k : ℕ) (r : Result Edge Outside) → EdgeCase t at k r → edges_at (suc m) t at k ≡ place p
       → ((a : ℕ) → edges_at m t a (k + 1) ≡ place p → edges_at m u a (k + 1) ≡ place p) → edges_at (suc m) u at k ≡ place p
-  same_next m at k (Edge s a) c e ih =
-      same_after m at k s a c (edges_at m t a (k + 1)) refl (sym (edges_edge t m at k (edge_is t at k c)) ∙ e) (ih a)
-  same_next m at k (NoEdge q) c e ih =
+  same_next m at k (Ok x) c e ih =
+      same_after m at k x.step x.next c (edges_at m t x.next (k + 1)) refl (sym (edges_edge t m at k (edge_is t at k c)) ∙ e) (ih x.next)
+  same_next m at k (Err o) c e ih =
       let d = place_same (sym (edges_none t m at k (edge_is t at k c)) ∙ e) in
-      edges_none u m at k (edge_same_stuck at k (subst (λ (n : ℕ). EdgeCase t at k (NoEdge n)) d c))
+      edges_none u m at k (edge_same_stuck at k (subst (λ (n : ℕ). EdgeCase t at k (stuck n)) d c))
 
   pub edges_same : (m at k : ℕ) → edges_at m t at k ≡ place p → edges_at m u at k ≡ place p
   edges_same zero at k e = edges_end u at k ∙ end_same at k (sym (edges_end t at k) ∙ e)

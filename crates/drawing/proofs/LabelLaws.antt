@@ -12,11 +12,12 @@ use borrow.Author.Tests.{leb-true, le-leb, lt-leb, eqb-false, ne_eqb, not-true}
 use Rattle.machine_pws.specs.declared.Step.{Step}
 use Rattle.machine_pws.specs.declared.Step.TheVariants.{Take, Serialise, Update}
 use Rattle.base.specs.Bytes.{choose, byte}
-use Rattle.drawing.specs.declared.label.EdgeRead.{EdgeRead}
-use Rattle.drawing.specs.declared.label.EdgeRead.TheVariants.{Edge, NoEdge}
+use Rattle.std.specs.Prelude.{Result}
+use Rattle.drawing.specs.declared.word.Outside.{Outside}
+use Rattle.drawing.specs.declared.label.Edge.{Edge}
 use Rattle.drawing.specs.Text.{digit, decimal, letters}
 use Rattle.drawing.specs.Runs.{StepInRange}
-use Rattle.drawing.specs.Reading.{has_byte, is_digit_byte, is_small, value_at, third_digit, second_digit, number_at, variable_at, pair_at, process_at, label_at}
+use Rattle.drawing.specs.Reading.{has_byte, is_digit_byte, is_small, value_at, third_digit, second_digit, number_at, variable_at, pair_at, process_at, label_at, stuck, edge_of}
 use Rattle.drawing.proofs.NumberLaws.{decimal_one, decimal_two, decimal_three}
 use Rattle.drawing.proofs.WordLaws.{both_are, Common, Stands, Agree, head_here, here_has, stands_then, stands_as, stands_byte, common_none, stands_common, same_has, same_byte}
 
@@ -32,25 +33,25 @@ module _ (t : List ℕ) (at : ℕ) where
   three_of = 10 * two_of + value_at t (at + 1 + 1 + 1)
 
   -- each way that a reading of the letters can go
-  pub data LabelCase : EdgeRead → Type 0 where
-    no_letter : has_byte t at 116 ≡ false → has_byte t at 115 ≡ false → has_byte t at 117 ≡ false → LabelCase (NoEdge at)
-    without_digit : has_byte t at 116 ≡ true → is_digit_byte t (at + 1) ≡ false → LabelCase (NoEdge (at + 1))
+  pub data LabelCase : Result Edge Outside → Type 0 where
+    no_letter : has_byte t at 116 ≡ false → has_byte t at 115 ≡ false → has_byte t at 117 ≡ false → LabelCase (stuck at)
+    without_digit : has_byte t at 116 ≡ true → is_digit_byte t (at + 1) ≡ false → LabelCase (stuck (at + 1))
     one : has_byte t at 116 ≡ true → is_digit_byte t (at + 1) ≡ true → (not (eqb first_of 0) && is_digit_byte t (at + 1 + 1)) ≡ false
-        → LabelCase (Edge (Take first_of) (at + 1 + 1))
+        → LabelCase (edge_of (Take first_of) (at + 1 + 1))
     two : has_byte t at 116 ≡ true → is_digit_byte t (at + 1) ≡ true → (not (eqb first_of 0) && is_digit_byte t (at + 1 + 1)) ≡ true
-        → (is_digit_byte t (at + 1 + 1 + 1) && leb three_of 255) ≡ false → LabelCase (Edge (Take two_of) (at + 1 + 1 + 1))
+        → (is_digit_byte t (at + 1 + 1 + 1) && leb three_of 255) ≡ false → LabelCase (edge_of (Take two_of) (at + 1 + 1 + 1))
     three : has_byte t at 116 ≡ true → is_digit_byte t (at + 1) ≡ true → (not (eqb first_of 0) && is_digit_byte t (at + 1 + 1)) ≡ true
-        → (is_digit_byte t (at + 1 + 1 + 1) && leb three_of 255) ≡ true → LabelCase (Edge (Take three_of) (at + 1 + 1 + 1 + 1))
-    no_process : has_byte t at 116 ≡ false → has_byte t at 115 ≡ true → is_small t (at + 1) ≡ false → LabelCase (NoEdge (at + 1))
+        → (is_digit_byte t (at + 1 + 1 + 1) && leb three_of 255) ≡ true → LabelCase (edge_of (Take three_of) (at + 1 + 1 + 1 + 1))
+    no_process : has_byte t at 116 ≡ false → has_byte t at 115 ≡ true → is_small t (at + 1) ≡ false → LabelCase (stuck (at + 1))
     no_variable : has_byte t at 116 ≡ false → has_byte t at 115 ≡ true → is_small t (at + 1) ≡ true → is_small t (at + 1 + 1) ≡ false
-        → LabelCase (NoEdge (at + 1 + 1))
+        → LabelCase (stuck (at + 1 + 1))
     pair : has_byte t at 116 ≡ false → has_byte t at 115 ≡ true → is_small t (at + 1) ≡ true → is_small t (at + 1 + 1) ≡ true
-        → LabelCase (Edge (Serialise first_of (value_at t (at + 1 + 1))) (at + 1 + 1 + 1))
-    no_update : has_byte t at 116 ≡ false → has_byte t at 115 ≡ false → has_byte t at 117 ≡ true → is_small t (at + 1) ≡ false → LabelCase (NoEdge (at + 1))
+        → LabelCase (edge_of (Serialise first_of (value_at t (at + 1 + 1))) (at + 1 + 1 + 1))
+    no_update : has_byte t at 116 ≡ false → has_byte t at 115 ≡ false → has_byte t at 117 ≡ true → is_small t (at + 1) ≡ false → LabelCase (stuck (at + 1))
     update : has_byte t at 116 ≡ false → has_byte t at 115 ≡ false → has_byte t at 117 ≡ true → is_small t (at + 1) ≡ true
-        → LabelCase (Edge (Update first_of) (at + 1 + 1))
+        → LabelCase (edge_of (Update first_of) (at + 1 + 1))
 
-  pub label_is : {r : EdgeRead} → LabelCase r → label_at t at ≡ r
+  pub label_is : {r : Result Edge Outside} → LabelCase r → label_at t at ≡ r
   unfolding label_at number_at second_digit third_digit pair_at variable_at process_at
   label_is (no_letter a b c) = rw (a, b, c)
   label_is (without_digit a b) = rw (a, b)
@@ -69,7 +70,7 @@ module _ (t : List ℕ) (at : ℕ) where
   third_case a b c = go (is_digit_byte t (at + 1 + 1 + 1) && leb three_of 255) refl
     where
       go : (x : Bool) → (is_digit_byte t (at + 1 + 1 + 1) && leb three_of 255) ≡ x
-          → LabelCase (choose x (λ _. Edge (Take three_of) (at + 1 + 1 + 1 + 1)) (λ _. Edge (Take two_of) (at + 1 + 1 + 1)))
+          → LabelCase (choose x (λ _. edge_of (Take three_of) (at + 1 + 1 + 1 + 1)) (λ _. edge_of (Take two_of) (at + 1 + 1 + 1)))
       go true d = three a b c d
       go false d = two a b c d
 
@@ -78,7 +79,7 @@ module _ (t : List ℕ) (at : ℕ) where
   second_case a b = go (not (eqb first_of 0) && is_digit_byte t (at + 1 + 1)) refl
     where
       go : (x : Bool) → (not (eqb first_of 0) && is_digit_byte t (at + 1 + 1)) ≡ x
-          → LabelCase (choose x (λ _. third_digit t (at + 1 + 1 + 1) two_of) (λ _. Edge (Take first_of) (at + 1 + 1)))
+          → LabelCase (choose x (λ _. third_digit t (at + 1 + 1 + 1) two_of) (λ _. edge_of (Take first_of) (at + 1 + 1)))
       go true d = third_case a b d
       go false d = one a b d
 
@@ -86,7 +87,7 @@ module _ (t : List ℕ) (at : ℕ) where
   unfolding number_at
   number_case a = go (is_digit_byte t (at + 1)) refl
     where
-      go : (x : Bool) → is_digit_byte t (at + 1) ≡ x → LabelCase (choose x (λ _. second_digit t (at + 1 + 1) first_of) (λ _. NoEdge (at + 1)))
+      go : (x : Bool) → is_digit_byte t (at + 1) ≡ x → LabelCase (choose x (λ _. second_digit t (at + 1 + 1) first_of) (λ _. stuck (at + 1)))
       go true d = second_case a d
       go false d = without_digit a d
 
@@ -95,7 +96,7 @@ module _ (t : List ℕ) (at : ℕ) where
   variable_case a b c = go (is_small t (at + 1 + 1)) refl
     where
       go : (x : Bool) → is_small t (at + 1 + 1) ≡ x
-          → LabelCase (choose x (λ _. Edge (Serialise first_of (value_at t (at + 1 + 1))) (at + 1 + 1 + 1)) (λ _. NoEdge (at + 1 + 1)))
+          → LabelCase (choose x (λ _. edge_of (Serialise first_of (value_at t (at + 1 + 1))) (at + 1 + 1 + 1)) (λ _. stuck (at + 1 + 1)))
       go true d = pair a b c d
       go false d = no_variable a b c d
 
@@ -103,7 +104,7 @@ module _ (t : List ℕ) (at : ℕ) where
   unfolding pair_at
   pair_case a b = go (is_small t (at + 1)) refl
     where
-      go : (x : Bool) → is_small t (at + 1) ≡ x → LabelCase (choose x (λ _. variable_at t (at + 1 + 1) first_of) (λ _. NoEdge (at + 1)))
+      go : (x : Bool) → is_small t (at + 1) ≡ x → LabelCase (choose x (λ _. variable_at t (at + 1 + 1) first_of) (λ _. stuck (at + 1)))
       go true d = variable_case a b d
       go false d = no_process a b d
 
@@ -111,7 +112,7 @@ module _ (t : List ℕ) (at : ℕ) where
   unfolding process_at
   process_case a b c = go (is_small t (at + 1)) refl
     where
-      go : (x : Bool) → is_small t (at + 1) ≡ x → LabelCase (choose x (λ _. Edge (Update first_of) (at + 1 + 1)) (λ _. NoEdge (at + 1)))
+      go : (x : Bool) → is_small t (at + 1) ≡ x → LabelCase (choose x (λ _. edge_of (Update first_of) (at + 1 + 1)) (λ _. stuck (at + 1)))
       go true d = update a b c d
       go false d = no_update a b c d
 
@@ -120,19 +121,19 @@ module _ (t : List ℕ) (at : ℕ) where
   label_case = first (has_byte t at 116) refl
     where
       third : has_byte t at 116 ≡ false → has_byte t at 115 ≡ false → (x : Bool) → has_byte t at 117 ≡ x
-          → LabelCase (choose x (λ _. process_at t (at + 1)) (λ _. NoEdge at))
+          → LabelCase (choose x (λ _. process_at t (at + 1)) (λ _. stuck at))
       third a b true c = process_case a b c
       third a b false c = no_letter a b c
 
       second : has_byte t at 116 ≡ false → (x : Bool) → has_byte t at 115 ≡ x
-          → LabelCase (choose x (λ _. pair_at t (at + 1)) (λ _. choose (has_byte t at 117) (λ _. process_at t (at + 1)) (λ _. NoEdge at)))
+          → LabelCase (choose x (λ _. pair_at t (at + 1)) (λ _. choose (has_byte t at 117) (λ _. process_at t (at + 1)) (λ _. stuck at)))
       second a true b = pair_case a b
       second a false b = third a b (has_byte t at 117) refl
 
       first : (x : Bool) → has_byte t at 116 ≡ x
           → LabelCase
           (choose x (λ _. number_at t (at + 1))
-          (λ _. choose (has_byte t at 115) (λ _. pair_at t (at + 1)) (λ _. choose (has_byte t at 117) (λ _. process_at t (at + 1)) (λ _. NoEdge at))))
+          (λ _. choose (has_byte t at 115) (λ _. pair_at t (at + 1)) (λ _. choose (has_byte t at 117) (λ _. process_at t (at + 1)) (λ _. stuck at))))
       first true a = number_case a
       first false a = second a (has_byte t at 115) refl
 
@@ -216,7 +217,7 @@ three_digits a b c l m n o =
 -- ---- what was read stands there
 
 module _ (t : List ℕ) (at : ℕ) where
-  pub label_was : {s : Step} {b : ℕ} → LabelCase t at (Edge s b) → StepInRange s × Stands t at b (letters s)
+  pub label_was : {s : Step} {b : ℕ} → LabelCase t at (edge_of s b) → StepInRange s × Stands t at b (letters s)
   unfolding letters
   label_was (one a b c) =
       let d = digit_is t (at + 1) b in (
@@ -260,7 +261,7 @@ module _ (t : List ℕ) (at : ℕ) where
     pub range : StepInRange step
     pub common : Common t at k (letters step)
 
-  pub label_stuck : {k : ℕ} → LabelCase t at (NoEdge k) → Viable k
+  pub label_stuck : {k : ℕ} → LabelCase t at (stuck k) → Viable k
   unfolding letters
   label_stuck (no_letter a b c) = record { step = Update 0; range = omega arith; common = common_none t at (117 ∷ 48 ∷ []) }
   label_stuck (without_digit a b) =
@@ -284,7 +285,7 @@ module _ (t : List ℕ) (at : ℕ) where
 -- ---- letters that stand there are read
 
 module _ (t : List ℕ) (at : ℕ) where
-  read_take : (n : ℕ) (x : List ℕ) → n < 256 → drop at t ≡ (116 ∷ decimal n) ++ (93 ∷ x) → label_at t at ≡ Edge (Take n) (at + length (116 ∷ decimal n))
+  read_take : (n : ℕ) (x : List ℕ) → n < 256 → drop at t ≡ (116 ∷ decimal n) ++ (93 ∷ x) → label_at t at ≡ edge_of (Take n) (at + length (116 ∷ decimal n))
   read_take n x l e =
       elim (dec_lt n 10) [
         | yes a ↦
@@ -297,8 +298,8 @@ module _ (t : List ℕ) (at : ℕ) where
             label_is t at
             (one (here_has t at 116 _ (e ∙ ap (λ (w : List ℕ). (116 ∷ w) ++ (93 ∷ x)) q)) d.0
             (ap (λ (b : Bool). not (eqb (value_at t (at + 1)) 0) && b) (no_digit t (at + 1 + 1) j.1) ∙ and_false t (not (eqb (value_at t (at + 1)) 0))))
-            ∙ ap (λ (v : ℕ). Edge (Take v) (at + 1 + 1)) d.1
-            ∙ ap (Edge (Take n)) p
+            ∙ ap (λ (v : ℕ). edge_of (Take v) (at + 1 + 1)) d.1
+            ∙ ap (edge_of (Take n)) p
         | no a ↦
             elim (dec_lt n 100) [
               | yes b ↦
@@ -316,8 +317,8 @@ module _ (t : List ℕ) (at : ℕ) where
                   (two (here_has t at 116 _ e') d.0
                   (both_hold (zero_not t (value_at t (at + 1)) (omega (arith, d.1))) f.0)
                   (ap (λ (y : Bool). y && leb (three_of t at) 255) (no_digit t (at + 1 + 1 + 1) k.1)))
-                  ∙ ap (λ (m : ℕ). Edge (Take m) (at + 1 + 1 + 1)) v
-                  ∙ ap (Edge (Take n)) p
+                  ∙ ap (λ (m : ℕ). edge_of (Take m) (at + 1 + 1 + 1)) v
+                  ∙ ap (edge_of (Take n)) p
               | no b ↦
                   let q = decimal_three n (omega arith) (omega arith) in
                   let e' = e ∙ ap (λ (w : List ℕ). (116 ∷ w) ++ (93 ∷ x)) q in
@@ -334,8 +335,8 @@ module _ (t : List ℕ) (at : ℕ) where
                   (three (here_has t at 116 _ e') d.0
                   (both_hold (zero_not t (value_at t (at + 1)) (omega (arith, d.1))) f.0)
                   (both_hold g.0 (le-leb (three_of t at) 255 (omega arith))))
-                  ∙ ap (λ (m : ℕ). Edge (Take m) (at + 1 + 1 + 1 + 1)) v
-                  ∙ ap (Edge (Take n)) p
+                  ∙ ap (λ (m : ℕ). edge_of (Take m) (at + 1 + 1 + 1 + 1)) v
+                  ∙ ap (edge_of (Take n)) p
             ]
       ]
     where
@@ -346,7 +347,7 @@ module _ (t : List ℕ) (at : ℕ) where
   unfolding has_byte
   other_letter c d x n e = let h = head_here t at c x e in rw (ne_eqb (byte t at) d (λ q. n (sym h.1 ∙ q))) (and_false t (ltb at (length t)))
 
-  pub label_on : (s : Step) (x : List ℕ) → StepInRange s → drop at t ≡ letters s ++ (93 ∷ x) → label_at t at ≡ Edge s (at + length (letters s))
+  pub label_on : (s : Step) (x : List ℕ) → StepInRange s → drop at t ≡ letters s ++ (93 ∷ x) → label_at t at ≡ edge_of s (at + length (letters s))
   unfolding letters
   label_on (Take n) x l e = read_take n x l e
   label_on (Serialise p v) x l e =
@@ -357,9 +358,9 @@ module _ (t : List ℕ) (at : ℕ) where
       let f = is_small_lem t (at + 1 + 1) v l.1 j.1 in
       let q : at + 1 + 1 + 1 ≡ at + 3 = omega arith in
       label_is t at (pair (other_letter 115 116 _ (λ z. omega arith) e) (here_has t at 115 _ e) d.0 f.0)
-      ∙ ap (λ (m : ℕ). Edge (Serialise m (value_at t (at + 1 + 1))) (at + 1 + 1 + 1)) d.1
-      ∙ ap (λ (m : ℕ). Edge (Serialise p m) (at + 1 + 1 + 1)) f.1
-      ∙ ap (Edge (Serialise p v)) q
+      ∙ ap (λ (m : ℕ). edge_of (Serialise m (value_at t (at + 1 + 1))) (at + 1 + 1 + 1)) d.1
+      ∙ ap (λ (m : ℕ). edge_of (Serialise p m) (at + 1 + 1 + 1)) f.1
+      ∙ ap (edge_of (Serialise p v)) q
   label_on (Update p) x l e =
       let h = head_here t at 117 _ e in
       let i = head_here t (at + 1) (digit p) _ h.2 in
@@ -367,8 +368,8 @@ module _ (t : List ℕ) (at : ℕ) where
       let q : at + 1 + 1 ≡ at + 2 = omega arith in
       label_is t at
       (update (other_letter 117 116 _ (λ z. omega arith) e) (other_letter 117 115 _ (λ z. omega arith) e) (here_has t at 117 _ e) d.0)
-      ∙ ap (λ (m : ℕ). Edge (Update m) (at + 1 + 1)) d.1
-      ∙ ap (Edge (Update p)) q
+      ∙ ap (λ (m : ℕ). edge_of (Update m) (at + 1 + 1)) d.1
+      ∙ ap (edge_of (Update p)) q
 
 -- ---- the same bytes, the same letters
 
@@ -414,27 +415,27 @@ module _ (t u : List ℕ) (k : ℕ) (same : Agree t u k) (at : ℕ) where
       ∙ ap (λ (x : Bool). x && leb (three_of t at) 255) (sym (same_digit (at + 1 + 1 + 1) l))
       ∙ e
 
-  pub label_same : {s : Step} {b : ℕ} → LabelCase t at (Edge s b) → b ≤ k → label_at u at ≡ Edge s b
+  pub label_same : {s : Step} {b : ℕ} → LabelCase t at (edge_of s b) → b ≤ k → label_at u at ≡ edge_of s b
   label_same (one a b c) l =
       label_is u at (one (letter 116 (omega arith) a) (digit_too (at + 1) (omega arith) b) (second_too l c))
-      ∙ ap (λ (v : ℕ). Edge (Take v) (at + 1 + 1)) (sym (same_value (at + 1) (omega arith)))
+      ∙ ap (λ (v : ℕ). edge_of (Take v) (at + 1 + 1)) (sym (same_value (at + 1) (omega arith)))
   label_same (two a b c d) l =
       label_is u at (two (letter 116 (omega arith) a) (digit_too (at + 1) (omega arith) b) (second_too (omega arith) c) (third_too l d))
-      ∙ ap (λ (v : ℕ). Edge (Take v) (at + 1 + 1 + 1)) (sym (same_two (omega arith)))
+      ∙ ap (λ (v : ℕ). edge_of (Take v) (at + 1 + 1 + 1)) (sym (same_two (omega arith)))
   label_same (three a b c d) l =
       label_is u at (three (letter 116 (omega arith) a) (digit_too (at + 1) (omega arith) b) (second_too (omega arith) c) (third_too (omega arith) d))
-      ∙ ap (λ (v : ℕ). Edge (Take v) (at + 1 + 1 + 1 + 1)) (sym (same_three (omega arith)))
+      ∙ ap (λ (v : ℕ). edge_of (Take v) (at + 1 + 1 + 1 + 1)) (sym (same_three (omega arith)))
   label_same (pair a b c d) l =
       label_is u at
       (pair (letter 116 (omega arith) a) (letter 115 (omega arith) b) (small_too (at + 1) (omega arith) c) (small_too (at + 1 + 1) (omega arith) d))
-      ∙ ap (λ (v : ℕ). Edge (Serialise v (value_at u (at + 1 + 1))) (at + 1 + 1 + 1)) (sym (same_value (at + 1) (omega arith)))
-      ∙ ap (λ (v : ℕ). Edge (Serialise (value_at t (at + 1)) v) (at + 1 + 1 + 1)) (sym (same_value (at + 1 + 1) (omega arith)))
+      ∙ ap (λ (v : ℕ). edge_of (Serialise v (value_at u (at + 1 + 1))) (at + 1 + 1 + 1)) (sym (same_value (at + 1) (omega arith)))
+      ∙ ap (λ (v : ℕ). edge_of (Serialise (value_at t (at + 1)) v) (at + 1 + 1 + 1)) (sym (same_value (at + 1 + 1) (omega arith)))
   label_same (update a b c d) l =
       label_is u at
       (update (letter 116 (omega arith) a) (letter 115 (omega arith) b) (letter 117 (omega arith) c) (small_too (at + 1) (omega arith) d))
-      ∙ ap (λ (v : ℕ). Edge (Update v) (at + 1 + 1)) (sym (same_value (at + 1) (omega arith)))
+      ∙ ap (λ (v : ℕ). edge_of (Update v) (at + 1 + 1)) (sym (same_value (at + 1) (omega arith)))
 
-  pub label_same_stuck : {p : ℕ} → LabelCase t at (NoEdge p) → p ≤ k → label_at u at ≡ NoEdge p
+  pub label_same_stuck : {p : ℕ} → LabelCase t at (stuck p) → p ≤ k → label_at u at ≡ stuck p
   label_same_stuck (no_letter a b c) l = label_is u at (no_letter (letter 116 l a) (letter 115 l b) (letter 117 l c))
   label_same_stuck (without_digit a b) l = label_is u at (without_digit (letter 116 (omega arith) a) (digit_too (at + 1) l b))
   label_same_stuck (no_process a b c) l =

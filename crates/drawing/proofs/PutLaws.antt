@@ -1,47 +1,25 @@
 -- Words put into a slice, one after another.
-use Prim.Native.Nat.{ℕ, suc, ◌+◌, ◌<◌, ◌≤◌}
+use Prim.Native.Nat.{ℕ, ◌+◌, ◌-◌, ◌≤◌}
 use mathlib.Core.Path.{◌≡◌, refl, sym, ap, subst, ◌∙◌}
 use mathlib.Core.List.{List, [], ◌++◌, append_assoc}
 use native.Mathlib.Omega.{arith}
-use lib.ListN.{length, get_or, set, take, drop, length-append, length-take, length-drop, length-set, take-append-drop}
-use lib.Seq.{paste, paste-zero, paste-suc, take_all, take_at, drop-append-add, drop-drop, length-take-le}
+use lib.ListN.{length, take, drop, length-append, length-take, length-drop, take-append-drop}
+use lib.Seq.{take_all, take_at, drop-append-add, drop-drop, length-take-le}
+use borrow.Rule.Slice.PartMut.{put_mid}
+use Rattle.std.proofs.lemmas.Slice.{put_mid-paste}
 use Rattle.drawing.specs.Parts.{placed, Put}
 
--- ---- a word, byte by byte
+-- ---- a word, copied to its place
 
-pub record Pasted (old : List ℕ) (at : ℕ) (word : List ℕ) (new : List ℕ) (i : ℕ) : Type 0 where
-  pub fits : at + length word ≤ length old
-  pub same : length new ≡ length old
-  pub most : i ≤ length word
-  pub is : new ≡ paste old at word i
-
-pub pasted_begin : (old : List ℕ) (at : ℕ) (word : List ℕ) → at + length word ≤ length old → Pasted old at word old 0
-pasted_begin old at word l = record { fits = l; same = refl; most = omega arith; is = paste-zero old at word }
-
-pub pasted_next : {old : List ℕ} {at : ℕ} {word new : List ℕ} {i : ℕ} → Pasted old at word new i → i < length word
-    → Pasted old at word (set new (at + i) (get_or word i 0)) (i + 1)
-pasted_next {old} {at} {word} {new} {i} p l =
-    let q : suc i ≡ i + 1 = omega arith in
-    record {
-      fits = p.fits;
-      same = length-set new (at + i) (get_or word i 0) ∙ p.same;
-      most = omega arith;
-      is =
-          ap (λ (x : List ℕ). set x (at + i) (get_or word i 0)) p.is
-          ∙ paste-suc old at word i 0 (omega (arith, p.fits)) l
-          ∙ ap (paste old at word) q;
-    }
-
-pub pasted_all : {old : List ℕ} {at : ℕ} {word new : List ℕ} {i : ℕ} → Pasted old at word new i → length word ≤ i
-    → Put old new at (at + length word) word
+pub copied : (old : List ℕ) (at : ℕ) (word new : List ℕ) → at + length word ≤ length old → new ≡ word
+    → Put old (put_mid at (at + length word - at) old new) at (at + length word) word
 unfolding placed
-pasted_all {old} {at} {word} {new} {i} p l =
-    let q : i ≡ length word = omega (arith, p.most) in
+copied old at word new l e =
     record {
       after = refl;
-      room = p.fits;
+      room = l;
       is =
-          p.is ∙ ap (paste old at word) q
+          put_mid-paste at (at + length word - at) old new word (length word) e (omega arith) refl
           ∙ ap (λ (x : List ℕ). (take at old ++ x) ++ drop (at + length word) old) (take_all (length word) word (omega arith))
           ∙ append_assoc (take at old) word (drop (at + length word) old);
     }

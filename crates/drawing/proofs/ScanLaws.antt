@@ -7,21 +7,21 @@ use native.Mathlib.Omega.{arith}
 use lib.ListN.{length, length-append}
 use Rattle.machine_pws.specs.declared.Step.{Step}
 use Rattle.machine_pws.specs.declared.Step.TheVariants.{Take, Serialise, Update}
-use Rattle.drawing.specs.declared.word.Way.TheVariants.{On, Stuck}
-use Rattle.drawing.specs.declared.label.EdgeRead.TheVariants.{Edge, NoEdge}
-use Rattle.drawing.specs.declared.read.NodesRead.TheVariants.{Nodes, NoNodes}
-use Rattle.drawing.specs.declared.read.Size.TheVariants.{Bytes, Outside}
+use Rattle.std.specs.Prelude.{Result, Ok, Err, IsOk}
+use Rattle.std.proofs.Common.{rules}
+use Rattle.drawing.specs.declared.word.Outside.{Outside}
+use Rattle.drawing.specs.declared.label.Edge.{Edge}
 use Rattle.drawing.specs.Text.{node_line}
 use Rattle.drawing.specs.Runs.{StepInRange, record_of, records_of}
 use Rattle.drawing.specs.Parts.{placed, Put, edge_head}
 use Rattle.drawing.specs.Accepted.{Reading, run, place}
-use Rattle.drawing.specs.Reading.{has_byte, expect_at, edge_at, step_then, edges_at, nodes_at, size_after, end_size, steps_in, Readable}
+use Rattle.drawing.specs.Reading.{has_byte, expect_at, edge_at, step_then, edges_at, nodes_at, size_after, end_size, steps_in, Readable, stuck, edge_of, nodes_of}
 use Rattle.drawing.proofs.WordLaws.{word_was, stands_within}
 use Rattle.drawing.proofs.EdgeLaws.{run_place, run_same, closing, EdgeCase, edge_case, edge_was, edges_edge, edges_none, edges_end, edges_were}
 use Rattle.drawing.proofs.NodeLaws.{other, edges, broken, next, nodes_is}
 use Rattle.drawing.proofs.RowLaws.{Partly, partly_begin, partly_room, partly_next, partly_end}
 
-pub head_within : (t : List ℕ) (at k a : ℕ) → expect_at t at (edge_head k) ≡ On a → a ≤ length t
+pub head_within : (t : List ℕ) (at k a : ℕ) → expect_at t at (edge_head k) ≡ Ok a → a ≤ length t
 unfolding edge_head
 head_within t at k a e = stands_within t (word_was t at (edge_head k) a e)
 
@@ -36,7 +36,7 @@ size_after_lem : (n : ℕ) (s : Step) (r : Reading) → size_after n (step_then 
 unfolding records_of
 size_after_lem n s (run ss) =
     let e : n + length (record_of s ++ records_of ss) ≡ n + length (record_of s) + length (records_of ss) = omega (arith, length-append (record_of s) (records_of ss)) in
-    ap Bytes e
+    ap Ok e
 size_after_lem n s (place p) = refl
 
 pub record Sizing (t : List ℕ) (start n at total k : ℕ) : Type 0 where
@@ -54,7 +54,7 @@ module _ {t : List ℕ} {start n at total k : ℕ} (p : Sizing t start n at tota
   size_one : k < n → size_after total (edges_at (suc (n - (k + 1))) t at k) ≡ size_after 0 (edges_at n t start 0)
   size_one l = let z : suc (n - (k + 1)) ≡ n - k = omega arith in ap (λ (m : ℕ). size_after total (edges_at m t at k)) z ∙ p.same
 
-  pub size_next : (s : Step) (a size : ℕ) → k < n → edge_at t at k ≡ Edge s a → size ≡ length (record_of s) → Sizing t start n a (total + size) (k + 1)
+  pub size_next : (s : Step) (a size : ℕ) → k < n → edge_at t at k ≡ edge_of s a → size ≡ length (record_of s) → Sizing t start n a (total + size) (k + 1)
   size_next s a size l e d =
       record {
         few = p.few;
@@ -67,7 +67,7 @@ module _ {t : List ℕ} {start n at total k : ℕ} (p : Sizing t start n at tota
             ∙ size_one l;
       }
 
-  pub size_stop : (q : ℕ) → k < n → edge_at t at k ≡ NoEdge q → Outside q ≡ size_after 0 (edges_at n t start 0)
+  pub size_stop : (q : ℕ) → k < n → edge_at t at k ≡ stuck q → stuck q ≡ size_after 0 (edges_at n t start 0)
   size_stop q l e = sym (ap (size_after total) (edges_none t (n - (k + 1)) at k e)) ∙ size_one l
 
   pub size_end : n ≤ k → end_size t at total ≡ size_after 0 (edges_at n t start 0)
@@ -105,29 +105,36 @@ module _ {old t : List ℕ} {start n : ℕ} {new : List ℕ} {at to k : ℕ} (p 
   store_one : k < n → edges_at (suc (n - (k + 1))) t at k ≡ run p.steps
   store_one l = let z : suc (n - (k + 1)) ≡ n - k = omega arith in ap (λ (m : ℕ). edges_at m t at k) z ∙ p.reads
 
-  pub store_never : (q : ℕ) → k < n → edge_at t at k ≡ NoEdge q → ⊥
+  store_never : (q : ℕ) → k < n → edge_at t at k ≡ stuck q → ⊥
   store_never q l e = run_place (sym (store_one l) ∙ edges_none t (n - (k + 1)) at k e)
 
-  store_split : (s : Step) (a : ℕ) → k < n → edge_at t at k ≡ Edge s a
+  pub store_reads : k < n → IsOk (edge_at t at k)
+  store_reads l = go (edge_at t at k) refl
+    where
+      go : (r : Result Edge Outside) → edge_at t at k ≡ r → IsOk r
+      go (Ok x) e = search rules
+      go (Err o) e = absurd (store_never o.place l e)
+
+  store_split : (s : Step) (a : ℕ) → k < n → edge_at t at k ≡ edge_of s a
       → (edges_at (n - (k + 1)) t a (k + 1) ≡ run (steps_in (edges_at (n - (k + 1)) t a (k + 1))))
       × (p.steps ≡ s ∷ steps_in (edges_at (n - (k + 1)) t a (k + 1)))
   store_split s a l e =
       after_run s (edges_at (n - (k + 1)) t a (k + 1)) p.steps (sym (edges_edge t (n - (k + 1)) at k e) ∙ store_one l)
 
-  store_records : (s : Step) (a : ℕ) → k < n → edge_at t at k ≡ Edge s a
+  store_records : (s : Step) (a : ℕ) → k < n → edge_at t at k ≡ edge_of s a
       → records_of p.steps ≡ record_of s ++ records_of (steps_in (edges_at (n - (k + 1)) t a (k + 1)))
   unfolding records_of
   store_records s a l e = ap records_of (store_split s a l e).1
 
-  pub store_range : (s : Step) (a : ℕ) → edge_at t at k ≡ Edge s a → StepInRange s
+  pub store_range : (s : Step) (a : ℕ) → edge_at t at k ≡ edge_of s a → StepInRange s
   store_range s a e = (edge_was t at k (subst (EdgeCase t at k) e (edge_case t at k))).0
 
-  pub store_room : (s : Step) (a : ℕ) → k < n → edge_at t at k ≡ Edge s a → to + length (record_of s) ≤ length new
+  pub store_room : (s : Step) (a : ℕ) → k < n → edge_at t at k ≡ edge_of s a → to + length (record_of s) ≤ length new
   store_room s a l e =
       let rest : List ℕ = records_of (steps_in (edges_at (n - (k + 1)) t a (k + 1))) in
       omega (arith, partly_room p.partly, ap length (store_records s a l e), length-append (record_of s) rest)
 
-  pub store_next : {newer : List ℕ} {next : ℕ} (s : Step) (a : ℕ) → k < n → edge_at t at k ≡ Edge s a → Put new newer to next (record_of s)
+  pub store_next : {newer : List ℕ} {next : ℕ} (s : Step) (a : ℕ) → k < n → edge_at t at k ≡ edge_of s a → Put new newer to next (record_of s)
       → Storing old t start n newer a next (k + 1)
   store_next s a l e q =
       record {
@@ -160,21 +167,21 @@ module _ {t : List ℕ} {start at n : ℕ} (p : Scanning t start at n) (l : n < 
   scan_one : nodes_at (suc (1024 - (n + 1))) t at n ≡ nodes_at 1023 t start 1
   scan_one = let z : suc (1024 - (n + 1)) ≡ 1024 - n = omega arith in ap (λ (m : ℕ). nodes_at m t at n) z ∙ p.same
 
-  pub scan_other : has_byte t at 99 ≡ false → NoNodes at ≡ nodes_at 1023 t start 1
+  pub scan_other : has_byte t at 99 ≡ false → stuck at ≡ nodes_at 1023 t start 1
   scan_other h = sym (nodes_is t (1024 - (n + 1)) at n (other h)) ∙ scan_one
 
-  pub scan_edges : has_byte t at 99 ≡ true → has_byte t (at + 1) 48 ≡ true → Nodes n at ≡ nodes_at 1023 t start 1
+  pub scan_edges : has_byte t at 99 ≡ true → has_byte t (at + 1) 48 ≡ true → nodes_of n at ≡ nodes_at 1023 t start 1
   scan_edges h i = sym (nodes_is t (1024 - (n + 1)) at n (edges h i)) ∙ scan_one
 
-  pub scan_broken : (q : ℕ) → has_byte t at 99 ≡ true → has_byte t (at + 1) 48 ≡ false → expect_at t at (node_line (n + 1)) ≡ Stuck q
-      → NoNodes q ≡ nodes_at 1023 t start 1
+  pub scan_broken : (q : ℕ) → has_byte t at 99 ≡ true → has_byte t (at + 1) 48 ≡ false → expect_at t at (node_line (n + 1)) ≡ stuck q
+      → stuck q ≡ nodes_at 1023 t start 1
   scan_broken q h i j = sym (nodes_is t (1024 - (n + 1)) at n (broken h i j)) ∙ scan_one
 
-  pub scan_next : (a : ℕ) → has_byte t at 99 ≡ true → has_byte t (at + 1) 48 ≡ false → expect_at t at (node_line (n + 1)) ≡ On a → Scanning t start a (n + 1)
+  pub scan_next : (a : ℕ) → has_byte t at 99 ≡ true → has_byte t (at + 1) 48 ≡ false → expect_at t at (node_line (n + 1)) ≡ Ok a → Scanning t start a (n + 1)
   scan_next a h i j =
       record { some = omega arith; most = omega arith; same = sym (nodes_is t (1024 - (n + 1)) at n (next h i j)) ∙ scan_one }
 
-pub scan_end : {t : List ℕ} {start at n : ℕ} → Scanning t start at n → 1024 ≤ n → Nodes n at ≡ nodes_at 1023 t start 1
+pub scan_end : {t : List ℕ} {start at n : ℕ} → Scanning t start at n → 1024 ≤ n → nodes_of n at ≡ nodes_at 1023 t start 1
 unfolding nodes_at
 scan_end {t} {start} {at} {n} p l =
     let z : 0 ≡ 1024 - n = omega arith in ap (λ (m : ℕ). nodes_at m t at n) z ∙ p.same

@@ -1,4 +1,5 @@
 -- Step records that were found fine, and the records of a run: one is the other's way back.
+use Rattle.std.specs.Prelude.{Result, Ok, Err, ⊤}
 use Prim.Native.Nat.{ℕ, zero, suc, ◌+◌, ◌-◌, ◌<◌, ◌≤◌}
 use mathlib.Core.Path.{◌≡◌, refl, ap, subst, ◌∙◌}
 use mathlib.Core.Bool.{Bool, true, false, cond, ◌&&◌, ◌||◌}
@@ -11,12 +12,8 @@ use borrow.Author.Tests.{eqb-true, ltb-true, leb-true, leb-false, not-false}
 use Rattle.machine_pws.specs.declared.Step.TheVariants.{Take, Serialise, Update}
 use Rattle.base.specs.Bytes.{choose, byte}
 use Rattle.file_records.specs.declared.program.Refusal.{Refusal}
-use Rattle.file_records.specs.declared.program.Checked.{Checked}
-use Rattle.file_records.specs.declared.program.Checked.TheVariants.{Fine, Refused}
-use Rattle.file_records.specs.declared.program.Counted.{Counted}
-use Rattle.file_records.specs.declared.program.Counted.TheVariants.{Records, Stopped}
 use Rattle.file_records.specs.Records.{checked, is_kind, is_step, step_body, step_names, step_number, step_at}
-use Rattle.file_records.specs.ProgramPart.{count_then, row_from}
+use Rattle.file_records.specs.ProgramPart.{row_from, and_then}
 use Rattle.file_records.proofs.RecordLaws.{step_fine}
 use Rattle.base.proofs.ByteLaws.{cut_fits}
 use Rattle.file_contents.specs.EvidencePart.{steps_from, steps_of}
@@ -24,10 +21,10 @@ use Rattle.drawing.specs.Runs.{full_shape, StepInRange, record_of, records_of}
 use Rattle.drawing.specs.Parts as parts
 use Rattle.drawing.specs.Parts.{FineFrom}
 
-records_same : {n m : ℕ} → ◌≡◌ {A = Counted} (Records n) (Records m) → n ≡ m
+records_same : {n m : ℕ} → ◌≡◌ {A = Result ℕ Refusal} (Ok n) (Ok m) → n ≡ m
 records_same e = cc
 
-stopped_not : {r : Refusal} {m : ℕ} → ◌≡◌ {A = Counted} (Stopped r) (Records m) → ⊥
+stopped_not : {r : Refusal} {m : ℕ} → ◌≡◌ {A = Result ℕ Refusal} (Err r) (Ok m) → ⊥
 stopped_not e = let z : ◌≡◌ {A = ℕ} 0 1 = cc in omega arith
 
 both_true : (a b : Bool) → (a && b) ≡ true → (a ≡ true) × (b ≡ true)
@@ -96,7 +93,7 @@ module _ (f : List ℕ) where
   abbrev pub ends : ℕ → ℕ → Bool
   ends k n = leb (length f) k
 
-  abbrev pub check : ℕ → ℕ → Checked
+  abbrev pub check : ℕ → ℕ → Result ⊤ Refusal
   check k n = checked (step_number full_shape 256 f k n) k
 
   abbrev pub size : ℕ → ℕ
@@ -111,7 +108,7 @@ module _ (f : List ℕ) where
   unfolding records_of steps_of
   holds_end at l = record { fine = tt; bytes = drop_of_length-le f l }
 
-  holds_step : (at n k : ℕ) → check at k ≡ Fine → Holds (at + (1 + step_body f at)) n → Holds at (suc n)
+  holds_step : (at n k : ℕ) → check at k ≡ Ok tt → Holds (at + (1 + step_body f at)) n → Holds at (suc n)
   unfolding records_of steps_of
   holds_step at n k e h =
       let g = step_fine f at full_shape 256 k e in
@@ -131,34 +128,34 @@ module _ (f : List ℕ) where
       let z : 0 ≡ m - k = omega arith in
       record { most = omega arith; few = omega arith; holds = subst (Holds at) z (holds_end at (leb-true (length f) at e)) }
 
-  read_row : (left at k m : ℕ) → k + left ≡ 1024 → row_from ends check size left at k ≡ Records m → Read at k m
+  read_row : (left at k m : ℕ) → k + left ≡ 1024 → row_from ends check size left at k ≡ Ok m → Read at k m
   unfolding row_from
   read_row zero at k m s e = go (ends at k) refl (check at k) refl e
     where
-      go : (b : Bool) → ends at k ≡ b → (x : Checked) → check at k ≡ x → choose b (λ _. Records k) (λ _. count_then x (λ _. Records k)) ≡ Records m
+      go : (b : Bool) → ends at k ≡ b → (x : Result ⊤ Refusal) → check at k ≡ x → choose b (λ _. Ok k) (λ _. and_then x (λ _. Ok k)) ≡ Ok m
           → Read at k m
       go true p x q e = read_end at k m (omega arith) p (records_same e)
-      go false p Fine q e = absurd (omega (arith, leb-false 1024 k (step_fine f at full_shape 256 k q).room))
-      go false p (Refused r) q e = absurd (stopped_not e)
+      go false p (Ok _) q e = absurd (omega (arith, leb-false 1024 k (step_fine f at full_shape 256 k q).room))
+      go false p (Err r) q e = absurd (stopped_not e)
   read_row (suc left) at k m s e =
       go (ends at k) refl (check at k) refl e (λ d. read_row left (at + size at) (suc k) m (omega arith) d)
     where
-      go : (b : Bool) → ends at k ≡ b → (x : Checked) → check at k ≡ x
-          → choose b (λ _. Records k) (λ _. count_then x (λ _. row_from ends check size left (at + size at) (suc k))) ≡ Records m
-          → (row_from ends check size left (at + size at) (suc k) ≡ Records m → Read (at + size at) (suc k) m) → Read at k m
+      go : (b : Bool) → ends at k ≡ b → (x : Result ⊤ Refusal) → check at k ≡ x
+          → choose b (λ _. Ok k) (λ _. and_then x (λ _. row_from ends check size left (at + size at) (suc k))) ≡ Ok m
+          → (row_from ends check size left (at + size at) (suc k) ≡ Ok m → Read (at + size at) (suc k) m) → Read at k m
       go true p x q e ih = read_end at k m (omega arith) p (records_same e)
-      go false p Fine q e ih =
+      go false p (Ok _) q e ih =
           let h = ih e in
           let z : suc (m - suc k) ≡ m - k = omega (arith, h.most) in
           record { most = omega (arith, h.most); few = h.few; holds = subst (Holds at) z (holds_step at (m - suc k) k q h.holds) }
-      go false p (Refused r) q e ih = absurd (stopped_not e)
+      go false p (Err r) q e ih = absurd (stopped_not e)
 
-  pub read_holds : (m : ℕ) → steps_from full_shape 256 f 0 ≡ Records m → (m ≤ 1024) × Holds 0 m
+  pub read_holds : (m : ℕ) → steps_from full_shape 256 f 0 ≡ Ok m → (m ≤ 1024) × Holds 0 m
   unfolding steps_from
   read_holds m e =
       let r = read_row 1024 0 0 m refl e in
       let z : m - 0 ≡ m = omega arith in
       (r.few, subst (Holds 0) z r.holds)
 
-  pub read_fine : (m : ℕ) → steps_from full_shape 256 f 0 ≡ Records m → parts.AllFine f m
+  pub read_fine : (m : ℕ) → steps_from full_shape 256 f 0 ≡ Ok m → parts.AllFine f m
   read_fine m e = let h = read_holds m e in record { few = h.0; steps = h.1.fine }

@@ -1,5 +1,7 @@
 -- The two directions (request N12): each run of up to 1,024 steps comes back as itself, and a text the reader accepts is the one the
 -- writer would make.
+use Rattle.std.specs.Prelude.{Result, Ok, Err}
+use Rattle.file_records.specs.declared.program.Refusal.{Refusal}
 use Prim.Native.Nat.{ℕ, zero, suc, ◌+◌, ◌-◌, ◌<◌, ◌≤◌}
 use mathlib.Core.Path.{◌≡◌, refl, sym, ap, ◌∙◌}
 use mathlib.Core.Bool.{true, false}
@@ -10,9 +12,6 @@ use borrow.Author.Tests.{eq-eqb, ne_eqb, lt-ltb, le-leb, lt-leb}
 use Rattle.machine_pws.specs.declared.Step.{Step}
 use Rattle.machine_pws.specs.declared.Step.TheVariants.{Take, Serialise, Update}
 use Rattle.base.specs.Bytes.{byte, cut}
-use Rattle.file_records.specs.declared.program.Checked.TheVariants.{Fine}
-use Rattle.file_records.specs.declared.program.Counted.{Counted}
-use Rattle.file_records.specs.declared.program.Counted.TheVariants.{Records, Stopped}
 use Rattle.file_records.specs.Records.{first_number, checked, is_kind, step_body, step_names, step_number, step_at}
 use Rattle.file_records.specs.ProgramPart.{row_from}
 use Rattle.file_records.proofs.RecordLaws.{row_ends, row_step}
@@ -33,7 +32,7 @@ use Rattle.drawing.proofs.StepLaws.{ends, check, size, read_holds}
 
 module _ (f : List ℕ) (at k : ℕ) (room : k < 1024) where
   record Good (s : Step) : Type 0 where
-    fine : check f at k ≡ Fine
+    fine : check f at k ≡ Ok tt
     step : step_at f at ≡ s
     body : 1 + step_body f at ≡ length (record_of s)
 
@@ -87,7 +86,7 @@ module _ (f : List ℕ) (at k : ℕ) (room : k < 1024) where
       }
 
 record Counts (f : List ℕ) (at k : ℕ) (ss : List Step) : Type 0 where
-  counted : row_from (ends f) (check f) (size f) (1024 - k) at k ≡ Records (k + length ss)
+  counted : row_from (ends f) (check f) (size f) (1024 - k) at k ≡ Ok (k + length ss)
   steps : steps_of f at (length ss) ≡ ss
 
 counts : (f : List ℕ) (ss : List Step) (at k : ℕ) → AllInRange ss → k + length ss ≤ 1024 → drop at f ≡ records_of ss → Counts f at k ss
@@ -95,7 +94,7 @@ unfolding records_of steps_of
 counts f [] at k l m e =
     let z : k ≡ k + 0 = omega arith in
     record {
-      counted = row_ends (ends f) (check f) (size f) (1024 - k) at k (le-leb (length f) at (omega (arith, length-drop at f, ap length e))) ∙ ap Records z;
+      counted = row_ends (ends f) (check f) (size f) (1024 - k) at k (le-leb (length f) at (omega (arith, length-drop at f, ap length e))) ∙ ap Ok z;
       steps = refl;
     }
 counts f (s ∷ ss) at k l m e =
@@ -110,7 +109,7 @@ counts f (s ∷ ss) at k l m e =
           (lt-leb (length f) at (omega (arith, length-drop at f, ap length e, length-append (record_of s) (records_of ss), g.body)))
           g.fine
           ∙ h.counted
-          ∙ ap Records z;
+          ∙ ap Ok z;
       steps = ap (λ (x : Step). x ∷ steps_of f (at + (1 + step_body f at)) (length ss)) g.step ∙ ap (λ (x : List Step). s ∷ x) h.steps;
     }
 
@@ -120,7 +119,7 @@ run_drawn ss r =
     let f : List ℕ = records_of ss in
     let c = counts f ss 0 0 r.steps (omega (arith, r.few)) refl in
     let z : 0 + length ss ≡ length ss = omega arith in
-    ap (of_count f) (c.counted ∙ ap Records z) ∙ ap (λ (x : List Step). made (text x)) c.steps
+    ap (of_count f) (c.counted ∙ ap Ok z) ∙ ap (λ (x : List Step). made (text x)) c.steps
 
 pub run_read_lem : RunRead
 unfolding records_in
@@ -143,8 +142,8 @@ pub writer_draws : WriterDraws
 unfolding drawing_of
 writer_draws f w e = go (steps_from full_shape 256 f 0) refl e
   where
-    go : (c : Counted) → steps_from full_shape 256 f 0 ≡ c → of_count f c ≡ made w → Drawn f w
-    go (Records n) d e =
+    go : (c : Result ℕ Refusal) → steps_from full_shape 256 f 0 ≡ c → of_count f c ≡ made w → Drawn f w
+    go (Ok n) d e =
         let h = read_holds f n d in
         record {
           steps = steps_of f 0 n;
@@ -152,7 +151,7 @@ writer_draws f w e = go (steps_from full_shape 256 f 0) refl e
           records = h.1.bytes;
           drawing = sym (made_same e);
         }
-    go (Stopped r) d e = absurd (refused_made e)
+    go (Err r) d e = absurd (refused_made e)
 
 pub reader_accepts : ReaderAccepts
 unfolding records_in

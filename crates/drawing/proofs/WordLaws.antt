@@ -9,21 +9,27 @@ use lib.Seq.{drop-cons, get_or-drop, drop-drop, drop_at}
 use lib.Dec.{eqb, ltb}
 use borrow.Author.Tests.{ltb-true, eqb-true, lt-ltb, eq-eqb}
 use Rattle.base.specs.Bytes.{byte}
-use Rattle.drawing.specs.declared.word.Way.{Way}
-use Rattle.drawing.specs.declared.word.Way.TheVariants.{On, Stuck}
-use Rattle.drawing.specs.Reading.{has_byte, expect_at}
+use Rattle.std.specs.Prelude.{Result}
+use Rattle.std.specs.Prelude.{Ok, Err}
+use Rattle.drawing.specs.declared.word.Outside.{Outside}
+use Rattle.drawing.specs.Reading.{has_byte, expect_at, stuck}
 
 pub false_true : ◌≡◌ {A = Bool} false true → ⊥
 false_true e = let z : ◌≡◌ {A = ℕ} 0 1 = ap (λ (b : Bool). cond b 1 0) e in omega arith
 
-pub on_stuck : {a p : ℕ} → ◌≡◌ {A = Way} (On a) (Stuck p) → ⊥
-on_stuck e = let z : ◌≡◌ {A = ℕ} 0 1 = cc in omega arith
+-- where a reading stopped
+abbrev place_in : {A : Type 0} → Result A Outside → ℕ
+place_in (Ok x) = 0
+place_in (Err e) = e.place
 
-pub on_same : {a b : ℕ} → ◌≡◌ {A = Way} (On a) (On b) → a ≡ b
-on_same e = cc
+pub ok_stuck : {A : Type 0} {x : A} {p : ℕ} → ◌≡◌ {A = Result A Outside} (Ok x) (stuck p) → ⊥
+ok_stuck e = let z : ◌≡◌ {A = ℕ} 0 1 = cc in omega arith
 
-pub stuck_same : {a b : ℕ} → ◌≡◌ {A = Way} (Stuck a) (Stuck b) → a ≡ b
-stuck_same e = cc
+pub ok_same : {A : Type 0} {x y : A} → ◌≡◌ {A = Result A Outside} (Ok x) (Ok y) → x ≡ y
+ok_same e = cc
+
+pub stuck_same : {A : Type 0} {p q : ℕ} → ◌≡◌ {A = Result A Outside} (stuck p) (stuck q) → p ≡ q
+stuck_same e = ap place_in e
 
 pub both_are : (a b : Bool) → (a && b) ≡ true → (a ≡ true) × (b ≡ true)
 both_are true true e = (refl, refl)
@@ -82,7 +88,7 @@ module _ (t : List ℕ) where
   unfolding expect_at
   word_next at c w e = rw e
 
-  pub word_none : (at c : ℕ) (w : List ℕ) → has_byte t at c ≡ false → expect_at t at (c ∷ w) ≡ Stuck at
+  pub word_none : (at c : ℕ) (w : List ℕ) → has_byte t at c ≡ false → expect_at t at (c ∷ w) ≡ stuck at
   unfolding expect_at
   word_none at c w e = rw e
 
@@ -137,34 +143,34 @@ module _ (t : List ℕ) where
         there = ap (λ (x : List ℕ). w ++ x) q.there ∙ sym (append_assoc w q.done q.more);
       }
 
-  pub word_was : (at : ℕ) (w : List ℕ) (a : ℕ) → expect_at t at w ≡ On a → Stands t at a w
-  word_was at [] a e = subst (λ (b : ℕ). Stands t at b []) (on_same (nothing ∙ e)) (stands_none at)
+  pub word_was : (at : ℕ) (w : List ℕ) (a : ℕ) → expect_at t at w ≡ Ok a → Stands t at a w
+  word_was at [] a e = subst (λ (b : ℕ). Stands t at b []) (ok_same (nothing ∙ e)) (stands_none at)
     where
-      nothing : On at ≡ expect_at t at []
+      nothing : Ok at ≡ expect_at t at []
       nothing = unfold expect_at in refl
   word_was at (c ∷ w) a e = go (has_byte t at c) refl (word_was (at + 1) w a)
     where
-      go : (b : Bool) → has_byte t at c ≡ b → (expect_at t (at + 1) w ≡ On a → Stands t (at + 1) a w) → Stands t at a (c ∷ w)
+      go : (b : Bool) → has_byte t at c ≡ b → (expect_at t (at + 1) w ≡ Ok a → Stands t (at + 1) a w) → Stands t at a (c ∷ w)
       go true h ih = stands_then (stands_byte at c h) (ih (sym (word_next at c w h) ∙ e))
-      go false h ih = absurd (on_stuck (sym e ∙ word_none at c w h))
+      go false h ih = absurd (ok_stuck (sym e ∙ word_none at c w h))
 
-  pub word_stuck : (at : ℕ) (w : List ℕ) (k : ℕ) → expect_at t at w ≡ Stuck k → Common t at k w
-  word_stuck at [] k e = absurd (on_stuck (nothing ∙ e))
+  pub word_stuck : (at : ℕ) (w : List ℕ) (k : ℕ) → expect_at t at w ≡ stuck k → Common t at k w
+  word_stuck at [] k e = absurd (ok_stuck (nothing ∙ e))
     where
-      nothing : On at ≡ expect_at t at []
+      nothing : Ok at ≡ expect_at t at []
       nothing = unfold expect_at in refl
   word_stuck at (c ∷ w) k e = go (has_byte t at c) refl (word_stuck (at + 1) w k)
     where
-      go : (b : Bool) → has_byte t at c ≡ b → (expect_at t (at + 1) w ≡ Stuck k → Common t (at + 1) k w) → Common t at k (c ∷ w)
+      go : (b : Bool) → has_byte t at c ≡ b → (expect_at t (at + 1) w ≡ stuck k → Common t (at + 1) k w) → Common t at k (c ∷ w)
       go true h ih = stands_common (stands_byte at c h) (ih (sym (word_next at c w h) ∙ e))
       go false h ih = subst (λ (p : ℕ). Common t at p (c ∷ w)) (stuck_same (sym (word_none at c w h) ∙ e)) (common_none at (c ∷ w))
 
-  pub word_on : (at : ℕ) (w x : List ℕ) → drop at t ≡ w ++ x → expect_at t at w ≡ On (at + length w)
+  pub word_on : (at : ℕ) (w x : List ℕ) → drop at t ≡ w ++ x → expect_at t at w ≡ Ok (at + length w)
   unfolding expect_at
-  word_on at [] x e = let z : at ≡ at + 0 = omega arith in ap On z
+  word_on at [] x e = let z : at ≡ at + 0 = omega arith in ap Ok z
   word_on at (c ∷ w) x e =
       let z : at + 1 + length w ≡ at + suc (length w) = omega arith in
-      word_next at c w (here_has at c (w ++ x) e) ∙ word_on (at + 1) w x (head_here at c (w ++ x) e).2 ∙ ap On z
+      word_next at c w (here_has at c (w ++ x) e) ∙ word_on (at + 1) w x (head_here at c (w ++ x) e).2 ∙ ap Ok z
 
 -- ---- a word, as it is compared
 
@@ -183,13 +189,13 @@ module _ {t : List ℕ} {start : ℕ} {word : List ℕ} {at i : ℕ} (p : Expect
         same = sym (ap (expect_at t at) (next_here l) ∙ word_next t at (byte word i) (drop (i + 1) word) h) ∙ p.same;
       }
 
-  pub expecting_stuck : i < length word → has_byte t at (byte word i) ≡ false → Stuck at ≡ expect_at t start word
+  pub expecting_stuck : i < length word → has_byte t at (byte word i) ≡ false → stuck at ≡ expect_at t start word
   expecting_stuck l h = sym (ap (expect_at t at) (next_here l) ∙ word_none t at (byte word i) (drop (i + 1) word) h) ∙ p.same
 
-  pub expecting_end : length word ≤ i → On at ≡ expect_at t start word
+  pub expecting_end : length word ≤ i → Ok at ≡ expect_at t start word
   expecting_end l = nothing ∙ ap (expect_at t at) (sym (drop_of_length-le word l)) ∙ p.same
     where
-      nothing : On at ≡ expect_at t at []
+      nothing : Ok at ≡ expect_at t at []
       nothing = unfold expect_at in refl
 
 -- ---- the same bytes, the same words
@@ -207,7 +213,7 @@ module _ (t u : List ℕ) (k : ℕ) (same : Agree t u k) where
   unfolding Agree
   same_end at l = (same at l).0
 
-  pub same_on : (at : ℕ) (w : List ℕ) → at + length w ≤ k + 1 → expect_at t at w ≡ On (at + length w) → expect_at u at w ≡ On (at + length w)
+  pub same_on : (at : ℕ) (w : List ℕ) → at + length w ≤ k + 1 → expect_at t at w ≡ Ok (at + length w) → expect_at u at w ≡ Ok (at + length w)
   unfolding expect_at
   same_on at [] l e = e
   same_on at (c ∷ w) l e = go (has_byte t at c) refl (same_on (at + 1) w (omega arith))
@@ -215,26 +221,26 @@ module _ (t u : List ℕ) (k : ℕ) (same : Agree t u k) where
       z : at + 1 + length w ≡ at + suc (length w)
       z = omega arith
 
-      go : (b : Bool) → has_byte t at c ≡ b → (expect_at t (at + 1) w ≡ On (at + 1 + length w) → expect_at u (at + 1) w ≡ On (at + 1 + length w))
-          → expect_at u at (c ∷ w) ≡ On (at + suc (length w))
+      go : (b : Bool) → has_byte t at c ≡ b → (expect_at t (at + 1) w ≡ Ok (at + 1 + length w) → expect_at u (at + 1) w ≡ Ok (at + 1 + length w))
+          → expect_at u at (c ∷ w) ≡ Ok (at + suc (length w))
       go true h ih =
           word_next u at c w (sym (same_has at c (omega arith)) ∙ h)
-          ∙ ih (sym (word_next t at c w h) ∙ e ∙ ap On (sym z))
-          ∙ ap On z
-      go false h ih = absurd (on_stuck (sym e ∙ word_none t at c w h))
+          ∙ ih (sym (word_next t at c w h) ∙ e ∙ ap Ok (sym z))
+          ∙ ap Ok z
+      go false h ih = absurd (ok_stuck (sym e ∙ word_none t at c w h))
 
-  pub same_stuck : (at : ℕ) (w : List ℕ) → expect_at t at w ≡ Stuck k → expect_at u at w ≡ Stuck k
-  same_stuck at [] e = absurd (on_stuck (nothing ∙ e))
+  pub same_stuck : (at : ℕ) (w : List ℕ) → expect_at t at w ≡ stuck k → expect_at u at w ≡ stuck k
+  same_stuck at [] e = absurd (ok_stuck (nothing ∙ e))
     where
-      nothing : On at ≡ expect_at t at []
+      nothing : Ok at ≡ expect_at t at []
       nothing = unfold expect_at in refl
   same_stuck at (c ∷ w) e = go (has_byte t at c) refl (same_stuck (at + 1) w)
     where
-      go : (b : Bool) → has_byte t at c ≡ b → (expect_at t (at + 1) w ≡ Stuck k → expect_at u (at + 1) w ≡ Stuck k) → expect_at u at (c ∷ w) ≡ Stuck k
+      go : (b : Bool) → has_byte t at c ≡ b → (expect_at t (at + 1) w ≡ stuck k → expect_at u (at + 1) w ≡ stuck k) → expect_at u at (c ∷ w) ≡ stuck k
       go true h ih =
           let e' = sym (word_next t at c w h) ∙ e in
           let p = word_stuck t (at + 1) w k e' in
           word_next u at c w (sym (same_has at c (omega (arith, p.place))) ∙ h) ∙ ih e'
       go false h ih =
           let p = stuck_same (sym (word_none t at c w h) ∙ e) in
-          word_none u at c w (sym (same_has at c (omega arith)) ∙ h) ∙ ap Stuck p
+          word_none u at c w (sym (same_has at c (omega arith)) ∙ h) ∙ ap stuck p

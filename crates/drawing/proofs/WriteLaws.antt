@@ -1,4 +1,5 @@
 -- The answers, and what is left in the output.
+use Rattle.std.specs.Prelude.{Ok, Err}
 use Prim.Native.Nat.{ℕ, ◌+◌, ◌<◌, ◌≤◌}
 use mathlib.Core.Path.{◌≡◌, sym, ap, ◌∙◌}
 use mathlib.Core.Bool.{true, false}
@@ -8,7 +9,6 @@ use lib.ListN.{length, drop}
 use lib.Dec.{ltb}
 use borrow.Author.Tests.{lt-ltb, le-ltb}
 use Rattle.file_records.specs.declared.program.Refusal.{Refusal}
-use Rattle.file_records.specs.declared.program.Counted.TheVariants.{Records, Stopped}
 use Rattle.file_contents.specs.EvidencePart.{steps_from, steps_of}
 use Rattle.drawing.specs.declared.Written.{Written}
 use Rattle.drawing.specs.Text.{text}
@@ -16,11 +16,11 @@ use Rattle.drawing.specs.Runs.{full_shape}
 use Rattle.drawing.specs.Parts.{placed}
 use Rattle.drawing.specs.Writing.{Made, made, refused, answered_or, left_in, of_count, drawing_of}
 
-pub drawing_refused : (f : List ℕ) (r : Refusal) → steps_from full_shape 256 f 0 ≡ Stopped r → drawing_of f ≡ refused r.number r.place
+pub drawing_refused : (f : List ℕ) (r : Refusal) → steps_from full_shape 256 f 0 ≡ Err r → drawing_of f ≡ refused r.number r.place
 unfolding drawing_of
 drawing_refused f r e = ap (of_count f) e
 
-pub drawing_made : (f : List ℕ) (n : ℕ) → steps_from full_shape 256 f 0 ≡ Records n → drawing_of f ≡ made (text (steps_of f 0 n))
+pub drawing_made : (f : List ℕ) (n : ℕ) → steps_from full_shape 256 f 0 ≡ Ok n → drawing_of f ≡ made (text (steps_of f 0 n))
 unfolding drawing_of
 drawing_made f n e = ap (of_count f) e
 

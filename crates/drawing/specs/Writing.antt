@@ -1,11 +1,10 @@
 -- What the writer and the reader answer, and what they leave in the output (request N12): a refusal of the input comes first; an output
 -- too short is 26 with the bytes needed; success is the number of bytes written. No refusal writes anything, and no byte past those
 -- is touched.
-use Rattle.std.specs.Prelude.{ℕ, cond, ◌&&◌, List, [], ◌++◌, length, drop, leb, ltb}
+use Rattle.std.specs.Prelude.{ℕ, cond, ◌&&◌, List, [], ◌++◌, length, drop, leb, ltb, Result, Ok, Err}
 use Rattle.machine_pws.specs.declared.Step.{Step}
 use Rattle.base.specs.Bytes.{choose}
-use Rattle.file_records.specs.declared.program.Counted.{Counted}
-use Rattle.file_records.specs.declared.program.Counted.TheVariants.{Records, Stopped}
+use Rattle.file_records.specs.declared.program.Refusal.{Refusal}
 use Rattle.file_contents.specs.EvidencePart.{steps_from, steps_of}
 use Rattle.drawing.specs.declared.Written.{Written}
 use Rattle.drawing.specs.Text.{letters, text}
@@ -15,6 +14,11 @@ use Rattle.drawing.specs.Runs.{full_shape, step_in_range}
 pub data Made : Type 0 where
   made : List ℕ → Made
   refused : ℕ → ℕ → Made
+
+-- the two numbers that say it: 0 and the bytes written, or the refusal's own
+abbrev pub told : Result ℕ Refusal → Written
+told (Ok n) = record { number = 0; value = n }
+told (Err r) = record { number = r.number; value = r.place }
 
 -- in an output of this length; `short` is the number of an output too short
 abbrev pub answered_or : ℕ → ℕ → Made → Written
@@ -32,9 +36,9 @@ left_in out (refused number place) = out
 
 -- ---- the writer
 
-abbrev pub of_count : List ℕ → Counted → Made
-of_count f (Records n) = made (text (steps_of f 0 n))
-of_count f (Stopped r) = refused r.number r.place
+abbrev pub of_count : List ℕ → Result ℕ Refusal → Made
+of_count f (Ok n) = made (text (steps_of f 0 n))
+of_count f (Err r) = refused r.number r.place
 
 -- the drawing of step records; bad ones are refused as the judge refuses them for a program of full shape
 unfoldable pub drawing_of : List ℕ → Made

@@ -5,26 +5,26 @@ ghost use Rattle.drawing.specs.Runs.{StepInRange, step_in_range};
 ghost use Rattle.drawing.specs.Writing.{shown};
 ghost use Rattle.drawing.specs.Parts.{Put, edge_head};
 
-use base::bytes::both;
 use machine_pws::Step;
+
+// A drawing's first line.
+pub(crate) const OPENING: &[u8] = b"digraph run {\n";
 
 // The word goes to a place in the slice, and the place after it is handed back.
 pub fn put(out: &mut [u8], at: usize, word: &[u8]) -> usize
     requires { at + length word.now ≤ length out.old }
     ensures { Put out.old out.new at result word.now }
 {
-    let n = word.len();
-    for i in 0..n {
-        out[at + i] = word[i];
-    }
-    at + n
+    let next = at + word.len();
+    out[at..next].copy_from_slice(word);
+    next
 }
 
 fn digit(d: usize) -> u8
     requires { d < 10 }
     ensures { result ≡ 48 + d }
 {
-    48 + (d as u8)
+    b'0' + d as u8
 }
 
 // A number in decimal.
@@ -55,16 +55,12 @@ pub(crate) fn number_length(n: usize) -> usize
     requires { n < 10000 }
     ensures { result ≡ length (decimal n) }
 {
-    if n < 10 {
-        return 1;
+    match n {
+        0..=9 => 1,
+        10..=99 => 2,
+        100..=999 => 3,
+        _ => 4,
     }
-    if n < 100 {
-        return 2;
-    }
-    if n < 1000 {
-        return 3;
-    }
-    4
 }
 
 // The letters of a step: `t0`, `s01`, `u1`.
@@ -74,7 +70,7 @@ pub(crate) fn put_letters(out: &mut [u8], at: usize, step: Step) -> usize
 {
     match step {
         Step::Take { transition } => {
-            let next = put(out, at, &[b't']);
+            let next = put(out, at, b"t");
             put_number(out, next, transition)
         }
         Step::Serialise { process, variable } => {
@@ -90,11 +86,8 @@ pub(crate) fn letters_length(step: Step) -> usize
 {
     match step {
         Step::Take { transition } => 1 + number_length(transition),
-        Step::Serialise {
-            process: _,
-            variable: _,
-        } => 3,
-        Step::Update { process: _ } => 2,
+        Step::Serialise { .. } => 3,
+        Step::Update { .. } => 2,
     }
 }
 
@@ -103,7 +96,7 @@ fn in_range(step: Step) -> bool
 {
     match step {
         Step::Take { transition } => transition < 256,
-        Step::Serialise { process, variable } => both(process < 4, variable < 4),
+        Step::Serialise { process, variable } => process < 4 && variable < 4,
         Step::Update { process } => process < 4,
     }
 }
@@ -113,10 +106,8 @@ pub fn step_letters(step: Step, out: &mut [u8]) -> usize
     ensures value { result ≡ length (shown (length out.old) step) }
     ensures out_after { out.new ≡ shown (length out.old) step ++ drop (length (shown (length out.old) step)) out.old }
 {
-    if in_range(step) {
-        if letters_length(step) <= out.len() {
-            return put_letters(out, 0, step);
-        }
+    if in_range(step) && letters_length(step) <= out.len() {
+        return put_letters(out, 0, step);
     }
     0
 }
@@ -126,9 +117,9 @@ pub(crate) fn put_node(out: &mut [u8], at: usize, k: usize) -> usize
     requires { (k < 10000) × (at + length (node_line k) ≤ length out.old) }
     ensures { Put out.old out.new at result (node_line k) }
 {
-    let a = put(out, at, &[b'c']);
+    let a = put(out, at, b"c");
     let b = put_number(out, a, k);
-    put(out, b, &[b';', b'\n'])
+    put(out, b, b";\n")
 }
 
 // `c0 -> c1 [label=`
@@ -136,9 +127,9 @@ pub(crate) fn put_head(out: &mut [u8], at: usize, k: usize) -> usize
     requires { (k < 9999) × (at + length (edge_head k) ≤ length out.old) }
     ensures { Put out.old out.new at result (edge_head k) }
 {
-    let a = put(out, at, &[b'c']);
+    let a = put(out, at, b"c");
     let b = put_number(out, a, k);
-    let c = put(out, b, &[b' ', b'-', b'>', b' ', b'c']);
+    let c = put(out, b, b" -> c");
     let d = put_number(out, c, k + 1);
-    put(out, d, &[b' ', b'[', b'l', b'a', b'b', b'e', b'l', b'='])
+    put(out, d, b" [label=")
 }

@@ -2,33 +2,27 @@
 ghost use Rattle.std.specs.Prelude.{◌≡◌, ◌++◌, ℕ, suc, ◌+◌, ◌*◌, ◌≤◌, ◌<◌, length};
 ghost use Rattle.drawing.specs.Text.{line, opening, node_line};
 ghost use Rattle.drawing.specs.Runs.{StepInRange, record_of, records_of};
-ghost use Rattle.drawing.specs.Writing.{answered, left_in};
+ghost use Rattle.drawing.specs.Writing.{told, answered, left_in};
 ghost use Rattle.drawing.specs.Parts.{placed, Put, edge_head};
-ghost use Rattle.drawing.specs.Reading.{expect_at, edge_at, edges_at, nodes_at, more_at, nodes_read, records_in, size_after, edge_end, end_size, edge_place, nodes_place, size_place, steps_in, Readable};
+ghost use Rattle.drawing.specs.Reading.{expect_at, edge_at, edges_at, nodes_at, more_at, nodes_read, records_in, size_after, edge_end, end_size, steps_in, Readable};
 
 use crate::Written;
-use crate::label::{EdgeRead, label_at};
-use crate::put::{put, put_head, put_node};
-use crate::word::{Way, expect, has, way_place};
+use crate::label::{Edge, label_at};
+use crate::put::{OPENING, put, put_head, put_node};
+use crate::word::{Outside, expect, has};
+use file_records::program::Refusal;
 use machine_pws::Step;
 
-// How many edges there are to be and where they begin, or where no node's line goes on.
+// How many edges there are to be, and where they begin.
 #[derive(Clone, Copy)]
-pub enum NodesRead {
-    Nodes { edges: usize, at: usize },
-    NoNodes(usize),
-}
-
-// How many bytes the step records take, or where the text is wrong.
-#[derive(Clone, Copy)]
-pub enum Size {
-    Bytes(usize),
-    Outside(usize),
+pub struct Nodes {
+    pub edges: usize,
+    pub at: usize,
 }
 
 // ---- the lines
 
-fn expect_node(text: &[u8], at: usize, k: usize) -> Way
+fn expect_node(text: &[u8], at: usize, k: usize) -> Result<usize, Outside>
     requires { k < 10000 }
     ensures { result ≡ expect_at text.now at (node_line k) }
 {
@@ -37,7 +31,7 @@ fn expect_node(text: &[u8], at: usize, k: usize) -> Way
     expect(text, at, &line[..n])
 }
 
-fn expect_head(text: &[u8], at: usize, k: usize) -> Way
+fn expect_head(text: &[u8], at: usize, k: usize) -> Result<usize, Outside>
     requires { k < 9999 }
     ensures { result ≡ expect_at text.now at (edge_head k) }
 {
@@ -46,42 +40,21 @@ fn expect_head(text: &[u8], at: usize, k: usize) -> Way
     expect(text, at, &line[..n])
 }
 
-fn edge_place(edge: EdgeRead) -> usize
-    ensures { result ≡ edge_place edge }
-{
-    match edge {
-        EdgeRead::Edge { step: _, next: _ } => 0,
-        EdgeRead::NoEdge(p) => p,
-    }
-}
-
 // The rest of an edge's line, after its step was read.
-fn edge_end(text: &[u8], at: usize, step: Step) -> EdgeRead
+fn edge_end(text: &[u8], at: usize, step: Step) -> Result<Edge, Outside>
     ensures { result ≡ edge_end text.now at step }
 {
-    let tail = expect(text, at, &[b']', b';', b'\n']);
-    let Way::On(next) = tail else {
-        return EdgeRead::NoEdge(way_place(tail));
-    };
-    EdgeRead::Edge {
-        step: step,
-        next: next,
-    }
+    let next = expect(text, at, b"];\n")?;
+    Ok(Edge { step, next })
 }
 
-fn edge_at(text: &[u8], at: usize, k: usize) -> EdgeRead
+fn edge_at(text: &[u8], at: usize, k: usize) -> Result<Edge, Outside>
     requires { k < 9999 }
     ensures { result ≡ edge_at text.now at k }
 {
-    let head = expect_head(text, at, k);
-    let Way::On(a) = head else {
-        return EdgeRead::NoEdge(way_place(head));
-    };
-    let label = label_at(text, a);
-    let EdgeRead::Edge { step, next } = label else {
-        return label;
-    };
-    edge_end(text, next, step)
+    let start = expect_head(text, at, k)?;
+    let label = label_at(text, start)?;
+    edge_end(text, label.next, label.step)
 }
 
 // ---- the edges
@@ -90,54 +63,35 @@ fn record_size(step: Step) -> usize
     ensures { result ≡ length (record_of step) }
 {
     match step {
-        Step::Take { transition: _ } => 2,
-        Step::Serialise {
-            process: _,
-            variable: _,
-        } => 3,
-        Step::Update { process: _ } => 2,
+        Step::Take { .. } | Step::Update { .. } => 2,
+        Step::Serialise { .. } => 3,
     }
 }
 
 // `}` and nothing more.
-fn end_size(text: &[u8], at: usize, total: usize) -> Size
+fn end_size(text: &[u8], at: usize, total: usize) -> Result<usize, Outside>
     ensures { result ≡ end_size text.now at total }
 {
-    let way = expect(text, at, &[b'}', b'\n']);
-    let Way::On(end) = way else {
-        return Size::Outside(way_place(way));
-    };
+    let end = expect(text, at, b"}\n")?;
     if end < text.len() {
-        return Size::Outside(end);
+        return Err(Outside { place: end });
     }
-    Size::Bytes(total)
+    Ok(total)
 }
 
 // How many bytes the records of n edges take.
-fn edges_size(text: &[u8], start: usize, n: usize) -> Size
+fn edges_size(text: &[u8], start: usize, n: usize) -> Result<usize, Outside>
     requires { n ≤ 1024 }
     ensures { result ≡ size_after 0 (edges_at n text.now start 0) }
 {
     let mut at = start;
     let mut total = 0;
-    let mut k = 0;
-    while k < n {
-        let edge = edge_at(text, at, k);
-        let EdgeRead::Edge { step, next } = edge else {
-            return Size::Outside(edge_place(edge));
-        };
-        total += record_size(step);
-        at = next;
-        k += 1;
+    for k in 0..n {
+        let edge = edge_at(text, at, k)?;
+        total += record_size(edge.step);
+        at = edge.next;
     }
     end_size(text, at, total)
-}
-
-fn narrow(x: usize) -> u8
-    requires { x < 256 }
-    ensures { result ≡ x }
-{
-    x as u8
 }
 
 fn put_record(out: &mut [u8], at: usize, step: Step) -> usize
@@ -145,11 +99,11 @@ fn put_record(out: &mut [u8], at: usize, step: Step) -> usize
     ensures { Put out.old out.new at result (record_of step) }
 {
     match step {
-        Step::Take { transition } => put(out, at, &[32, narrow(transition)]),
+        Step::Take { transition } => put(out, at, &[32, transition as u8]),
         Step::Serialise { process, variable } => {
-            put(out, at, &[33, narrow(process), narrow(variable)])
+            put(out, at, &[33, process as u8, variable as u8])
         }
-        Step::Update { process } => put(out, at, &[34, narrow(process)]),
+        Step::Update { process } => put(out, at, &[34, process as u8]),
     }
 }
 
@@ -160,108 +114,66 @@ fn put_records(out: &mut [u8], text: &[u8], start: usize, n: usize)
 {
     let mut at = start;
     let mut place = 0;
-    let mut k = 0;
-    while k < n {
-        let edge = edge_at(text, at, k);
-        let EdgeRead::Edge { step, next } = edge else {
-            return;
-        };
-        place = put_record(out, place, step);
-        at = next;
-        k += 1;
+    for k in 0..n {
+        let edge = edge_at(text, at, k).unwrap();
+        place = put_record(out, place, edge.step);
+        at = edge.next;
     }
 }
 
 // ---- the nodes
 
 // After node 1.
-fn nodes_at(text: &[u8], start: usize) -> NodesRead
+fn nodes_at(text: &[u8], start: usize) -> Result<Nodes, Outside>
     ensures { result ≡ nodes_at 1023 text.now start 1 }
 {
     let mut at = start;
-    let mut n = 1;
-    while n < 1024 {
+    for n in 1..1024 {
         if !has(text, at, b'c') {
-            return NodesRead::NoNodes(at);
+            return Err(Outside { place: at });
         }
         if has(text, at + 1, b'0') {
-            return NodesRead::Nodes { edges: n, at: at };
+            return Ok(Nodes { edges: n, at });
         }
-        let way = expect_node(text, at, n + 1);
-        let Way::On(next) = way else {
-            return NodesRead::NoNodes(way_place(way));
-        };
-        at = next;
-        n += 1;
+        at = expect_node(text, at, n + 1)?;
     }
-    NodesRead::Nodes { edges: n, at: at }
+    Ok(Nodes { edges: 1024, at })
 }
 
 // After node 0.
-fn more_at(text: &[u8], at: usize) -> NodesRead
+fn more_at(text: &[u8], at: usize) -> Result<Nodes, Outside>
     ensures { result ≡ more_at text.now at }
 {
     if has(text, at, b'}') {
-        return NodesRead::Nodes { edges: 0, at: at };
+        return Ok(Nodes { edges: 0, at });
     }
-    let way = expect_node(text, at, 1);
-    let Way::On(next) = way else {
-        return NodesRead::NoNodes(way_place(way));
-    };
+    let next = expect_node(text, at, 1)?;
     nodes_at(text, next)
 }
 
-fn expect_opening(text: &[u8]) -> Way
-    ensures { result ≡ expect_at text.now 0 (line opening) }
-{
-    expect(
-        text,
-        0,
-        &[
-            b'd', b'i', b'g', b'r', b'a', b'p', b'h', b' ', b'r', b'u', b'n', b' ', b'{', b'\n',
-        ],
-    )
-}
-
-fn nodes_read(text: &[u8]) -> NodesRead
+fn nodes_read(text: &[u8]) -> Result<Nodes, Outside>
     ensures { result ≡ nodes_read text.now }
 {
-    let way = expect_opening(text);
-    let Way::On(a) = way else {
-        return NodesRead::NoNodes(way_place(way));
-    };
-    let node = expect_node(text, a, 0);
-    let Way::On(b) = node else {
-        return NodesRead::NoNodes(way_place(node));
-    };
-    more_at(text, b)
+    let first = expect(text, 0, OPENING)?;
+    let second = expect_node(text, first, 0)?;
+    more_at(text, second)
 }
 
-fn nodes_place(nodes: NodesRead) -> usize
-    ensures { result ≡ nodes_place nodes }
+// The number of bytes written, or the refusal: 27 of a text outside the layout, 26 last.
+fn read_into(text: &[u8], out: &mut [u8]) -> Result<usize, Refusal>
+    ensures value { told result ≡ answered (length out.old) (records_in text.now) }
+    ensures out_after { out.new ≡ left_in out.old (records_in text.now) }
 {
-    match nodes {
-        NodesRead::Nodes { edges: _, at: _ } => 0,
-        NodesRead::NoNodes(p) => p,
+    let nodes = nodes_read(text)?;
+    let needed = edges_size(text, nodes.at, nodes.edges)?;
+    if out.len() < needed {
+        return Err(Refusal {
+            number: 26,
+            place: needed,
+        });
     }
-}
-
-fn size_place(size: Size) -> usize
-    ensures { result ≡ size_place size }
-{
-    match size {
-        Size::Bytes(_) => 0,
-        Size::Outside(p) => p,
-    }
-}
-
-fn refused_at(place: usize) -> Written
-    ensures { result ≡ record { number = 27; value = place } }
-{
-    Written {
-        number: 27,
-        value: place as u64,
-    }
+    put_records(out, text, nodes.at, nodes.edges);
+    Ok(needed)
 }
 
 // The step records of a drawing. A text outside the layout is refused with 27; 26 is tested last.
@@ -269,23 +181,5 @@ pub fn dot_read(text: &[u8], out: &mut [u8]) -> Written
     ensures value { result ≡ answered (length out.old) (records_in text.now) }
     ensures out_after { out.new ≡ left_in out.old (records_in text.now) }
 {
-    let nodes = nodes_read(text);
-    let NodesRead::Nodes { edges, at } = nodes else {
-        return refused_at(nodes_place(nodes));
-    };
-    let size = edges_size(text, at, edges);
-    let Size::Bytes(needed) = size else {
-        return refused_at(size_place(size));
-    };
-    if out.len() < needed {
-        return Written {
-            number: 26,
-            value: needed as u64,
-        };
-    }
-    put_records(out, text, at, edges);
-    Written {
-        number: 0,
-        value: needed as u64,
-    }
+    Written::from(read_into(text, out))
 }

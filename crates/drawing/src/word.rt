@@ -1,45 +1,42 @@
 // Words that a text has at a place.
 ghost use Rattle.std.specs.Prelude.{◌≡◌};
-ghost use Rattle.drawing.specs.Reading.{has_byte, expect_at, way_place};
+ghost use Rattle.drawing.specs.Reading.{has_byte, expect_at};
 
-// The place after what was expected, or where it is missing.
+use file_records::program::Refusal;
+
+// Where a text is no drawing: the first byte that none has after the same beginning.
 #[derive(Clone, Copy)]
-pub enum Way {
-    On(usize),
-    Stuck(usize),
+pub struct Outside {
+    pub place: usize,
+}
+
+impl From<Outside> for Refusal {
+    ghost from_gives = { λ o r. r ≡ record { number = 27; place = o.place } };
+
+    fn from(outside: Outside) -> Refusal {
+        Refusal {
+            number: 27,
+            place: outside.place,
+        }
+    }
 }
 
 pub(crate) fn has(text: &[u8], at: usize, c: u8) -> bool
     ensures { result ≡ has_byte text.now at c }
 {
-    if at < text.len() {
-        text[at] == c
-    } else {
-        false
-    }
+    text.get(at) == Some(&c)
 }
 
-pub(crate) fn expect(text: &[u8], start: usize, word: &[u8]) -> Way
+// The place after the word, which is to stand here.
+pub(crate) fn expect(text: &[u8], start: usize, word: &[u8]) -> Result<usize, Outside>
     ensures { result ≡ expect_at text.now start word.now }
 {
     let mut at = start;
-    let mut i = 0;
-    while i < word.len() {
-        if has(text, at, word[i]) {
-            at += 1;
-            i += 1;
-        } else {
-            return Way::Stuck(at);
+    for c in word {
+        if !has(text, at, *c) {
+            return Err(Outside { place: at });
         }
+        at += 1;
     }
-    Way::On(at)
-}
-
-pub(crate) fn way_place(way: Way) -> usize
-    ensures { result ≡ way_place way }
-{
-    match way {
-        Way::On(_) => 0,
-        Way::Stuck(p) => p,
-    }
+    Ok(at)
 }

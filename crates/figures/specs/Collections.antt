@@ -1,5 +1,5 @@
 -- What each function answers, for every collection (document 02, N11). It computes.
-use Rattle.std.specs.Prelude.{ℕ, zero, suc, ◌+◌, ◌*◌, ◌-◌, ◌/◌, ◌%◌, Bool, true, false, cond, ◌&&◌, leb, ltb, eqb}
+use Rattle.std.specs.Prelude.{ℕ, zero, suc, ◌+◌, ◌*◌, ◌-◌, ◌/◌, ◌%◌, Bool, true, false, cond, ◌&&◌, leb, ltb, eqb, Option, Some, None}
 use Rattle.figures.specs.declared.Collection.{Collection}
 use Rattle.figures.specs.declared.Collected.{Collected}
 use Rattle.figures.specs.declared.Fraction.{Fraction}
@@ -69,6 +69,10 @@ reduced x y = record { number = 0; numerator = x / gcd x y; denominator = y / gc
 
 abbrev pub refused : ℕ → Fraction
 refused n = record { number = n; numerator = 0; denominator = 0 }
+
+-- 25 of a collection that is not plausible; 24 if there is nothing to divide by
+abbrev pub refusal_of : Bool → ℕ → Option ℕ
+refusal_of fine count = cond fine (cond (eqb count 0) (Some 24) None) (Some 25)
 
 -- 25 of a collection that is not plausible; 24 if there is nothing to divide by; else x / y in lowest terms
 abbrev pub figure : Bool → ℕ → ℕ → ℕ → Fraction

@@ -7,7 +7,7 @@
 #![tactic(auto)]
 
 ghost use Rattle.std.specs.Prelude.{◌≡◌, ◌<◌};
-ghost use Rattle.figures.specs.Collections.{plausible, has_room, add_safe, add_other, join, gcd, reduced, mean_of, variance_of, share_of};
+ghost use Rattle.figures.specs.Collections.{plausible, has_room, add_safe, add_other, join, gcd, reduced, refusal_of, mean_of, variance_of, share_of};
 
 const MOST_RESULTS: u64 = 4096;
 
@@ -46,29 +46,18 @@ pub struct Fraction {
 fn is_plausible(c: Collection) -> bool
     ensures { result ≡ plausible c }
 {
-    if MOST_RESULTS < c.results {
-        return false;
-    }
-    if c.results < c.safe {
-        return false;
-    }
-    if c.safe * MOST_ENTRIES < c.sum {
-        return false;
-    }
-    if c.sum * MOST_ENTRIES < c.squares {
-        return false;
-    }
-    c.sum * c.sum <= c.safe * c.squares
+    c.results <= MOST_RESULTS
+        && c.safe <= c.results
+        && c.sum <= c.safe * MOST_ENTRIES
+        && c.squares <= c.sum * MOST_ENTRIES
+        && c.sum * c.sum <= c.safe * c.squares
 }
 
 // One more result is allowed.
 fn has_room(c: Collection) -> bool
     ensures { result ≡ has_room c }
 {
-    if !is_plausible(c) {
-        return false;
-    }
-    c.results < MOST_RESULTS
+    is_plausible(c) && c.results < MOST_RESULTS
 }
 
 fn unchanged(c: Collection) -> Collected
@@ -83,11 +72,8 @@ fn unchanged(c: Collection) -> Collected
 pub fn add_safe(c: Collection, entries: u64) -> Collected
     ensures { result ≡ add_safe c entries }
 {
-    if !has_room(c) {
-        return unchanged(c);
-    }
     let is_long = MOST_ENTRIES < entries;
-    if is_long {
+    if is_long || !has_room(c) {
         return unchanged(c);
     }
     let next = Collection {
@@ -110,9 +96,7 @@ pub fn add_other(c: Collection) -> Collected
     }
     let next = Collection {
         results: c.results + 1,
-        safe: c.safe,
-        sum: c.sum,
-        squares: c.squares,
+        ..c
     };
     Collected {
         number: 0,
@@ -124,10 +108,7 @@ pub fn add_other(c: Collection) -> Collected
 pub fn join(a: Collection, b: Collection) -> Collected
     ensures { result ≡ join a b }
 {
-    if !is_plausible(a) {
-        return unchanged(a);
-    }
-    if !is_plausible(b) {
+    if !is_plausible(a) || !is_plausible(b) {
         return unchanged(a);
     }
     let are_many = MOST_RESULTS < a.results + b.results;
@@ -152,12 +133,9 @@ pub fn join(a: Collection, b: Collection) -> Collected
 fn gcd(a: u64, b: u64) -> u64
     ensures { result ≡ gcd a b }
 {
-    let mut x = a;
-    let mut y = b;
+    let (mut x, mut y) = (a, b);
     while y != 0 {
-        let rest = x % y;
-        x = y;
-        y = rest;
+        (x, y) = (y, x % y);
     }
     x
 }
@@ -166,10 +144,20 @@ fn refused(number: u64) -> Fraction
     ensures { result ≡ record { number = number; numerator = 0; denominator = 0 } }
 {
     Fraction {
-        number: number,
+        number,
         numerator: 0,
         denominator: 0,
     }
+}
+
+// 25 of a collection that is not plausible; 24 if there is nothing to divide by.
+fn refusal(c: Collection, count: u64) -> Option<u64>
+    ensures { result ≡ refusal_of (plausible c) count }
+{
+    if !is_plausible(c) {
+        return Some(25);
+    }
+    if count == 0 { Some(24) } else { None }
 }
 
 fn reduced(x: u64, y: u64) -> Fraction
@@ -187,36 +175,27 @@ fn reduced(x: u64, y: u64) -> Fraction
 pub fn mean(c: Collection) -> Fraction
     ensures { result ≡ mean_of c }
 {
-    if !is_plausible(c) {
-        return refused(25);
+    match refusal(c, c.safe) {
+        Some(number) => refused(number),
+        None => reduced(c.sum, c.safe),
     }
-    if c.safe == 0 {
-        return refused(24);
-    }
-    reduced(c.sum, c.safe)
 }
 
 // The difference is not negative: that is part of being plausible.
 pub fn variance(c: Collection) -> Fraction
     ensures { result ≡ variance_of c }
 {
-    if !is_plausible(c) {
-        return refused(25);
+    match refusal(c, c.safe) {
+        Some(number) => refused(number),
+        None => reduced(c.safe * c.squares - c.sum * c.sum, c.safe * c.safe),
     }
-    if c.safe == 0 {
-        return refused(24);
-    }
-    reduced(c.safe * c.squares - c.sum * c.sum, c.safe * c.safe)
 }
 
 pub fn share(c: Collection) -> Fraction
     ensures { result ≡ share_of c }
 {
-    if !is_plausible(c) {
-        return refused(25);
+    match refusal(c, c.results) {
+        Some(number) => refused(number),
+        None => reduced(c.safe, c.results),
     }
-    if c.results == 0 {
-        return refused(24);
-    }
-    reduced(c.safe, c.results)
 }

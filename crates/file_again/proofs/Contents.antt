@@ -1,4 +1,5 @@
 -- The contents of a file that was read, and the same from what the reading hands on.
+use Rattle.std.specs.Prelude.{Result, Ok, Err, ⊤}
 use Prim.Native.Nat.{ℕ, ◌+◌, ◌*◌, ◌-◌, ◌<◌, ◌≤◌}
 use mathlib.Core.Path.{◌≡◌, refl, sym, ap, subst, ◌∙◌}
 use mathlib.Core.Bool.{Bool, true, false, cond}
@@ -15,14 +16,10 @@ use Rattle.machine_pws.specs.Machine.{Configuration}
 use Rattle.machine_pws.specs.Entries.{no_entry, entry}
 use Rattle.file_records.specs.declared.program.Format.TheVariants.{Plain}
 use Rattle.file_records.specs.declared.program.Refusal.{Refusal}
-use Rattle.file_records.specs.declared.program.Checked.{Checked}
-use Rattle.file_records.specs.declared.program.Checked.TheVariants.{Fine, Refused}
-use Rattle.file_records.specs.declared.program.Counted.{Counted}
-use Rattle.file_records.specs.declared.program.Counted.TheVariants.{Records, Stopped}
 use Rattle.file_records.specs.declared.program.Program.{Program}
 use Rattle.base.specs.Bytes.{byte, le32}
 use Rattle.file_records.specs.Records.{checked, is_kind, claim_number, start_number, memory_at, exists, step_body, step_names, step_number, step_at, transition_at}
-use Rattle.file_records.specs.ProgramPart.{unless_end, program_from, program_of, targets_of}
+use Rattle.file_records.specs.ProgramPart.{unless_end, program_from, program_of, targets_of, whether, program_read}
 use Rattle.file_contents.specs.declared.evidence.Part.{Part}
 use Rattle.file_contents.specs.declared.evidence.Part.TheVariants.{InProgram, InEvidence}
 use Rattle.file_contents.specs.EvidencePart.{steps_from, steps_of, EntriesRead, entries_from, entries_allowed, wrote_from}
@@ -50,7 +47,7 @@ module _ (x : Input) (area : ℕ) where
   f = x.file
 
   abbrev p : Program
-  p = (program_from x.alone g 0).program
+  p = program_read (program_from x.alone g 0)
 
   -- where the claim stands
   abbrev at : ℕ
@@ -61,17 +58,17 @@ module _ (x : Input) (area : ℕ) where
 
   pub record ListParts : Type 0 where
     pub enough : 65536 ≤ area
-    pub fine : (program_from x.alone g 0).answer ≡ Fine
-    pub answer : listed.answer ≡ Fine
+    pub fine : whether (program_from x.alone g 0) ≡ Ok tt
+    pub answer : listed.answer ≡ Ok tt
     pub parts : parts_of x area ≡ two_parts p (entries listed)
 
   pub record RunParts : Type 0 where
     pub count : ℕ
-    pub fine : (program_from x.alone g 0).answer ≡ Fine
+    pub fine : whether (program_from x.alone g 0) ≡ Ok tt
     pub other : byte f (at + 1) ≡ 0 → ⊥
-    pub start : unless_end f (at + 2) (checked (start_number p.shape f (at + 2)) (at + 2)) ≡ Fine
-    pub reads : steps_from p.shape p.transitions.count f (at + 2 + 5) ≡ Records count
-    pub parts : parts_of x area ≡ two_parts p (steps (byte f (at + 1)) (memory_at f (at + 2)) (Records count))
+    pub start : unless_end f (at + 2) (checked (start_number p.shape f (at + 2)) (at + 2)) ≡ Ok tt
+    pub reads : steps_from p.shape p.transitions.count f (at + 2 + 5) ≡ Ok count
+    pub parts : parts_of x area ≡ two_parts p (steps (byte f (at + 1)) (memory_at f (at + 2)) (Ok count))
 
   pub data Outcome : Type 0 where
     outcome_refused : (w : Part) (r : Refusal) → reading_of x (parts_of x area) ≡ reading_refused w r → read_file x area ≡ refused w r → Outcome
@@ -82,41 +79,41 @@ module _ (x : Input) (area : ℕ) where
   unfolding read_file
   no_parts_lem r e = outcome_refused InProgram r (ap (reading_of x) e) (ap (parts_read x) e)
 
-  by_list : 65536 ≤ area → (program_from x.alone g 0).answer ≡ Fine → parts_of x area ≡ two_parts p (entries listed) → (y : Checked) → listed.answer ≡ y → Outcome
+  by_list : 65536 ≤ area → whether (program_from x.alone g 0) ≡ Ok tt → parts_of x area ≡ two_parts p (entries listed) → (y : Result ⊤ Refusal) → listed.answer ≡ y → Outcome
   unfolding read_file
-  by_list l q e Fine d = outcome_list (record { enough = l; fine = q; answer = d; parts = e })
-  by_list l q e (Refused r) d = outcome_refused InEvidence r (rw (e, d)) (rw (e, d))
+  by_list l q e (Ok _) d = outcome_list (record { enough = l; fine = q; answer = d; parts = e })
+  by_list l q e (Err r) d = outcome_refused InEvidence r (rw (e, d)) (rw (e, d))
 
-  abbrev Starts : Checked → Type 0
+  abbrev Starts : Result ⊤ Refusal → Type 0
   Starts y = unless_end f (at + 2) (checked (start_number p.shape f (at + 2)) (at + 2)) ≡ y
 
-  by_steps : (program_from x.alone g 0).answer ≡ Fine → (byte f (at + 1) ≡ 0 → ⊥) → Starts Fine → (y : Counted) → steps_from p.shape p.transitions.count f (at + 2 + 5) ≡ y
+  by_steps : whether (program_from x.alone g 0) ≡ Ok tt → (byte f (at + 1) ≡ 0 → ⊥) → Starts (Ok tt) → (y : Result ℕ Refusal) → steps_from p.shape p.transitions.count f (at + 2 + 5) ≡ y
       → parts_of x area ≡ two_parts p (steps (byte f (at + 1)) (memory_at f (at + 2)) y) → Outcome
   unfolding read_file
-  by_steps q z s (Records n) d e = outcome_run (record { count = n; fine = q; other = z; start = s; reads = d; parts = e })
-  by_steps q z s (Stopped r) d e = outcome_refused InEvidence r (ap (reading_of x) e) (ap (parts_read x) e)
+  by_steps q z s (Ok n) d e = outcome_run (record { count = n; fine = q; other = z; start = s; reads = d; parts = e })
+  by_steps q z s (Err r) d e = outcome_refused InEvidence r (ap (reading_of x) e) (ap (parts_read x) e)
 
-  by_run : (program_from x.alone g 0).answer ≡ Fine → (byte f (at + 1) ≡ 0 → ⊥) → (y : Checked) → Starts y
+  by_run : whether (program_from x.alone g 0) ≡ Ok tt → (byte f (at + 1) ≡ 0 → ⊥) → (y : Result ⊤ Refusal) → Starts y
       → parts_of x area ≡ two_parts p (run_evidence f (byte f (at + 1)) (at + 2) p) → Outcome
   unfolding read_file
-  by_run q z Fine s e = by_steps q z s _ refl (e ∙ ap (two_parts p) (run_steps f (byte f (at + 1)) (at + 2) p s))
-  by_run q z (Refused r) s e =
+  by_run q z (Ok _) s e = by_steps q z s _ refl (e ∙ ap (two_parts p) (run_steps f (byte f (at + 1)) (at + 2) p s))
+  by_run q z (Err r) s e =
       let d = e ∙ ap (two_parts p) (start_refused f (byte f (at + 1)) (at + 2) p r s) in
       outcome_refused InEvidence r (ap (reading_of x) d) (ap (parts_read x) d)
 
-  by_claim : 65536 ≤ area → (program_from x.alone g 0).answer ≡ Fine → (y : Checked) → unless_end f at (checked (claim_number f at) at) ≡ y → Outcome
+  by_claim : 65536 ≤ area → whether (program_from x.alone g 0) ≡ Ok tt → (y : Result ⊤ Refusal) → unless_end f at (checked (claim_number f at) at) ≡ y → Outcome
   unfolding read_file
-  by_claim l q (Refused r) d =
+  by_claim l q (Err r) d =
       let e = parts_both x area l q ∙ ap (two_parts p) (evidence_refused f at p area r d) in
       outcome_refused InEvidence r (ap (reading_of x) e) (ap (parts_read x) e)
-  by_claim l q Fine d = elim (ℕ_discrete (byte f (at + 1)) 0) [
+  by_claim l q (Ok _) d = elim (ℕ_discrete (byte f (at + 1)) 0) [
     | yes z ↦ by_list l q (parts_both x area l q ∙ ap (two_parts p) (evidence_entries f at p area d z)) _ refl
     | no z ↦ by_run q z _ refl (parts_both x area l q ∙ ap (two_parts p) (evidence_run f at p area d z))
   ]
 
-  by_program : 65536 ≤ area → (y : Checked) → (program_from x.alone g 0).answer ≡ y → Outcome
-  by_program l Fine d = by_claim l d _ refl
-  by_program l (Refused r) d = no_parts_lem r (parts_refused x area r l d)
+  by_program : 65536 ≤ area → (y : Result ⊤ Refusal) → whether (program_from x.alone g 0) ≡ y → Outcome
+  by_program l (Ok _) d = by_claim l d _ refl
+  by_program l (Err r) d = no_parts_lem r (parts_refused x area r l d)
 
   pub outcome : Outcome
   outcome = elim (dec_lt area 65536) [
@@ -298,7 +295,7 @@ file_holds x area = go (outcome x area)
     go : Outcome x area → Holds area (read_file x area)
     go (outcome_refused w r a b) = subst (Holds area) (sym b) tt
     go (outcome_list L) = subst (Holds area) (sym (file_list x area L)) (parts_list x area L)
-    go (outcome_run R) = subst (Holds area) (sym (file_run x area R)) (run_holds area (parts_run x area R) (eqb (byte x.file (evidence_at x (program_from x.alone x.code 0).program + 1)) 1))
+    go (outcome_run R) = subst (Holds area) (sym (file_run x area R)) (run_holds area (parts_run x area R) (eqb (byte x.file (evidence_at x (program_read (program_from x.alone x.code 0)) + 1)) 1))
 
 pub list_read : (x : Input) (area : ℕ) {P : pws.Program} {ts : List (ℕ → ℕ)} {es : List Configuration} → read_file x area ≡ list P ts es → ListRead P ts es area
 list_read x area q = subst (Holds area) q (file_holds x area)

@@ -10,7 +10,7 @@ use Rattle.machine_pws.specs.Ranges.{CountsOf}
 use Rattle.file_records.specs.declared.program.Program.{Program}
 use Rattle.base.specs.Bytes.{byte}
 use Rattle.file_records.specs.Records.{shape_at}
-use Rattle.file_records.specs.ProgramPart.{program_from}
+use Rattle.file_records.specs.ProgramPart.{program_from, program_read}
 use Rattle.file_contents.specs.Reading.{Input, evidence_at, FileRead, refused, list, run, pso_run, read_file}
 use Rattle.file_again.proofs.ProgramPart.{part_counts}
 use Rattle.file_again.proofs.Contents.{Outcome, outcome_refused, outcome_list, outcome_run, outcome, file_list, file_run}
@@ -30,7 +30,7 @@ pub file_counts : (x : Input) (area : ℕ) → HasCounts x.code (read_file x are
 file_counts x area = go (outcome x area)
   where
     p : Program
-    p = (program_from x.alone x.code 0).program
+    p = program_read (program_from x.alone x.code 0)
 
     go : Outcome x area → HasCounts x.code (read_file x area)
     go (outcome_refused w r a b) = subst (HasCounts x.code) (sym b) tt

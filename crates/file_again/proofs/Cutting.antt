@@ -1,4 +1,6 @@
 -- A combined file, and the two files that it is cut into at its claim, are read alike.
+use Rattle.std.specs.Prelude.{Result, Ok, Err, ⊤}
+use Rattle.file_records.specs.declared.program.Refusal.{Refusal}
 use Prim.Native.Nat.{ℕ, ◌+◌, ◌<◌, ◌≤◌}
 use mathlib.Core.Path.{◌≡◌, refl, sym, ap, ap₂, ◌∙◌}
 use mathlib.Core.Bool.{Bool, true, false, cond}
@@ -10,15 +12,11 @@ use lib.Seq.{get_or-take, get_or-drop, drop-drop, length-take-le}
 use lib.Dec.{eqb}
 use Rattle.machine_pws.specs.Program as pws
 use Rattle.machine_pws.specs.declared.Step.{Step}
-use Rattle.file_records.specs.declared.program.Checked.{Checked}
-use Rattle.file_records.specs.declared.program.Checked.TheVariants.{Fine, Refused}
-use Rattle.file_records.specs.declared.program.Counted.{Counted}
-use Rattle.file_records.specs.declared.program.Counted.TheVariants.{Records, Stopped}
 use Rattle.file_records.specs.declared.program.Program.{Program}
 use Rattle.file_contents.specs.declared.evidence.Part.TheVariants.{InProgram, InEvidence}
 use Rattle.base.specs.Bytes.{choose, byte}
 use Rattle.file_records.specs.Records.{checked, claim_number, start_number, memory_at}
-use Rattle.file_records.specs.ProgramPart.{unless_end, program_from, program_of, targets_of}
+use Rattle.file_records.specs.ProgramPart.{unless_end, program_from, program_of, targets_of, program_read}
 use Rattle.file_contents.specs.EvidencePart.{steps_from, steps_of, EntriesRead, entries_from, entries_allowed}
 use Rattle.file_contents.specs.Reading.{Input, combined, pair, Evidence, refusal, entries, steps, claim_then, run_evidence, evidence_from, FileRead, refused, list, run, pso_run, list_read, run_read, evidence_read, parts_read, read_file}
 use Rattle.file_contents.proofs.ReadingLaws.{parts_short, parts_both}
@@ -43,25 +41,25 @@ module _ (f g h : List ℕ) (c : ℕ) (same : (k : ℕ) → byte f (c + k) ≡ b
   abbrev SaidAlike : Evidence → Evidence → Type 0
   SaidAlike d e = evidence_read (combined f) p d ≡ moved_read c (evidence_read (pair g h) p e)
 
-  claim_alike : (d e : Evidence) → SaidAlike d e → (x : Checked) → SaidAlike (claim_then (moved_check c x) (λ _. d)) (claim_then x (λ _. e))
-  claim_alike d e s Fine = s
-  claim_alike d e s (Refused r) = refl
+  claim_alike : (d e : Evidence) → SaidAlike d e → (x : Result ⊤ Refusal) → SaidAlike (claim_then (moved_check c x) (λ _. d)) (claim_then x (λ _. e))
+  claim_alike d e s (Ok _) = s
+  claim_alike d e s (Err r) = refl
 
   choose_alike : (a b d e : Evidence) → SaidAlike a b → SaidAlike d e → (t : Bool) → SaidAlike (choose t (λ _. a) (λ _. d)) (choose t (λ _. b) (λ _. e))
   choose_alike a b d e s r true = s
   choose_alike a b d e s r false = r
 
   list_alike : (a b : EntriesRead) → MovedEntries c a b → SaidAlike (entries a) (entries b)
-  list_alike a b m = ap (λ (x : Checked). list_read (combined f) p x a) m.answer ∙ go b.answer
+  list_alike a b m = ap (λ (x : Result ⊤ Refusal). list_read (combined f) p x a) m.answer ∙ go b.answer
     where
-      go : (x : Checked) → list_read (combined f) p (moved_check c x) a ≡ moved_read c (list_read (pair g h) p x b)
-      go Fine =
+      go : (x : Result ⊤ Refusal) → list_read (combined f) p (moved_check c x) a ≡ moved_read c (list_read (pair g h) p x b)
+      go (Ok _) =
           ap₂ (λ P ts. list P ts a.entries) (sym sameProgram) (sym sameTargets) ∙ ap (list (program_of g p) (targets_of g p)) m.entries
-      go (Refused q) = refl
+      go (Err q) = refl
 
-  steps_alike : (claim : ℕ) (m : List ℕ) (n : Counted) → SaidAlike (steps claim m (moved_count c n)) (steps claim m n)
-  steps_alike claim m (Stopped r) = refl
-  steps_alike claim m (Records n) =
+  steps_alike : (claim : ℕ) (m : List ℕ) (n : Result ℕ Refusal) → SaidAlike (steps claim m (moved_count c n)) (steps claim m n)
+  steps_alike claim m (Err r) = refl
+  steps_alike claim m (Ok n) =
       let a : p.claim + 2 + 5 ≡ c + 7 = omega arith in
       let e : steps_of f (p.claim + 2 + 5) n ≡ steps_of h 7 n = ap (λ (k : ℕ). steps_of f k n) a ∙ steps_same f h c same long 7 n in
       ap₂ (λ P ts. run_read claim P ts m (steps_of f (p.claim + 2 + 5) n)) (sym sameProgram) (sym sameTargets)
@@ -74,7 +72,7 @@ module _ (f g h : List ℕ) (c : ℕ) (same : (k : ℕ) → byte f (c + k) ≡ b
       let n = steps_from p.shape p.transitions.count f (c + 2 + 5) in
       let k = steps_from p.shape p.transitions.count h 7 in
       let e : n ≡ moved_count c k = ap (steps_from p.shape p.transitions.count f) a ∙ steps_moved f h c same long p.shape p.transitions.count 7 in
-      ap (λ (x : Checked). evidence_read (combined f) p (claim_then x (λ _. steps claim (memory_at f (c + 2)) n))) (start_moved f h c same long p.shape 2)
+      ap (λ (x : Result ⊤ Refusal). evidence_read (combined f) p (claim_then x (λ _. steps claim (memory_at f (c + 2)) n))) (start_moved f h c same long p.shape 2)
       ∙ claim_alike (steps claim (memory_at f (c + 2)) n) (steps claim (memory_at h 2) k)
       (ap₂ (λ m n. evidence_read (combined f) p (steps claim m n)) (memory_moved f h c same long 2) e ∙ steps_alike claim (memory_at h 2) k)
       (unless_end h 2 (checked (start_number p.shape h 2) 2))
@@ -97,7 +95,7 @@ module _ (f g h : List ℕ) (c : ℕ) (same : (k : ℕ) → byte f (c + k) ≡ b
         let z : p.claim ≡ c + 0 = omega arith in
         let a : c + 0 + 2 ≡ c + 2 = omega arith in
         ap (λ (at : ℕ). evidence_read (combined f) p (claim_then (unless_end f at (checked (claim_number f at) at)) (λ _. after_claim f (byte f (at + 1)) (at + 2)))) z
-        ∙ ap (λ (x : Checked). evidence_read (combined f) p (claim_then x (λ _. after_claim f (byte f (c + 0 + 1)) (c + 0 + 2)))) (claim_moved f h c same long 0)
+        ∙ ap (λ (x : Result ⊤ Refusal). evidence_read (combined f) p (claim_then x (λ _. after_claim f (byte f (c + 0 + 1)) (c + 0 + 2)))) (claim_moved f h c same long 0)
         ∙ claim_alike (after_claim f (byte f (c + 0 + 1)) (c + 0 + 2)) (after_claim h (byte h 1) 2)
         (ap₂ (λ claim at. evidence_read (combined f) p (after_claim f claim at)) (claim_byte f h c same long 0) a ∙ after_alike (byte h 1))
         (unless_end h 0 (checked (claim_number h 0) 0))
@@ -135,11 +133,11 @@ module _ (f g : List ℕ) (c : ℕ) where
   handed_alike p (refusal r) = handed_by r.number r.place
   handed_alike p (entries r) = go r.answer
     where
-      go : (x : Checked) → HandedAlike (list_read (pair g (drop c f)) p x r)
-      go Fine = refl
-      go (Refused q) = handed_by q.number q.place
-  handed_alike p (steps claim m (Records n)) = handed_run claim (program_of g p) (targets_of g p) m (steps_of (drop c f) 7 n)
-  handed_alike p (steps claim m (Stopped r)) = handed_by r.number r.place
+      go : (x : Result ⊤ Refusal) → HandedAlike (list_read (pair g (drop c f)) p x r)
+      go (Ok _) = refl
+      go (Err q) = handed_by q.number q.place
+  handed_alike p (steps claim m (Ok n)) = handed_run claim (program_of g p) (targets_of g p) m (steps_of (drop c f) 7 n)
+  handed_alike p (steps claim m (Err r)) = handed_by r.number r.place
 
 -- ---- the whole
 
@@ -161,7 +159,7 @@ module _ (f : List ℕ) (c area : ℕ) (C : ClaimAt f c) where
   h = drop c f
 
   abbrev p : Program
-  p = (program_from false f 0).program
+  p = program_read (program_from false f 0)
 
   inside : c ≤ length f
   inside = omega (arith, claim_inside f C.fine, C.place)

@@ -1,4 +1,6 @@
 -- The entries of a file that was read, by number, and the list of their offsets.
+use Rattle.std.specs.Prelude.{Result, Ok, Err, ⊤}
+use Rattle.file_records.specs.declared.program.Refusal.{Refusal}
 use Prim.Native.Nat.{ℕ, zero, suc, ◌+◌, ◌*◌, ◌-◌, ◌<◌, ◌≤◌}
 use mathlib.Core.Path.{◌≡◌, refl, sym, ap, ◌∙◌}
 use mathlib.Core.Logic.{inl}
@@ -10,8 +12,6 @@ use lib.Dec.{leb}
 use Rattle.machine_pws.specs.Machine.{Configuration}
 use Rattle.machine_pws.specs.Entries.{entry}
 use Rattle.file_records.specs.declared.program.Shape.{Shape}
-use Rattle.file_records.specs.declared.program.Checked.{Checked}
-use Rattle.file_records.specs.declared.program.Checked.TheVariants.{Fine, Refused}
 use Rattle.base.specs.Bytes.{choose, le32, put32}
 use Rattle.file_records.specs.Records.{checked, entry_number}
 use Rattle.file_contents.specs.EvidencePart.{EntryRead, whole, bad, entry_read, EntriesRead, head_then, entry_then, entries_from, wrote_from}
@@ -25,7 +25,7 @@ use Rattle.file_again.proofs.Entry.{entry_near}
 -- offsets and entries from `at` on, of which so many are allowed
 pub data Listed (s : Shape) (states f : List ℕ) : ℕ → ℕ → List ℕ → List Configuration → Type 0 where
   listed_end : {left at : ℕ} → Listed s states f left at [] []
-  listed_more : {left at next : ℕ} {os : List ℕ} {e : Configuration} {es : List Configuration} → checked (entry_number s states f at false) at ≡ Fine → entry_read s f at ≡ whole e next
+  listed_more : {left at next : ℕ} {os : List ℕ} {e : Configuration} {es : List Configuration} → checked (entry_number s states f at false) at ≡ Ok tt → entry_read s f at ≡ whole e next
       → Listed s states f left next os es → Listed s states f (suc left) at (at ∷ os) (e ∷ es)
 
 append_cons {ℓ} : {A : Type ℓ} (xs : List A) (x : A) (ys : List A) → (xs ++ (x ∷ [])) ++ ys ≡ xs ++ (x ∷ ys)
@@ -46,29 +46,29 @@ pub record More (s : Shape) (states f : List ℕ) (left at : ℕ) (os : List ℕ
 
 module _ (s : Shape) (states f : List ℕ) where
   abbrev Reads : ℕ → ℕ → List ℕ → List Configuration → Type 0
-  Reads left at os es = (entries_from left s states f at os es).answer ≡ Fine → More s states f left at os es (entries_from left s states f at os es)
+  Reads left at os es = (entries_from left s states f at os es).answer ≡ Ok tt → More s states f left at os es (entries_from left s states f at os es)
 
-  nothing : (left at : ℕ) (os : List ℕ) (es : List Configuration) → More s states f left at os es (record { offsets = os; entries = es; answer = Fine })
+  nothing : (left at : ℕ) (os : List ℕ) (es : List Configuration) → More s states f left at os es (record { offsets = os; entries = es; answer = Ok tt })
   nothing left at os es = record { offsets = []; entries = []; same = append_none os; alike = append_none es; listed = listed_end }
 
-  last : (at : ℕ) (os : List ℕ) (es : List Configuration) (b : Bool) (x : Checked) → checked (entry_number s states f at true) at ≡ x
-      → (let r : EntriesRead = choose b (λ _. record { offsets = os; entries = es; answer = Fine }) (λ _. head_then x os es (λ _. record { offsets = os; entries = es; answer = Fine })) in
-      r.answer ≡ Fine → More s states f 0 at os es r)
+  last : (at : ℕ) (os : List ℕ) (es : List Configuration) (b : Bool) (x : Result ⊤ Refusal) → checked (entry_number s states f at true) at ≡ x
+      → (let r : EntriesRead = choose b (λ _. record { offsets = os; entries = es; answer = Ok tt }) (λ _. head_then x os es (λ _. record { offsets = os; entries = es; answer = Ok tt })) in
+      r.answer ≡ Ok tt → More s states f 0 at os es r)
   last at os es true x d q = nothing 0 at os es
-  last at os es false Fine d q = absurd (no_true (sym (entry_fine f at s states true d).room))
-  last at os es false (Refused r) d q = absurd (fine_refused (sym q))
+  last at os es false (Ok _) d q = absurd (no_true (sym (entry_fine f at s states true d).room))
+  last at os es false (Err r) d q = absurd (fine_refused (sym q))
 
   longer : (left at : ℕ) (os : List ℕ) (es : List Configuration)
       → ((e : Configuration) (next : ℕ) → Reads left next (os ++ (at ∷ [])) (es ++ (e ∷ [])))
-      → (b : Bool) (x : Checked) → checked (entry_number s states f at false) at ≡ x → (y : EntryRead) → entry_read s f at ≡ y
+      → (b : Bool) (x : Result ⊤ Refusal) → checked (entry_number s states f at false) at ≡ x → (y : EntryRead) → entry_read s f at ≡ y
       → (let r : EntriesRead =
-      choose b (λ _. record { offsets = os; entries = es; answer = Fine })
+      choose b (λ _. record { offsets = os; entries = es; answer = Ok tt })
       (λ _. head_then x os es (λ _. entry_then y os es (λ e next. entries_from left s states f next (os ++ (at ∷ [])) (es ++ (e ∷ []))))) in
-      r.answer ≡ Fine → More s states f (suc left) at os es r)
+      r.answer ≡ Ok tt → More s states f (suc left) at os es r)
   longer left at os es ih true x d y c q = nothing (suc left) at os es
-  longer left at os es ih false (Refused r) d y c q = absurd (fine_refused (sym q))
-  longer left at os es ih false Fine d (bad r) c q = absurd (fine_refused (sym q))
-  longer left at os es ih false Fine d (whole e next) c q =
+  longer left at os es ih false (Err r) d y c q = absurd (fine_refused (sym q))
+  longer left at os es ih false (Ok _) d (bad r) c q = absurd (fine_refused (sym q))
+  longer left at os es ih false (Ok _) d (whole e next) c q =
       let m = ih e next q in
       record {
         offsets = at ∷ m.offsets;
@@ -89,7 +89,7 @@ module _ (s : Shape) (states f : List ℕ) where
 -- entry e, whose 10 stands at `at`
 pub record Standing (s : Shape) (states f : List ℕ) (at : ℕ) (e : Configuration) : Type 0 where
   pub next : ℕ
-  pub head : checked (entry_number s states f at false) at ≡ Fine
+  pub head : checked (entry_number s states f at false) at ≡ Ok tt
   pub reads : entry_read s f at ≡ whole e next
 
 pub listed_count : {s : Shape} {states f : List ℕ} {left at : ℕ} {os : List ℕ} {es : List Configuration} → Listed s states f left at os es → (length os ≡ length es) × (length es ≤ left)

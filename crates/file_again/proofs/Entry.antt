@@ -1,4 +1,5 @@
 -- An entry that was read: it is a cube of the program, it is near to its 10, and loading it gives it again.
+use Rattle.std.specs.Prelude.{Result, Ok, Err, ⊤}
 use Prim.Native.Nat.{ℕ, zero, suc, ◌+◌, ◌*◌, ◌<◌, ◌≤◌}
 use mathlib.Core.Path.{◌≡◌, refl, sym, ap, subst, ◌∙◌}
 use mathlib.Core.Logic.{◌⊎◌, inl, inr, ⊎_elim}
@@ -18,8 +19,6 @@ use Rattle.machine_pws.proofs.Facts.{put_queue_each, message_each}
 use Rattle.machine_pws.proofs.Steps.{all_snoc, queues_put}
 use Rattle.file_records.specs.declared.program.Shape.{Shape}
 use Rattle.file_records.specs.declared.program.Refusal.{Refusal}
-use Rattle.file_records.specs.declared.program.Checked.{Checked}
-use Rattle.file_records.specs.declared.program.Checked.TheVariants.{Fine, Refused}
 use Rattle.file_contents.specs.declared.entry.Loaded.{Loaded}
 use Rattle.base.specs.Bytes.{choose, byte, cut}
 use Rattle.file_records.specs.Records.{checked, is_kind, exists, state_names, state_at, pointer_names, pointer_at, entry_number, message_at, message_number, message_names, waiting_number, waiting_names}
@@ -50,15 +49,15 @@ data Body (s : Shape) (f : List ℕ) (at : ℕ) (e : Configuration) : Type 0 whe
       → (exists s (byte f (at + 1)) (byte f (at + 2)) && leb 8 (length (e.queue (byte f (at + 1)) (byte f (at + 2))))) ≡ false → waiting_names s f at ≡ true
       → Body s f at e
 
-body_says : (s : Shape) (f : List ℕ) (at : ℕ) (e : Configuration) → checked (body_number s f at e) at ≡ Fine → Body s f at e
+body_says : (s : Shape) (f : List ℕ) (at : ℕ) (e : Configuration) → checked (body_number s f at e) at ≡ Ok tt → Body s f at e
 unfolding body_number message_number waiting_number checked
 body_says s f at e d = go (is_kind f at 17) refl (is_kind f at 18) refl d
   where
-    two : checked 2 at ≡ Fine → ⊥
+    two : checked 2 at ≡ Ok tt → ⊥
     two q = let z : ◌≡◌ {A = ℕ} 0 1 = cc in omega arith
 
     go : (a : Bool) → is_kind f at 17 ≡ a → (b : Bool) → is_kind f at 18 ≡ b
-        → checked (cond a (message_number s f at (length e.memory.channel)) (cond b (waiting_number s f at (length (e.queue (byte f (at + 1)) (byte f (at + 2))))) 2)) at ≡ Fine
+        → checked (cond a (message_number s f at (length e.memory.channel)) (cond b (waiting_number s f at (length (e.queue (byte f (at + 1)) (byte f (at + 2))))) 2)) at ≡ Ok tt
         → Body s f at e
     go true k b j q =
         let g : Good false (cut f at 6) (leb 16 (length e.memory.channel)) false (not (message_names s f at)) = good at q in
@@ -220,18 +219,18 @@ module _ (s : Shape) (few : s.processes ≤ 4) (small : s.variables ≤ 4) (f : 
     where
       go : ((m : Loaded) → Partway (at + body_size f at) (extended f at e) m → entry_from bytes s f start (at + body_size f at) (extended f at e) ≡ whole d next
           → Done d next (load_from bytes f (at + body_size f at) m))
-          → (b : Bool) → at_boundary f at ≡ b → (x : Checked) → checked (body_number s f at e) at ≡ x
+          → (b : Bool) → at_boundary f at ≡ b → (x : Result ⊤ Refusal) → checked (body_number s f at e) at ≡ x
           → choose b (λ _. finished s start at e) (λ _. body_then x (λ _. entry_from bytes s f start (at + body_size f at) (extended f at e))) ≡ whole d next
           → Done d next (load_from (suc bytes) f at l)
       go ih true b x k q = subst (Done d next) (sym (ends_loading (suc bytes) at l b)) (finish at e l W d next q)
-      go ih false b (Refused r) k q = absurd (bad_whole q)
-      go ih false b Fine k q =
+      go ih false b (Err r) k q = absurd (bad_whole q)
+      go ih false b (Ok _) k q =
           let o = onward bytes at e l W (body_says s f at e k) in
           subst (Done d next) (sym o.loads) (ih o.next o.partway q)
 
   -- ---- an entry that was read
 
-  module _ (states : List ℕ) (full : Bool) (head : checked (entry_number s states f start full) start ≡ Fine) (d : Configuration) (next : ℕ) (q : entry_read s f start ≡ whole d next) where
+  module _ (states : List ℕ) (full : Bool) (head : checked (entry_number s states f start full) start ≡ Ok tt) (d : Configuration) (next : ℕ) (q : entry_read s f start ≡ whole d next) where
     inside : start + 8 < length f
     inside = cut_fits f start 8 (entry_fine f start s states full head).whole
 

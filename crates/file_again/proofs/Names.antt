@@ -1,4 +1,5 @@
 -- What a record that is fine names.
+use Rattle.std.specs.Prelude.{Ok}
 use Prim.Native.Nat.{ℕ, ◌+◌, ◌<◌, ◌≤◌}
 use mathlib.Core.Path.{◌≡◌, refl, sym, subst}
 use mathlib.Core.Logic.{◌⊎◌, inl, inr}
@@ -19,7 +20,6 @@ use Rattle.file_records.specs.declared.program.Shape.{Shape}
 use Rattle.base.specs.Bytes.{byte}
 use Rattle.file_records.specs.Records.{in_range, value_exists, names_of, operation_names, operation_of, transition_at, transition_names, state_name, state_names, state_at, exists, pointer_name, pointer_names, pointer_at, value_name, value_names, message_names, message_at, waiting_names, value_count, checked, start_name, start_names, start_number, memory_at}
 use Rattle.file_records.specs.ProgramPart.{shape_of}
-use Rattle.file_records.specs.declared.program.Checked.TheVariants.{Fine}
 use Rattle.file_records.proofs.RecordLaws.{good}
 use Rattle.file_records.proofs.ProgramLaws.{and_true}
 use Rattle.file_again.proofs.Tables.{of_four}
@@ -229,7 +229,7 @@ module _ (s : Shape) (f : List ℕ) (at : ℕ) where
 
 -- ---- the memory that a run starts from
 
-pub start_named : (s : Shape) (f : List ℕ) (at : ℕ) → checked (start_number s f at) at ≡ Fine → start_names s f at ≡ true
+pub start_named : (s : Shape) (f : List ℕ) (at : ℕ) → checked (start_number s f at) at ≡ Ok tt → start_names s f at ≡ true
 unfolding start_number
 start_named s f at e = not-false _ (good at e).names
 

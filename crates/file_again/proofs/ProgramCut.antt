@@ -1,4 +1,6 @@
 -- The program part of a combined file, and of the program file that ends where its claim stands: the same is read.
+use Rattle.std.specs.Prelude.{Result, Ok, ⊤}
+use Rattle.file_records.specs.declared.program.Refusal.{Refusal}
 use Prim.Native.Nat.{ℕ, zero, suc, ◌+◌, ◌*◌, ◌-◌, ◌<◌, ◌≤◌}
 use mathlib.Core.Path.{◌≡◌, refl, sym, ap, ap₂, subst, ◌∙◌}
 use mathlib.Core.Bool.{Bool, true, false, cond, not}
@@ -13,13 +15,9 @@ use Rattle.machine_pws.specs.Program as pws
 use Rattle.file_records.specs.declared.program.Format.TheVariants.{Plain}
 use Rattle.file_records.specs.declared.program.Shape.{Shape}
 use Rattle.file_records.specs.declared.program.Program.{Program}
-use Rattle.file_records.specs.declared.program.ProgramRead.{ProgramRead}
-use Rattle.file_records.specs.declared.program.Checked.{Checked}
-use Rattle.file_records.specs.declared.program.Checked.TheVariants.{Fine}
-use Rattle.file_records.specs.declared.program.Counted.TheVariants.{Records}
 use Rattle.base.specs.Bytes.{byte, cut}
 use Rattle.file_records.specs.Records.{checked, is_kind, shape_at, shape_number, states_number, transition_at, transition_number, transition_names, target_number, state_names, state_at}
-use Rattle.file_records.specs.ProgramPart.{unless_end, states_from, of_process, of_processes, row_from, transitions_from, at_end, targets_from, rows_from, rest_from, program_with, program_from, table_from, program_of, targets_of}
+use Rattle.file_records.specs.ProgramPart.{unless_end, states_from, of_process, of_processes, row_from, transitions_from, at_end, targets_from, rows_from, rest_from, program_with, program_from, table_from, program_of, targets_of, whether, program_read}
 use Rattle.file_records.proofs.RecordLaws.{unless_fine, unless_not, row_ends, row_next, transition_fine, target_fine}
 use Rattle.base.proofs.ByteLaws.{cut_fits}
 use Rattle.file_records.proofs.ProgramLaws.{transitions_most, targets_most}
@@ -31,12 +29,12 @@ use Rattle.file_again.proofs.ProgramPart.{targets_least}
 
 -- ---- records in a row, each of them fine
 
-module _ (ends : ℕ → ℕ → Bool) (check : ℕ → ℕ → Checked) (size : ℕ → ℕ) where
+module _ (ends : ℕ → ℕ → Bool) (check : ℕ → ℕ → Result ⊤ Refusal) (size : ℕ → ℕ) where
   pub row_counts : (left m at n : ℕ) → m ≤ left → ((i : ℕ) → i < m → ends (place_of size at i) (n + i) ≡ false)
-      → ((i : ℕ) → i < m → check (place_of size at i) (n + i) ≡ Fine) → ends (place_of size at m) (n + m) ≡ true → row_from ends check size left at n ≡ Records (n + m)
+      → ((i : ℕ) → i < m → check (place_of size at i) (n + i) ≡ Ok tt) → ends (place_of size at m) (n + m) ≡ true → row_from ends check size left at n ≡ Ok (n + m)
   row_counts left zero at n l goes fine shut =
       let z : n + 0 ≡ n = omega arith in
-      row_ends ends check size left at n (ap (ends at) (sym z) ∙ shut) ∙ ap Records (sym z)
+      row_ends ends check size left at n (ap (ends at) (sym z) ∙ shut) ∙ ap Ok (sym z)
   row_counts zero (suc m) at n l goes fine shut = absurd (omega arith)
   row_counts (suc left) (suc m) at n l goes fine shut =
       let z : n + 0 ≡ n = omega arith in
@@ -45,14 +43,14 @@ module _ (ends : ℕ → ℕ → Bool) (check : ℕ → ℕ → Checked) (size :
       row_next ends check size left at n (ap (ends at) (sym z) ∙ goes 0 (omega arith)) (ap (check at) (sym z) ∙ fine 0 (omega arith))
       ∙ row_counts left m next (suc n) (omega arith) (λ i k. ap (ends (place_of size next i)) (on i) ∙ goes (suc i) (omega arith))
       (λ i k. ap (check (place_of size next i)) (on i) ∙ fine (suc i) (omega arith)) (ap (ends (place_of size next m)) (on m) ∙ shut)
-      ∙ ap Records (on m)
+      ∙ ap Ok (on m)
 
-pub states_all : (f : List ℕ) (n at : ℕ) → ((p : ℕ) → p < n → unless_end f (at + 3 * p) (checked (states_number f (at + 3 * p)) (at + 3 * p)) ≡ Fine) → states_from f at n ≡ Fine
+pub states_all : (f : List ℕ) (n at : ℕ) → ((p : ℕ) → p < n → unless_end f (at + 3 * p) (checked (states_number f (at + 3 * p)) (at + 3 * p)) ≡ Ok tt) → states_from f at n ≡ Ok tt
 unfolding states_from
 states_all f zero at fine = refl
 states_all f (suc n) at fine =
     let z : at + 3 * 0 ≡ at = omega arith in
-    let e : unless_end f at (checked (states_number f at) at) ≡ Fine = ap (λ (k : ℕ). unless_end f k (checked (states_number f k) k)) (sym z) ∙ fine 0 (omega arith) in
+    let e : unless_end f at (checked (states_number f at) at) ≡ Ok tt = ap (λ (k : ℕ). unless_end f k (checked (states_number f k) k)) (sym z) ∙ fine 0 (omega arith) in
     let on : (p : ℕ) → at + 3 + 3 * p ≡ at + 3 * suc p = λ p. omega arith in
     rw e (states_all f n (at + 3) (λ p l. ap (λ (k : ℕ). unless_end f k (checked (states_number f k) k)) (on p) ∙ fine (suc p) (omega arith)))
 
@@ -62,27 +60,23 @@ table_same g h n d e = table_of h 0 n (table_from g 0 n) d (table_length g 0 n) 
 -- ---- what is fine in f
 
 -- a program part that was read
-abbrev fine_with : Shape → List ℕ → List ℕ → ℕ → ℕ → ℕ → ProgramRead
+abbrev fine_with : Shape → List ℕ → List ℕ → ℕ → ℕ → ℕ → Program
 fine_with s states initial at n m =
     record {
-      answer = Fine;
-      program =
-          record {
-            shape = s;
-            states = states;
-            initial = initial;
-            transitions = record { at = at; count = n };
-            targets = record { at = at + 8 * n; count = m };
-            claim = at + 8 * n + 5 * m;
-          };
+      shape = s;
+      states = states;
+      initial = initial;
+      transitions = record { at = at; count = n };
+      targets = record { at = at + 8 * n; count = m };
+      claim = at + 8 * n + 5 * m;
     }
 
 four_three : (f : List ℕ) (at : ℕ) → is_kind f at 4 ≡ true → is_kind f at 3 ≡ false
 unfolding is_kind
 four_three f at e = let k = eqb-true (byte f at) 4 e in ne_eqb (byte f at) 3 (λ d. omega arith)
 
-module _ (s : Shape) (states : List ℕ) (f : List ℕ) (at m : ℕ) (q : targets_from Plain false s states f at ≡ Records m) where
-  target_checked : (i : ℕ) → i < m → checked (target_number Plain s states f (at + 5 * i) (0 + i)) (at + 5 * i) ≡ Fine
+module _ (s : Shape) (states : List ℕ) (f : List ℕ) (at m : ℕ) (q : targets_from Plain false s states f at ≡ Ok m) where
+  target_checked : (i : ℕ) → i < m → checked (target_number Plain s states f (at + 5 * i) (0 + i)) (at + 5 * i) ≡ Ok tt
   unfolding targets_from
   target_checked i l =
       let e = row_each (at_end false f) (λ k n. unless_end f k (checked (target_number Plain s states f k n) k)) (λ k. 5) 4096 at 0 m q i (omega arith) in
@@ -96,7 +90,7 @@ module _ (s : Shape) (states : List ℕ) (f : List ℕ) (at m : ℕ) (q : target
       omega (arith, cut_fits f (at + 5 * (m - 1)) 4 g.whole)
 
 -- the file goes on to its claim
-pub claim_inside : (f : List ℕ) → (program_from false f 0).answer ≡ Fine → (program_from false f 0).program.claim ≤ length f
+pub claim_inside : (f : List ℕ) → whether (program_from false f 0) ≡ Ok tt → (program_read (program_from false f 0)).claim ≤ length f
 claim_inside f q =
     let F = program_fine Plain false f 0 q in
     rw F.same (targets_inside (shape_at f 0) (of_processes f 7 1 (shape_at f 0).processes) f (7 + 3 * (shape_at f 0).processes + 8 * F.transitions) F.targets F.aims)
@@ -104,10 +98,10 @@ claim_inside f q =
 -- ---- g is the program file of f
 
 pub record CutProgram (f g : List ℕ) : Type 0 where
-  pub fine : (program_from true g 0).answer ≡ Fine
-  pub same : (program_from true g 0).program ≡ (program_from false f 0).program
-  pub program : program_of g (program_from false f 0).program ≡ program_of f (program_from false f 0).program
-  pub targets : targets_of g (program_from false f 0).program ≡ targets_of f (program_from false f 0).program
+  pub fine : whether (program_from true g 0) ≡ Ok tt
+  pub same : program_read (program_from true g 0) ≡ program_read (program_from false f 0)
+  pub program : program_of g (program_read (program_from false f 0)) ≡ program_of f (program_read (program_from false f 0))
+  pub targets : targets_of g (program_read (program_from false f 0)) ≡ targets_of f (program_read (program_from false f 0))
 
 -- ---- a list of c bytes that f begins with
 
@@ -173,13 +167,13 @@ module _ (f g : List ℕ) (c : ℕ) (same : (k : ℕ) → k < c → byte g k ≡
 
   -- ---- the rows
 
-  states_same : (at n : ℕ) → at + 3 * n ≤ c → states_from f at n ≡ Fine → states_from g at n ≡ Fine
+  states_same : (at n : ℕ) → at + 3 * n ≤ c → states_from f at n ≡ Ok tt → states_from g at n ≡ Ok tt
   states_same at n l q =
       states_all g n at (λ p k. unless_not g (at + 3 * p) _ (omega arith)
       ∙ ap (λ (x : ℕ). checked x (at + 3 * p)) (states_number_lem (at + 3 * p) (omega arith)) ∙ states_each f at n q p k)
 
-  module _ (s : Shape) (states : List ℕ) (at m : ℕ) (end : at + 5 * m ≡ c) (q : targets_from Plain false s states f at ≡ Records m) where
-    targets_same : targets_from Plain true s states g at ≡ Records m
+  module _ (s : Shape) (states : List ℕ) (at m : ℕ) (end : at + 5 * m ≡ c) (q : targets_from Plain false s states f at ≡ Ok m) where
+    targets_same : targets_from Plain true s states g at ≡ Ok m
     unfolding targets_from at_end
     targets_same =
         let z : 0 + m ≡ m = omega arith in
@@ -188,11 +182,11 @@ module _ (f g : List ℕ) (c : ℕ) (same : (k : ℕ) → k < c → byte g k ≡
         (λ i l. rw (place_five at i) (unless_not g (at + 5 * i) _ (omega arith)
         ∙ ap (λ (x : ℕ). checked x (at + 5 * i)) (target_number_lem s states (at + 5 * i) (0 + i) (omega arith)) ∙ target_checked s states f at m q i l))
         (rw (place_five at m, le-leb (length g) (at + 5 * m) (omega arith), le-leb 1 (0 + m) (omega (arith, targets_least Plain s states f at false m q))))
-        ∙ ap Records z
+        ∙ ap Ok z
 
-  module _ (s : Shape) (states : List ℕ) (at n m : ℕ) (end : at + 8 * n + 5 * m ≡ c) (r : transitions_from Plain s states f at ≡ Records n)
-      (q : targets_from Plain false s states f (at + 8 * n) ≡ Records m) where
-    transition_checked : (i : ℕ) → i < n → checked (transition_number Plain s states f (at + 8 * i) (0 + i)) (at + 8 * i) ≡ Fine
+  module _ (s : Shape) (states : List ℕ) (at n m : ℕ) (end : at + 8 * n + 5 * m ≡ c) (r : transitions_from Plain s states f at ≡ Ok n)
+      (q : targets_from Plain false s states f (at + 8 * n) ≡ Ok m) where
+    transition_checked : (i : ℕ) → i < n → checked (transition_number Plain s states f (at + 8 * i) (0 + i)) (at + 8 * i) ≡ Ok tt
     unfolding transitions_from
     transition_checked i l =
         let e = row_each (λ k n. not (is_kind f k 3)) (λ k n. checked (transition_number Plain s states f k n) k) (λ k. 8) 256 at 0 n r i (omega arith) in
@@ -207,7 +201,7 @@ module _ (f g : List ℕ) (c : ℕ) (same : (k : ℕ) → k < c → byte g k ≡
         let k = (target_fine f (at + 8 * n) Plain s states (0 + 0) d).allowed in
         ap not (kind_same (at + 8 * n) 3 (omega arith) ∙ four_three f (at + 8 * n) (not-false _ k))
 
-    transitions_same : transitions_from Plain s states g at ≡ Records n
+    transitions_same : transitions_from Plain s states g at ≡ Ok n
     unfolding transitions_from
     transitions_same =
         let some = targets_least Plain s states f (at + 8 * n) false m q in
@@ -217,18 +211,18 @@ module _ (f g : List ℕ) (c : ℕ) (same : (k : ℕ) → k < c → byte g k ≡
         (λ i l. rw (place_eight at i)
         (ap (λ (x : ℕ). checked x (at + 8 * i)) (transition_number_lem s states (at + 8 * i) (0 + i) (omega arith)) ∙ transition_checked i l))
         (rw (place_eight at n) row_shut)
-        ∙ ap Records z
+        ∙ ap Ok z
 
-    rows_same : (initial : List ℕ) → rows_from Plain true g at s states initial ≡ fine_with s states initial at n m
+    rows_same : (initial : List ℕ) → rows_from Plain true g at s states initial ≡ Ok (fine_with s states initial at n m)
     unfolding rows_from
     rows_same initial = rw (transitions_same, targets_same s states (at + 8 * n) m end q)
 
   -- ---- the whole part
 
-  rest_same : (s : Shape) (at n m : ℕ) → at + 3 * s.processes + 8 * n + 5 * m ≡ c → states_from f at s.processes ≡ Fine
-      → transitions_from Plain s (of_processes f at 1 s.processes) f (at + 3 * s.processes) ≡ Records n
-      → targets_from Plain false s (of_processes f at 1 s.processes) f (at + 3 * s.processes + 8 * n) ≡ Records m
-      → rest_from Plain true g at s ≡ fine_with s (of_processes f at 1 s.processes) (of_processes f at 2 s.processes) (at + 3 * s.processes) n m
+  rest_same : (s : Shape) (at n m : ℕ) → at + 3 * s.processes + 8 * n + 5 * m ≡ c → states_from f at s.processes ≡ Ok tt
+      → transitions_from Plain s (of_processes f at 1 s.processes) f (at + 3 * s.processes) ≡ Ok n
+      → targets_from Plain false s (of_processes f at 1 s.processes) f (at + 3 * s.processes + 8 * n) ≡ Ok m
+      → rest_from Plain true g at s ≡ Ok (fine_with s (of_processes f at 1 s.processes) (of_processes f at 2 s.processes) (at + 3 * s.processes) n m)
   unfolding rest_from
   rest_same s at n m end d r q =
       let l : at + 3 * s.processes ≤ c = omega arith in
@@ -241,16 +235,16 @@ module _ (f g : List ℕ) (c : ℕ) (same : (k : ℕ) → k < c → byte g k ≡
     s = shape_at f at
 
     part_same : program_from true g at
-        ≡ fine_with s (of_processes f (at + 7) 1 s.processes) (of_processes f (at + 7) 2 s.processes) (at + 7 + 3 * s.processes) F.transitions F.targets
+        ≡ Ok (fine_with s (of_processes f (at + 7) 1 s.processes) (of_processes f (at + 7) 2 s.processes) (at + 7 + 3 * s.processes) F.transitions F.targets)
     unfolding program_with
     part_same =
         let k = shape_number_lem at (omega arith) in
-        let a : unless_end g at (checked (shape_number Plain g at) at) ≡ Fine =
+        let a : unless_end g at (checked (shape_number Plain g at) at) ≡ Ok tt =
         unless_not g at _ (omega arith) ∙ ap (λ (x : ℕ). checked x at) k.1 ∙ (unless_fine f at _ F.shape).1 in
         rw a (ap (rest_from Plain true g (at + 7)) k.0 ∙ rest_same s (at + 7) F.transitions F.targets end F.states F.rows F.aims)
 
     abbrev p : Program
-    p = (fine_with s (of_processes f (at + 7) 1 s.processes) (of_processes f (at + 7) 2 s.processes) (at + 7 + 3 * s.processes) F.transitions F.targets).program
+    p = fine_with s (of_processes f (at + 7) 1 s.processes) (of_processes f (at + 7) 2 s.processes) (at + 7 + 3 * s.processes) F.transitions F.targets
 
     transitions_again : program_of g p ≡ program_of f p
     transitions_again =
@@ -264,13 +258,13 @@ module _ (f g : List ℕ) (c : ℕ) (same : (k : ℕ) → k < c → byte g k ≡
         table_same (λ i. state_at g (p.targets.at + 5 * i)) (λ i. state_at f (p.targets.at + 5 * i)) F.targets (λ q. 0)
         (λ k l. state_same (p.targets.at + 5 * (0 + k)) (omega arith))
 
-  pub program_cut : (program_from false f 0).answer ≡ Fine → (program_from false f 0).program.claim ≡ c → CutProgram f g
+  pub program_cut : whether (program_from false f 0) ≡ Ok tt → (program_read (program_from false f 0)).claim ≡ c → CutProgram f g
   program_cut q place =
       let F = program_fine Plain false f 0 q in
       let end : 0 + 7 + 3 * (shape_at f 0).processes + 8 * F.transitions + 5 * F.targets ≡ c = sym (ap (λ (p : Program). p.claim) F.same) ∙ place in
       record {
-        fine = ap (λ (r : ProgramRead). r.answer) (part_same 0 F end);
-        same = ap (λ (r : ProgramRead). r.program) (part_same 0 F end) ∙ sym F.same;
+        fine = ap (λ (r : Result Program Refusal). whether r) (part_same 0 F end);
+        same = ap (λ (r : Result Program Refusal). program_read r) (part_same 0 F end) ∙ sym F.same;
         program = subst (λ (p : Program). program_of g p ≡ program_of f p) (sym F.same) (transitions_again 0 F end);
         targets = subst (λ (p : Program). targets_of g p ≡ targets_of f p) (sym F.same) (targets_again 0 F end);
       }

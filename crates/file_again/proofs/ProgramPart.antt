@@ -1,4 +1,5 @@
 -- The program and the targets of a file that was read.
+use Rattle.std.specs.Prelude.{Ok}
 use Prim.Native.Nat.{ℕ, ◌+◌, ◌*◌, ◌<◌, ◌≤◌}
 use mathlib.Core.Path.{◌≡◌, refl, sym, ap, subst, ◌∙◌}
 use mathlib.Core.Logic.{⊎_elim}
@@ -16,12 +17,10 @@ use Rattle.file_records.specs.declared.program.Format.{Format}
 use Rattle.file_records.specs.declared.program.Format.TheVariants.{Plain}
 use Rattle.file_records.specs.declared.program.Shape.{Shape}
 use Rattle.file_records.specs.declared.program.Program.{Program}
-use Rattle.file_records.specs.declared.program.Checked.TheVariants.{Fine}
-use Rattle.file_records.specs.declared.program.Counted.TheVariants.{Records}
 use Rattle.base.specs.Bytes.{byte}
 use Rattle.file_records.specs.Format.{transition_kind, least_values, most_targets}
 use Rattle.file_records.specs.Records.{checked, in_range, is_kind, shape_at, value_count, count_in_range, counts_in_range, count_if_absent, counts_if_absent, shape_number, transition_at, transition_number, transition_names, target_number, state_names, state_at}
-use Rattle.file_records.specs.ProgramPart.{unless_end, states_from, of_process, of_processes, at_end, transitions_from, targets_from, program_from, shape_of, program_of, targets_of}
+use Rattle.file_records.specs.ProgramPart.{unless_end, states_from, of_process, of_processes, at_end, transitions_from, targets_from, program_from, shape_of, program_of, targets_of, whether, program_read}
 use Rattle.file_records.proofs.RecordLaws.{good, unless_fine, states_fine, transition_fine, target_fine}
 use Rattle.file_records.proofs.ProgramLaws.{and_true, some_target_lem, transitions_most, targets_most}
 use Rattle.file_contents.proofs.ReadingLaws.{ProgramFine, program_fine}
@@ -65,7 +64,7 @@ module _ (k : Format) (s : Shape) where
       let c = and_true (count_if_absent s 2) (count_if_absent s 3) b.1 in
       of_four (λ (v : ℕ). count_if_absent s v ≡ true) a.0 b.0 c.0 c.1
 
-pub shape_in : (k : Format) (f : List ℕ) (at : ℕ) → unless_end f at (checked (shape_number k f at) at) ≡ Fine → ShapeRange k (shape_at f at)
+pub shape_in : (k : Format) (f : List ℕ) (at : ℕ) → unless_end f at (checked (shape_number k f at) at) ≡ Ok tt → ShapeRange k (shape_at f at)
 unfolding shape_number
 shape_in k f at e =
     let g = good at (unless_fine f at _ e).1 in
@@ -96,7 +95,7 @@ pub of_process_lem : (f : List ℕ) (at k n p : ℕ) → p < n → n ≤ 4 → g
 of_process_lem f at k n p l few =
     of_four (λ (p : ℕ). get_or (of_processes f at k n) p 0 ≡ of_process f at k n p) refl refl refl refl p (omega arith) ∙ rw (lt-ltb p n l)
 
-module _ (f : List ℕ) (at n : ℕ) (few : n ≤ 4) (q : states_from f at n ≡ Fine) (p : ℕ) (l : p < n) where
+module _ (f : List ℕ) (at n : ℕ) (few : n ≤ 4) (q : states_from f at n ≡ Ok tt) (p : ℕ) (l : p < n) where
   numbers : (in_range (byte f (at + 3 * p + 1)) 32 ≡ true) × (byte f (at + 3 * p + 2) < byte f (at + 3 * p + 1))
   numbers =
       let g = states_fine f (at + 3 * p) (states_each f at n q p l) in
@@ -114,21 +113,21 @@ module _ (f : List ℕ) (at n : ℕ) (few : n ≤ 4) (q : states_from f at n ≡
 -- ---- transitions and targets
 
 module _ (k : Format) (s : Shape) (states : List ℕ) (f : List ℕ) (at : ℕ) where
-  pub transition_named : (n i : ℕ) → transitions_from k s states f at ≡ Records n → i < n → transition_names k s states f (at + 8 * i) ≡ true
+  pub transition_named : (n i : ℕ) → transitions_from k s states f at ≡ Ok n → i < n → transition_names k s states f (at + 8 * i) ≡ true
   unfolding transitions_from
   transition_named n i q l =
       let e = row_each (λ j n. not (is_kind f j (transition_kind k))) (λ j n. checked (transition_number k s states f j n) j) (λ j. 8) 256 at 0 n q i (omega arith) in
       let a = transition_fine f (at + 8 * i) k s states (0 + i) (rw (place_eight at i) at e) in
       not-false _ a.names
 
-  pub target_named : (alone : Bool) (n i : ℕ) → targets_from k alone s states f at ≡ Records n → i < n → state_names s states f (at + 5 * i) ≡ true
+  pub target_named : (alone : Bool) (n i : ℕ) → targets_from k alone s states f at ≡ Ok n → i < n → state_names s states f (at + 5 * i) ≡ true
   unfolding targets_from
   target_named alone n i q l =
       let e = row_each (at_end alone f) (λ j n. unless_end f j (checked (target_number k s states f j n) j)) (λ j. 5) (most_targets k) at 0 n q i (omega arith) in
       let d = (unless_fine f (at + 5 * i) _ (rw (place_five at i) at e)).1 in
       not-false _ (target_fine f (at + 5 * i) k s states (0 + i) d).names
 
-  pub targets_least : (alone : Bool) (n : ℕ) → targets_from k alone s states f at ≡ Records n → 1 ≤ n
+  pub targets_least : (alone : Bool) (n : ℕ) → targets_from k alone s states f at ≡ Ok n → 1 ≤ n
   unfolding targets_from at_end
   targets_least alone n q =
       ⊎_elim (λ e. leb-true 1 n (and_true (cond alone (leb (length f) e.0) (is_kind f e.0 15)) (leb 1 n) e.1).1) (λ e. omega (arith, some_target_lem k))
@@ -230,23 +229,23 @@ module _ (alone : Bool) (f : List ℕ) (at : ℕ) (F : ProgramFine Plain alone f
         claim = omega (arith, near);
       }
 
-module _ (alone : Bool) (f : List ℕ) (at : ℕ) (q : (program_from alone f at).answer ≡ Fine) where
+module _ (alone : Bool) (f : List ℕ) (at : ℕ) (q : whether (program_from alone f at) ≡ Ok tt) where
   F : ProgramFine Plain alone f at
   F = program_fine Plain alone f at q
 
-  pub part_read : ProgramPartRead (program_of f (program_from alone f at).program) (targets_of f (program_from alone f at).program)
+  pub part_read : ProgramPartRead (program_of f (program_read (program_from alone f at))) (targets_of f (program_read (program_from alone f at)))
   part_read = subst (λ (p : Program). ProgramPartRead (program_of f p) (targets_of f p)) (sym F.same) (whole_part alone f at F)
 
-  pub part_shape : ShapeRange Plain (program_from alone f at).program.shape
+  pub part_shape : ShapeRange Plain (program_read (program_from alone f at)).shape
   part_shape = subst (λ (p : Program). ShapeRange Plain p.shape) (sym F.same) (shape_in Plain f at F.shape)
 
   -- the four counts of the 01 are those of the program
-  pub part_counts : CountsOf (program_of f (program_from alone f at).program).shape (shape_at f at).values
+  pub part_counts : CountsOf (program_of f (program_read (program_from alone f at))).shape (shape_at f at).values
   part_counts = subst (λ (p : Program). CountsOf (program_of f p).shape (shape_at f at).values) (sym F.same) (shape_counts f at (shape_in Plain f at F.shape))
 
-  pub part_sizes : ◌≡◌ {A = ℕ} at 0 → ProgramSizes (program_from alone f at).program
+  pub part_sizes : ◌≡◌ {A = ℕ} at 0 → ProgramSizes (program_read (program_from alone f at))
   part_sizes z = subst ProgramSizes (sym F.same) (whole_sizes alone f at F z)
 
   -- the claim stands near the beginning
-  pub claim_near : (program_from alone f at).program.claim ≤ at + 22547
+  pub claim_near : (program_read (program_from alone f at)).claim ≤ at + 22547
   claim_near = subst (λ (p : Program). p.claim ≤ at + 22547) (sym F.same) (near alone f at F)

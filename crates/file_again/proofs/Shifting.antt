@@ -1,4 +1,5 @@
 -- The evidence part of a file that has c bytes before it, and of the file without them: the same is read, with places moved by c.
+use Rattle.std.specs.Prelude.{Result, Ok, Err, ⊤}
 use Prim.Native.Nat.{ℕ, zero, suc, ◌+◌, ◌-◌, ◌<◌, ◌≤◌}
 use mathlib.Core.Path.{◌≡◌, refl, sym, ap, ap₂, ◌∙◌}
 use mathlib.Core.Bool.{Bool, true, false, cond}
@@ -11,13 +12,9 @@ use borrow.Author.Tests.{le-leb, lt-leb}
 use Rattle.machine_pws.specs.Machine.{Configuration}
 use Rattle.file_records.specs.declared.program.Shape.{Shape}
 use Rattle.file_records.specs.declared.program.Refusal.{Refusal}
-use Rattle.file_records.specs.declared.program.Checked.{Checked}
-use Rattle.file_records.specs.declared.program.Checked.TheVariants.{Fine, Refused}
-use Rattle.file_records.specs.declared.program.Counted.{Counted}
-use Rattle.file_records.specs.declared.program.Counted.TheVariants.{Records, Stopped}
 use Rattle.base.specs.Bytes.{choose, byte, cut}
 use Rattle.file_records.specs.Records.{checked, is_kind, claim_number, start_names, start_number, memory_at, step_body, step_names, step_number, step_at, state_names, state_at, pointer_names, pointer_at, entry_number, value_names, message_names, message_number, waiting_names, waiting_number}
-use Rattle.file_records.specs.ProgramPart.{unless_end, count_then, row_from}
+use Rattle.file_records.specs.ProgramPart.{unless_end, row_from, and_then}
 use Rattle.file_contents.specs.EvidencePart.{steps_from, steps_of, beginning, extended, body_size, body_number, complete, EntryRead, whole, bad, at_boundary, finished, body_then, entry_from, entry_read, EntriesRead, head_then, entry_then, entries_from}
 
 -- ---- places moved by c
@@ -25,13 +22,13 @@ use Rattle.file_contents.specs.EvidencePart.{steps_from, steps_of, beginning, ex
 abbrev pub moved_by : ℕ → Refusal → Refusal
 moved_by c r = record { number = r.number; place = c + r.place }
 
-abbrev pub moved_check : ℕ → Checked → Checked
-moved_check c Fine = Fine
-moved_check c (Refused r) = Refused (moved_by c r)
+abbrev pub moved_check : ℕ → Result ⊤ Refusal → Result ⊤ Refusal
+moved_check c (Ok _) = Ok tt
+moved_check c (Err r) = Err (moved_by c r)
 
-abbrev pub moved_count : ℕ → Counted → Counted
-moved_count c (Records n) = Records n
-moved_count c (Stopped r) = Stopped (moved_by c r)
+abbrev pub moved_count : ℕ → Result ℕ Refusal → Result ℕ Refusal
+moved_count c (Ok n) = Ok n
+moved_count c (Err r) = Err (moved_by c r)
 
 abbrev moved_entry : ℕ → EntryRead → EntryRead
 moved_entry c (whole e next) = whole e (c + next)
@@ -46,24 +43,24 @@ checked_moved : (c n at : ℕ) → checked n (c + at) ≡ moved_check c (checked
 unfolding checked
 checked_moved c n at = go (eqb n 0)
   where
-    go : (b : Bool) → cond b Fine (Refused (record { number = n; place = c + at })) ≡ moved_check c (cond b Fine (Refused (record { number = n; place = at })))
+    go : (b : Bool) → cond b (Ok tt) (Err (record { number = n; place = c + at })) ≡ moved_check c (cond b (Ok tt) (Err (record { number = n; place = at })))
     go true = refl
     go false = refl
 
 -- ---- records in a row
 
-count_moved : (c n : ℕ) (x y : Counted) → x ≡ moved_count c y → (b : Bool) (k : Checked)
-    → choose b (λ _. Records n) (λ _. count_then (moved_check c k) (λ _. x)) ≡ moved_count c (choose b (λ _. Records n) (λ _. count_then k (λ _. y)))
+count_moved : (c n : ℕ) (x y : Result ℕ Refusal) → x ≡ moved_count c y → (b : Bool) (k : Result ⊤ Refusal)
+    → choose b (λ _. Ok n) (λ _. and_then (moved_check c k) (λ _. x)) ≡ moved_count c (choose b (λ _. Ok n) (λ _. and_then k (λ _. y)))
 count_moved c n x y e true k = refl
-count_moved c n x y e false Fine = e
-count_moved c n x y e false (Refused r) = refl
+count_moved c n x y e false (Ok _) = e
+count_moved c n x y e false (Err r) = refl
 
-module _ (c : ℕ) (ends ends' : ℕ → ℕ → Bool) (check check' : ℕ → ℕ → Checked) (size size' : ℕ → ℕ)
+module _ (c : ℕ) (ends ends' : ℕ → ℕ → Bool) (check check' : ℕ → ℕ → Result ⊤ Refusal) (size size' : ℕ → ℕ)
     (sameEnds : (at n : ℕ) → ends (c + at) n ≡ ends' at n) (sameCheck : (at n : ℕ) → check (c + at) n ≡ moved_check c (check' at n))
     (sameSize : (at : ℕ) → size (c + at) ≡ size' at) where
   row_moved : (left at n : ℕ) → row_from ends check size left (c + at) n ≡ moved_count c (row_from ends' check' size' left at n)
   unfolding row_from
-  row_moved zero at n = rw (sameEnds at n, sameCheck at n) (count_moved c n (Records n) (Records n) refl (ends' at n) (check' at n))
+  row_moved zero at n = rw (sameEnds at n, sameCheck at n) (count_moved c n (Ok n) (Ok n) refl (ends' at n) (check' at n))
   row_moved (suc left) at n =
       let a : c + at + size (c + at) ≡ c + (at + size' at) = omega (arith, sameSize at) in
       rw (sameEnds at n, sameCheck at n)
@@ -86,11 +83,11 @@ finished_moved c s start at e = go (complete s (length e.memory.channel) e.memor
     go true = refl
     go false = refl
 
-body_moved : (c : ℕ) (x y u v : EntryRead) → x ≡ moved_entry c y → u ≡ moved_entry c v → (b : Bool) (k : Checked)
+body_moved : (c : ℕ) (x y u v : EntryRead) → x ≡ moved_entry c y → u ≡ moved_entry c v → (b : Bool) (k : Result ⊤ Refusal)
     → choose b (λ _. x) (λ _. body_then (moved_check c k) (λ _. u)) ≡ moved_entry c (choose b (λ _. y) (λ _. body_then k (λ _. v)))
 body_moved c x y u v d e true k = d
-body_moved c x y u v d e false Fine = e
-body_moved c x y u v d e false (Refused r) = refl
+body_moved c x y u v d e false (Ok _) = e
+body_moved c x y u v d e false (Err r) = refl
 
 size_least : (f : List ℕ) (at : ℕ) → 1 ≤ body_size f at
 unfolding body_size
@@ -105,13 +102,13 @@ size_least f at = go (is_kind f at 17)
 -- os and es were read already
 module _ (c : ℕ) (os os' : List ℕ) (es : List Configuration) where
   abbrev read_so_far : List ℕ → EntriesRead
-  read_so_far l = record { offsets = l; entries = es; answer = Fine }
+  read_so_far l = record { offsets = l; entries = es; answer = Ok tt }
 
-  entries_then : (x y : EntriesRead) → MovedEntries c x y → (b : Bool) (k : Checked)
+  entries_then : (x y : EntriesRead) → MovedEntries c x y → (b : Bool) (k : Result ⊤ Refusal)
       → MovedEntries c (choose b (λ _. read_so_far os) (λ _. head_then (moved_check c k) os es (λ _. x))) (choose b (λ _. read_so_far os') (λ _. head_then k os' es (λ _. y)))
   entries_then x y m true k = record { entries = refl; answer = refl }
-  entries_then x y m false Fine = m
-  entries_then x y m false (Refused r) = record { entries = refl; answer = refl }
+  entries_then x y m false (Ok _) = m
+  entries_then x y m false (Err r) = record { entries = refl; answer = refl }
 
   entry_then_lem : (g g' : Configuration → ℕ → EntriesRead) → ((e : Configuration) (next : ℕ) → MovedEntries c (g e (c + next)) (g' e next))
       → (y : EntryRead) → MovedEntries c (entry_then (moved_entry c y) os es g) (entry_then y os' es g')
@@ -138,11 +135,11 @@ module _ (f h : List ℕ) (c : ℕ) (same : (k : ℕ) → byte f (c + k) ≡ byt
     | no l ↦ let m : c + at < length f = omega arith in lt-leb (length f) (c + at) m ∙ sym (lt-leb (length h) at (omega arith))
   ]
 
-  unless_moved : (at : ℕ) (x : Checked) → unless_end f (c + at) (moved_check c x) ≡ moved_check c (unless_end h at x)
+  unless_moved : (at : ℕ) (x : Result ⊤ Refusal) → unless_end f (c + at) (moved_check c x) ≡ moved_check c (unless_end h at x)
   unfolding unless_end
   unless_moved at x = rw (past at, long) (go (leb (length h) at))
     where
-      go : (b : Bool) → cond b (Refused (record { number = 6; place = c + length h })) (moved_check c x) ≡ moved_check c (cond b (Refused (record { number = 6; place = length h })) x)
+      go : (b : Bool) → cond b (Err (record { number = 6; place = c + length h })) (moved_check c x) ≡ moved_check c (cond b (Err (record { number = 6; place = length h })) x)
       go true = refl
       go false = refl
 
@@ -263,7 +260,7 @@ module _ (f h : List ℕ) (c : ℕ) (same : (k : ℕ) → byte f (c + k) ≡ byt
   unfolding entries_from
   entries_moved s states zero at os os' es =
       rw (past at, head_moved s states at true)
-      (entries_then c os os' es (record { offsets = os; entries = es; answer = Fine }) (record { offsets = os'; entries = es; answer = Fine })
+      (entries_then c os os' es (record { offsets = os; entries = es; answer = Ok tt }) (record { offsets = os'; entries = es; answer = Ok tt })
       (record { entries = refl; answer = refl }) (leb (length h) at) (checked (entry_number s states h at true) at))
   entries_moved s states (suc left) at os os' es =
       rw (past at, head_moved s states at false, entry_moved s at)

@@ -5,10 +5,11 @@
 ghost use Rattle.std.specs.Prelude.{◌≡◌, ℕ, ◌+◌, ◌*◌, ◌≤◌, ◌<◌, min, length, get_or, eqb};
 ghost use Rattle.file_again.specs.Again.{offset_at, cube_at, place_in, transition_of, target_of};
 
-use base::bytes::{cut, field, number_at, wide};
+use base::arrays::at_or;
+use base::bytes::{cut, field, four_at, number_at};
 use base::places::word_place;
 use file_contents::entry::{Cube, load_entry};
-use file_records::program::{Program, of_four};
+use file_records::program::Program;
 use file_records::record::transition_at;
 use machine_pws::Transition;
 
@@ -76,11 +77,11 @@ pub fn leads_to(file: &[u8], program: Program, i: usize, states: [u8; 4]) -> boo
     if i < 65536 {
         if !cut(file, row.at, 8 * i + 7) {
             let at = row.at + 8 * i;
-            return of_four(states, wide(file[at + 1])) == file[at + 7];
+            return at_or(states, usize::from(file[at + 1]), 0) == file[at + 7];
         }
     }
     let at = transition_place(file, row.at, i);
-    of_four(states, wide(field(file, at, 1))) == field(file, at, 7)
+    at_or(states, usize::from(field(file, at, 1)), 0) == field(file, at, 7)
 }
 
 // The states of target k.
@@ -89,10 +90,5 @@ pub fn target_of(file: &[u8], program: Program, k: usize) -> [u8; 4]
 {
     let row = program.targets;
     let at = target_place(file, row.at, k);
-    [
-        field(file, at, 1),
-        field(file, at, 2),
-        field(file, at, 3),
-        field(file, at, 4),
-    ]
+    four_at(file, at, 1)
 }

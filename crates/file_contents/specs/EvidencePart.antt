@@ -1,14 +1,10 @@
 -- The evidence part of a file, from a place in it on: one 0F; then entries (claim 0) or steps (claims 1 and 2) to the file's end (document 01,
 -- "Records" and the refusal table).
-use Rattle.std.specs.Prelude.{ℕ, zero, suc, ◌+◌, ◌*◌, ◌-◌, ◌/◌, min, Bool, true, false, cond, ◌&&◌, ◌||◌, not, List, [], ◌∷◌, ◌++◌, length, get_or, eqb, leb, ltb}
+use Rattle.std.specs.Prelude.{ℕ, zero, suc, ◌+◌, ◌*◌, ◌-◌, ◌/◌, min, Bool, true, false, cond, ◌&&◌, ◌||◌, not, List, [], ◌∷◌, ◌++◌, length, get_or, eqb, leb, ltb, Result, Ok, Err, ⊤}
 use Rattle.machine_pws.specs.declared.Step.{Step}
 use Rattle.machine_pws.specs.Machine.{Configuration, put_queue}
 use Rattle.file_records.specs.declared.program.Shape.{Shape}
 use Rattle.file_records.specs.declared.program.Refusal.{Refusal}
-use Rattle.file_records.specs.declared.program.Checked.{Checked}
-use Rattle.file_records.specs.declared.program.Checked.TheVariants.{Fine, Refused}
-use Rattle.file_records.specs.declared.program.Counted.{Counted}
-use Rattle.file_records.specs.declared.program.Counted.TheVariants.{Records, Stopped}
 use Rattle.base.specs.Bytes.{choose, byte, put32}
 use Rattle.file_records.specs.Records.{
   checked,
@@ -27,7 +23,7 @@ use Rattle.file_records.specs.ProgramPart.{row_from}
 
 -- ---- steps
 
-unfoldable pub steps_from : Shape → ℕ → List ℕ → ℕ → Counted
+unfoldable pub steps_from : Shape → ℕ → List ℕ → ℕ → Result ℕ Refusal
 steps_from s transitions f at =
     row_from (λ k n. leb (length f) k) (λ k n. checked (step_number s transitions f k n) k) (λ k. 1 + step_body f k) 1024 at 0
 
@@ -98,9 +94,9 @@ unfoldable pub finished : Shape → ℕ → ℕ → Configuration → EntryRead
 finished s start at e =
     cond (complete s (length e.memory.channel) e.memory.pointer) (whole e at) (bad (record { number = 7; place = start }))
 
-abbrev pub body_then : Checked → (Unit {0} → EntryRead) → EntryRead
-body_then Fine x = x tt
-body_then (Refused r) x = bad r
+abbrev pub body_then : Result ⊤ Refusal → (Unit {0} → EntryRead) → EntryRead
+body_then (Ok _) x = x tt
+body_then (Err r) x = bad r
 
 -- the records of the entry whose 10 stands at `start`, from `at` on; e is what was read of it. `bytes` are left at the most.
 unfoldable pub entry_from : ℕ → Shape → List ℕ → ℕ → ℕ → Configuration → EntryRead
@@ -118,14 +114,14 @@ entry_read s f start = entry_from (length f) s f start (start + 9) (beginning f 
 pub record EntriesRead : Type 0 where
   pub offsets : List ℕ
   pub entries : List Configuration
-  pub answer : Checked
+  pub answer : Result ⊤ Refusal
 
 abbrev pub stop_at : List ℕ → List Configuration → Refusal → EntriesRead
-stop_at offsets es r = record { offsets = offsets; entries = es; answer = Refused r }
+stop_at offsets es r = record { offsets = offsets; entries = es; answer = Err r }
 
-abbrev pub head_then : Checked → List ℕ → List Configuration → (Unit {0} → EntriesRead) → EntriesRead
-head_then Fine offsets es x = x tt
-head_then (Refused r) offsets es x = stop_at offsets es r
+abbrev pub head_then : Result ⊤ Refusal → List ℕ → List Configuration → (Unit {0} → EntriesRead) → EntriesRead
+head_then (Ok _) offsets es x = x tt
+head_then (Err r) offsets es x = stop_at offsets es r
 
 abbrev pub entry_then : EntryRead → List ℕ → List Configuration → (Configuration → ℕ → EntriesRead) → EntriesRead
 entry_then (whole e next) offsets es x = x e next
@@ -134,10 +130,10 @@ entry_then (bad r) offsets es x = stop_at offsets es r
 -- from `at` on, after those read already; `left` more are allowed
 unfoldable pub entries_from : ℕ → Shape → List ℕ → List ℕ → ℕ → List ℕ → List Configuration → EntriesRead
 entries_from zero s states f at offsets es =
-    choose (leb (length f) at) (λ _. record { offsets = offsets; entries = es; answer = Fine })
-    (λ _. head_then (checked (entry_number s states f at true) at) offsets es (λ _. record { offsets = offsets; entries = es; answer = Fine }))
+    choose (leb (length f) at) (λ _. record { offsets = offsets; entries = es; answer = Ok tt })
+    (λ _. head_then (checked (entry_number s states f at true) at) offsets es (λ _. record { offsets = offsets; entries = es; answer = Ok tt }))
 entries_from (suc left) s states f at offsets es =
-    choose (leb (length f) at) (λ _. record { offsets = offsets; entries = es; answer = Fine })
+    choose (leb (length f) at) (λ _. record { offsets = offsets; entries = es; answer = Ok tt })
     (λ _. head_then (checked (entry_number s states f at false) at) offsets es (λ _.
     entry_then (entry_read s f at) offsets es (λ e next. entries_from left s states f next (offsets ++ (at ∷ [])) (es ++ (e ∷ [])))))
 

@@ -1,22 +1,18 @@
 -- The reading of what is judged: its contents, or a refusal's number and place (document 01, "Records" and the refusal table). Number 8 is tested
 -- before all; then the program part is read through, then the evidence part.
-use Rattle.std.specs.Prelude.{ℕ, zero, suc, ◌+◌, ◌*◌, Bool, true, false, cond, List, [], ◌∷◌, ◌++◌, length, take, drop, eqb, ltb}
+use Rattle.std.specs.Prelude.{ℕ, zero, suc, ◌+◌, ◌*◌, Bool, true, false, cond, List, [], ◌∷◌, ◌++◌, length, take, drop, eqb, ltb, Result, Ok, Err, ⊤}
 use Rattle.machine_pws.specs.Program as pws
 use Rattle.machine_pws.specs.Machine.{Configuration}
 use Rattle.machine_pws.specs.declared.Step.{Step}
 use Rattle.file_records.specs.declared.program.Refusal.{Refusal}
-use Rattle.file_records.specs.declared.program.Checked.{Checked}
-use Rattle.file_records.specs.declared.program.Checked.TheVariants.{Fine, Refused}
-use Rattle.file_records.specs.declared.program.Counted.{Counted}
-use Rattle.file_records.specs.declared.program.Counted.TheVariants.{Records, Stopped}
 use Rattle.file_records.specs.declared.program.Program.{Program}
-use Rattle.file_records.specs.declared.program.ProgramRead.{ProgramRead}
 use Rattle.file_contents.specs.declared.evidence.Part.{Part}
 use Rattle.file_contents.specs.declared.evidence.Part.TheVariants.{InProgram, InEvidence}
-use Rattle.file_contents.specs.declared.evidence.Reading.{Reading}
+use Rattle.file_contents.specs.declared.evidence.Contents.{Contents}
+use Rattle.file_contents.specs.declared.evidence.Unread.{Unread}
 use Rattle.base.specs.Bytes.{choose, byte}
 use Rattle.file_records.specs.Records.{checked, claim_number, start_number, memory_at}
-use Rattle.file_records.specs.ProgramPart.{unless_end, no_program, program_from, program_of, targets_of}
+use Rattle.file_records.specs.ProgramPart.{unless_end, program_from, program_of, targets_of}
 use Rattle.file_contents.specs.EvidencePart.{steps_from, steps_of, EntriesRead, entries_from, entries_allowed, wrote_from}
 use Rattle.file_contents.specs.Tally.{count_of}
 
@@ -50,11 +46,11 @@ pub data Evidence : Type 0 where
   refusal : Refusal → Evidence
   entries : EntriesRead → Evidence
   -- the claim, the memory that the run starts from, and its steps
-  steps : ℕ → List ℕ → Counted → Evidence
+  steps : ℕ → List ℕ → Result ℕ Refusal → Evidence
 
-abbrev pub claim_then : Checked → (Unit {0} → Evidence) → Evidence
-claim_then Fine x = x tt
-claim_then (Refused r) x = refusal r
+abbrev pub claim_then : Result ⊤ Refusal → (Unit {0} → Evidence) → Evidence
+claim_then (Ok _) x = x tt
+claim_then (Err r) x = refusal r
 
 -- from `at` on, a 1F and the steps (document 02, N3)
 unfoldable pub run_evidence : List ℕ → ℕ → ℕ → Program → Evidence
@@ -74,12 +70,9 @@ pub data Parts : Type 0 where
   no_parts : Refusal → Parts
   two_parts : Program → Evidence → Parts
 
-abbrev pub program_then : ProgramRead → (Program → Evidence) → Parts
-program_then r x = answered r.answer
-  where
-    answered : Checked → Parts
-    answered Fine = two_parts r.program (x r.program)
-    answered (Refused q) = no_parts q
+abbrev pub program_then : Result Program Refusal → (Program → Evidence) → Parts
+program_then (Ok p) x = two_parts p (x p)
+program_then (Err r) x = no_parts r
 
 unfoldable pub parts_of : Input → ℕ → Parts
 parts_of x area =
@@ -98,9 +91,9 @@ pub data FileRead : Type 0 where
   -- the same, of the PSO machine (document 02, N7)
   pso_run : pws.Program → List (ℕ → ℕ) → List ℕ → List Step → FileRead
 
-abbrev pub list_read : Input → Program → Checked → EntriesRead → FileRead
-list_read x p Fine r = list (program_of x.code p) (targets_of x.code p) r.entries
-list_read x p (Refused q) r = refused InEvidence q
+abbrev pub list_read : Input → Program → Result ⊤ Refusal → EntriesRead → FileRead
+list_read x p (Ok _) r = list (program_of x.code p) (targets_of x.code p) r.entries
+list_read x p (Err q) r = refused InEvidence q
 
 -- claim 1 or claim 2
 abbrev pub run_read : ℕ → pws.Program → List (ℕ → ℕ) → List ℕ → List Step → FileRead
@@ -109,9 +102,9 @@ run_read claim P ts m ss = cond (eqb claim 1) (run P ts m ss) (pso_run P ts m ss
 abbrev pub evidence_read : Input → Program → Evidence → FileRead
 evidence_read x p (refusal r) = refused InEvidence r
 evidence_read x p (entries r) = list_read x p r.answer r
-evidence_read x p (steps claim m (Records n)) =
+evidence_read x p (steps claim m (Ok n)) =
     run_read claim (program_of x.code p) (targets_of x.code p) m (steps_of x.file (evidence_at x p + 2 + 5) n)
-evidence_read x p (steps claim m (Stopped r)) = refused InEvidence r
+evidence_read x p (steps claim m (Err r)) = refused InEvidence r
 
 abbrev pub parts_read : Input → Parts → FileRead
 parts_read x (no_parts r) = refused InProgram r
@@ -127,34 +120,28 @@ read_file x area = parts_read x (parts_of x area)
 abbrev pub no_memory : List ℕ
 no_memory = 0 ∷ 0 ∷ 0 ∷ 0 ∷ []
 
-abbrev pub reading_refused : Part → Refusal → Reading
-reading_refused w r =
-    record {
-      answer = Refused r;
-      part = w;
-      contents = record { program = no_program; claim = 0; memory = no_memory; evidence = record { at = 0; count = 0 } };
-    }
+abbrev pub in_part : {A : Type 0} → Part → Result A Refusal → Result A Unread
+in_part w (Ok a) = Ok a
+in_part w (Err r) = Err (record { part = w; refusal = r })
+
+abbrev pub reading_refused : Part → Refusal → Result Contents Unread
+reading_refused w r = Err (record { part = w; refusal = r })
 
 -- a starting memory, and n records of evidence from `at` on
-abbrev pub reading_with : Program → ℕ → List ℕ → ℕ → ℕ → Reading
-reading_with p claim memory at n =
-    record {
-      answer = Fine;
-      part = InEvidence;
-      contents = record { program = p; claim = claim; memory = memory; evidence = record { at = at; count = n } };
-    }
+abbrev pub reading_with : Program → ℕ → List ℕ → ℕ → ℕ → Result Contents Unread
+reading_with p claim memory at n = Ok (record { program = p; claim = claim; memory = memory; evidence = record { at = at; count = n } })
 
-abbrev pub count_reading : Program → ℕ → List ℕ → ℕ → Counted → Reading
-count_reading p claim memory at (Records n) = reading_with p claim memory at n
-count_reading p claim memory at (Stopped r) = reading_refused InEvidence r
+abbrev pub count_reading : Program → ℕ → List ℕ → ℕ → Result ℕ Refusal → Result Contents Unread
+count_reading p claim memory at (Ok n) = reading_with p claim memory at n
+count_reading p claim memory at (Err r) = reading_refused InEvidence r
 
 -- `at` is the place of the claim
-abbrev pub evidence_reading : ℕ → Program → Evidence → Reading
+abbrev pub evidence_reading : ℕ → Program → Evidence → Result Contents Unread
 evidence_reading at p (refusal r) = reading_refused InEvidence r
 evidence_reading at p (entries r) = count_reading p 0 no_memory (at + 2) (count_of r)
 evidence_reading at p (steps claim m n) = count_reading p claim m (at + 2 + 5) n
 
-abbrev pub reading_of : Input → Parts → Reading
+abbrev pub reading_of : Input → Parts → Result Contents Unread
 reading_of x (no_parts r) = reading_refused InProgram r
 reading_of x (two_parts p e) = evidence_reading (evidence_at x p) p e
 

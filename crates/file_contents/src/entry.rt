@@ -3,7 +3,7 @@ ghost use Rattle.std.specs.Prelude.{◌≡◌, ℕ, ◌+◌, ◌*◌, ◌≤◌,
 ghost use Rattle.file_records.specs.Records.{message_at};
 ghost use Rattle.file_contents.specs.Cube.{loads_message, loads_waiting, pushed, headed, loaded, load_entry};
 
-use base::bytes::{both, byte_at, cut, field, wide};
+use base::bytes::{both, byte_at, cut, field};
 use file_records::record::is_kind;
 use machine_pws::Message;
 
@@ -59,7 +59,7 @@ fn pushed(queue: Queue, value: u8) -> Queue
     if 9 <= n {
         return queue;
     }
-    let at = wide(n);
+    let at = usize::from(n);
     let mut next = queue;
     next.values[at] = value;
     next.count = n + 1;
@@ -123,7 +123,7 @@ fn load_records(file: &[u8], at: usize, states: [u8; 4], pointers: [u8; 4]) -> C
             count += 1;
             k += 7;
         } else if loads_waiting(file, k) {
-            let q = 4 * wide(field(file, k, 1)) + wide(field(file, k, 2));
+            let q = 4 * usize::from(field(file, k, 1)) + usize::from(field(file, k, 2));
             let queue = queues[q];
             queues[q] = pushed(queue, field(file, k, 3));
             k += 4;

@@ -3,9 +3,9 @@ ghost use Rattle.std.specs.Prelude.{◌≡◌};
 ghost use Rattle.file_records.specs.Records.{checked, is_step, step_body, exists, step_names, step_number, step_at};
 ghost use Rattle.file_contents.specs.EvidencePart.{steps_from};
 
-use base::bytes::{both, cut, either, field, wide};
-use file_records::program::{Checked, Counted, Shape, refusal_of};
-use file_records::record::{answer, first_number, is_kind};
+use base::bytes::{both, cut, either, field};
+use file_records::program::{Refusal, Shape};
+use file_records::record::{checked, first_number, is_kind};
 use machine_pws::Step;
 
 fn is_step(file: &[u8], at: usize) -> bool
@@ -27,8 +27,8 @@ pub fn pair_exists(shape: Shape, process: u8, variable: u8) -> bool
     ensures { result ≡ exists shape process variable }
 {
     both(
-        wide(process) < shape.processes,
-        wide(variable) < shape.variables,
+        usize::from(process) < shape.processes,
+        usize::from(variable) < shape.variables,
     )
 }
 
@@ -37,20 +37,26 @@ fn step_names(file: &[u8], at: usize, shape: Shape, transitions: usize) -> bool
 {
     let first = field(file, at, 1);
     if is_kind(file, at, 32) {
-        return wide(first) < transitions;
+        return usize::from(first) < transitions;
     }
     if is_kind(file, at, 33) {
         return pair_exists(shape, first, field(file, at, 2));
     }
-    wide(first) < shape.processes
+    usize::from(first) < shape.processes
 }
 
 // n of them stand before it.
-fn check_step(file: &[u8], at: usize, shape: Shape, transitions: usize, n: usize) -> Checked
+fn check_step(
+    file: &[u8],
+    at: usize,
+    shape: Shape,
+    transitions: usize,
+    n: usize,
+) -> Result<(), Refusal>
     ensures { result ≡ checked (step_number shape transitions file.now at n) at }
 {
     let names = step_names(file, at, shape, transitions);
-    answer(
+    checked(
         first_number(
             !is_step(file, at),
             cut(file, at, step_body(file, at)),
@@ -66,32 +72,34 @@ fn check_step(file: &[u8], at: usize, shape: Shape, transitions: usize, n: usize
 pub fn step_at(file: &[u8], at: usize) -> Step
     ensures { result ≡ step_at file.now at }
 {
-    let first = wide(field(file, at, 1));
+    let first = usize::from(field(file, at, 1));
     if is_kind(file, at, 32) {
         return Step::Take { transition: first };
     }
     if is_kind(file, at, 33) {
         return Step::Serialise {
             process: first,
-            variable: wide(field(file, at, 2)),
+            variable: usize::from(field(file, at, 2)),
         };
     }
     Step::Update { process: first }
 }
 
 // The steps, to the file's end.
-pub fn steps_from(file: &[u8], at: usize, shape: Shape, transitions: usize) -> Counted
+pub fn steps_from(
+    file: &[u8],
+    at: usize,
+    shape: Shape,
+    transitions: usize,
+) -> Result<usize, Refusal>
     ensures { result ≡ steps_from shape transitions file.now at }
 {
     let mut k = at;
     let mut n = 0;
     while k < file.len() {
-        let answer = check_step(file, k, shape, transitions, n);
-        let Checked::Fine = answer else {
-            return Counted::Stopped(refusal_of(answer));
-        };
+        check_step(file, k, shape, transitions, n)?;
         k += 1 + step_body(file, k);
         n += 1;
     }
-    Counted::Records(n)
+    Ok(n)
 }

@@ -3,12 +3,13 @@ ghost use Rattle.std.specs.Prelude.{◌≡◌, ◌&&◌, eqb, ltb};
 ghost use Rattle.file_records.specs.Records.{checked, in_range, count_in_range, counts_in_range, count_if_absent, counts_if_absent, shape_number, states_number, value_exists, all_zero, names_of, operation_names, transition_names, transition_number, state_name, state_names, target_number};
 
 use crate::program::shape_at;
-use base::bytes::{both, cut, field, wide};
+use base::arrays::at_or;
+use base::bytes::{both, cut, field};
 use file_records::program::{
-    Checked, Format, Shape, last_operation, least_values, most_targets, of_four, transition_kind,
+    Format, Refusal, Shape, last_operation, least_values, most_targets, transition_kind,
     value_count,
 };
-use file_records::record::{answer, first_number, is_kind};
+use file_records::record::{checked, first_number, is_kind};
 
 fn in_range(x: u8, most: u8) -> bool
     ensures { result ≡ in_range x most }
@@ -57,7 +58,7 @@ fn counts_if_absent(shape: Shape) -> bool
     both(a, both(b, both(c, d)))
 }
 
-pub(crate) fn check_shape(format: Format, file: &[u8], at: usize) -> Checked
+pub(crate) fn check_shape(format: Format, file: &[u8], at: usize) -> Result<(), Refusal>
     ensures { result ≡ checked (shape_number format file.now at) at }
 {
     let shape = shape_at(file, at);
@@ -67,7 +68,7 @@ pub(crate) fn check_shape(format: Format, file: &[u8], at: usize) -> Checked
     );
     let range = both(in_range(field(file, at, 1), 4), more);
     let absent = counts_if_absent(shape);
-    answer(
+    checked(
         first_number(
             !is_kind(file, at, 1),
             cut(file, at, 6),
@@ -79,12 +80,12 @@ pub(crate) fn check_shape(format: Format, file: &[u8], at: usize) -> Checked
     )
 }
 
-pub(crate) fn check_states(file: &[u8], at: usize) -> Checked
+pub(crate) fn check_states(file: &[u8], at: usize) -> Result<(), Refusal>
     ensures { result ≡ checked (states_number file.now at) at }
 {
     let count = field(file, at, 1);
     let initial = field(file, at, 2);
-    answer(
+    checked(
         first_number(
             !is_kind(file, at, 2),
             cut(file, at, 2),
@@ -99,7 +100,7 @@ pub(crate) fn check_states(file: &[u8], at: usize) -> Checked
 fn value_exists(shape: Shape, variable: u8, value: u8) -> bool
     ensures { result ≡ value_exists shape variable value }
 {
-    let v = wide(variable);
+    let v = usize::from(variable);
     both(v < shape.variables, value < value_count(shape, v))
 }
 
@@ -113,7 +114,10 @@ fn all_zero(a: u8, b: u8, c: u8) -> bool
 fn variable_only(shape: Shape, variable: u8, value: u8, new: u8) -> bool
     ensures { result ≡ (ltb variable shape.variables && (eqb value 0 && eqb new 0)) }
 {
-    both(wide(variable) < shape.variables, both(value == 0, new == 0))
+    both(
+        usize::from(variable) < shape.variables,
+        both(value == 0, new == 0),
+    )
 }
 
 // What the operation names exists, and what it lacks is 0.
@@ -154,8 +158,8 @@ fn operation_names(
 fn transition_names(format: Format, file: &[u8], at: usize, shape: Shape, states: [u8; 4]) -> bool
     ensures { result ≡ transition_names format shape states file.now at }
 {
-    let process = wide(field(file, at, 1));
-    let count = of_four(states, process);
+    let process = usize::from(field(file, at, 1));
+    let count = at_or(states, process, 0);
     let operation = operation_names(
         format,
         shape,
@@ -177,11 +181,11 @@ pub(crate) fn check_transition(
     shape: Shape,
     states: [u8; 4],
     n: usize,
-) -> Checked
+) -> Result<(), Refusal>
     ensures { result ≡ checked (transition_number format shape states file.now at n) at }
 {
     let names = transition_names(format, file, at, shape, states);
-    answer(
+    checked(
         first_number(
             !is_kind(file, at, transition_kind(format)),
             cut(file, at, 7),
@@ -197,7 +201,7 @@ pub fn state_name(shape: Shape, states: [u8; 4], p: usize, x: u8) -> bool
     ensures { result ≡ state_name shape states p x }
 {
     if p < shape.processes {
-        return x < of_four(states, p);
+        return x < at_or(states, p, 0);
     }
     x == 0
 }
@@ -221,11 +225,11 @@ pub(crate) fn check_target(
     shape: Shape,
     states: [u8; 4],
     n: usize,
-) -> Checked
+) -> Result<(), Refusal>
     ensures { result ≡ checked (target_number format shape states file.now at n) at }
 {
     let names = state_names(file, at, shape, states);
-    answer(
+    checked(
         first_number(
             !is_kind(file, at, 4),
             cut(file, at, 4),

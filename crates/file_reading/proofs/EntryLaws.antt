@@ -1,4 +1,5 @@
 -- Laws of the reading of an entry: its loop, and the counts that stand for it.
+use Rattle.std.specs.Prelude.{Ok, Err}
 use Prim.Native.Nat.{ℕ, zero, suc, ◌+◌, ◌*◌, ◌-◌, ◌<◌, ◌≤◌}
 use mathlib.Core.Path.{◌≡◌, refl, sym, ap, ap₂, ◌∙◌}
 use mathlib.Core.Logic.{◌⊎◌, inl, inr}
@@ -14,7 +15,6 @@ use Rattle.machine_pws.specs.Machine.{Configuration}
 use Rattle.machine_pws.proofs.Facts.{put_queue_same, put_queue_other}
 use Rattle.file_records.specs.declared.program.Shape.{Shape}
 use Rattle.file_records.specs.declared.program.Refusal.{Refusal}
-use Rattle.file_records.specs.declared.program.Checked.TheVariants.{Fine, Refused}
 use Rattle.file_reading.specs.declared.list.Tally.{Tally}
 use Rattle.base.specs.Bytes.{byte, cut}
 use Rattle.file_records.specs.Records.{checked, is_kind, exists, pointer_at, message_number, message_names, waiting_number, waiting_names}
@@ -33,12 +33,12 @@ module _ (s : Shape) (f : List ℕ) (start at : ℕ) (e : Configuration) where
   entry_ends zero b = refl
   entry_ends (suc bytes) b = rw b
 
-  pub entry_next : (bytes : ℕ) → at_boundary f at ≡ false → checked (body_number s f at e) at ≡ Fine
+  pub entry_next : (bytes : ℕ) → at_boundary f at ≡ false → checked (body_number s f at e) at ≡ Ok tt
       → entry_from (suc bytes) s f start at e ≡ entry_from bytes s f start (at + body_size f at) (extended f at e)
   unfolding entry_from
   entry_next bytes b d = rw (b, d)
 
-  pub entry_stops : (bytes : ℕ) (r : Refusal) → at_boundary f at ≡ false → checked (body_number s f at e) at ≡ Refused r
+  pub entry_stops : (bytes : ℕ) (r : Refusal) → at_boundary f at ≡ false → checked (body_number s f at e) at ≡ Err r
       → entry_from (suc bytes) s f start at e ≡ bad r
   unfolding entry_from
   entry_stops bytes r b d = rw (b, d)
@@ -61,15 +61,15 @@ pub data BodyKind (s : Shape) (f : List ℕ) (at : ℕ) (e : Configuration) : Ty
       → BodyKind s f at e
 
 module _ (s : Shape) (f : List ℕ) (at : ℕ) (e : Configuration) where
-  pub body_fine : checked (body_number s f at e) at ≡ Fine → BodyKind s f at e
+  pub body_fine : checked (body_number s f at e) at ≡ Ok tt → BodyKind s f at e
   unfolding body_number message_number waiting_number checked
   body_fine d = go (is_kind f at 17) refl (is_kind f at 18) d
     where
-      two : checked 2 at ≡ Fine → ⊥
+      two : checked 2 at ≡ Ok tt → ⊥
       two q = let z : ◌≡◌ {A = ℕ} 0 1 = cc in omega arith
 
       go : (a : Bool) → is_kind f at 17 ≡ a → (b : Bool)
-          → checked (cond a (message_number s f at (length e.memory.channel)) (cond b (waiting_number s f at (length (e.queue (byte f (at + 1)) (byte f (at + 2))))) 2)) at ≡ Fine
+          → checked (cond a (message_number s f at (length e.memory.channel)) (cond b (waiting_number s f at (length (e.queue (byte f (at + 1)) (byte f (at + 2))))) 2)) at ≡ Ok tt
           → BodyKind s f at e
       go true k b q = message k (good at q)
       go false k true q = waiting k (good at q)
@@ -102,7 +102,7 @@ module _ (s : Shape) (few : s.processes ≤ 4) (small : s.variables ≤ 4) (f : 
   unfolding number_by body_number waiting_number
   number_same = rw (T.messages, waiting_same (exists s (byte f (at + 1)) (byte f (at + 2))) refl)
 
-  module _ (d : checked (body_number s f at e) at ≡ Fine) where
+  module _ (d : checked (body_number s f at e) at ≡ Ok tt) where
     -- a waiting value has a place among the sixteen counts, and its queue is not full
     spot : BodyKind s f at e → is_kind f at 17 ≡ false → (byte f (at + 1) < 4) × (byte f (at + 2) < 4) × (length (e.queue (byte f (at + 1)) (byte f (at + 2))) < 8)
     spot (message k g) q = let z : ◌≡◌ {A = ℕ} 0 1 = cc in absurd (omega arith)
@@ -167,7 +167,7 @@ size_cases f at = go (is_kind f at 17) refl
     go false d = inr (d, refl)
 
 -- a record that is fine ends in the file
-pub body_fits : (s : Shape) (f : List ℕ) (at : ℕ) (e : Configuration) → checked (body_number s f at e) at ≡ Fine → (at + body_size f at ≤ length f) × (4 ≤ body_size f at)
+pub body_fits : (s : Shape) (f : List ℕ) (at : ℕ) (e : Configuration) → checked (body_number s f at e) at ≡ Ok tt → (at + body_size f at ≤ length f) × (4 ≤ body_size f at)
 body_fits s f at e d = go (body_fine s f at e d) (size_cases f at)
   where
     go : BodyKind s f at e → ((is_kind f at 17 ≡ true) × (body_size f at ≡ 7)) ⊎ ((is_kind f at 17 ≡ false) × (body_size f at ≡ 4)) → (at + body_size f at ≤ length f) × (4 ≤ body_size f at)
@@ -220,8 +220,8 @@ module _ (s : Shape) (few : s.processes ≤ 4) (small : s.variables ≤ 4) (f : 
   some_bytes : at_boundary f k ≡ false → F.bytes ≡ suc (F.bytes - 1)
   some_bytes b = pred_of F.bytes (omega (arith, inside s f start k F.entry b, F.enough))
 
-  module _ (b : at_boundary f k ≡ false) (d : checked (number_by s f k t) k ≡ Fine) where
-    fine : checked (body_number s f k F.entry) k ≡ Fine
+  module _ (b : at_boundary f k ≡ false) (d : checked (number_by s f k t) k ≡ Ok tt) where
+    fine : checked (body_number s f k F.entry) k ≡ Ok tt
     fine = ap (λ (n : ℕ). checked n k) (sym number_is) ∙ d
 
     pub sofar_room : TallyRoom f k t
@@ -242,7 +242,7 @@ module _ (s : Shape) (few : s.processes ≤ 4) (small : s.variables ≤ 4) (f : 
           upto = sofar_fits.0;
         }
 
-  pub sofar_stops : (r : Refusal) → at_boundary f k ≡ false → checked (number_by s f k t) k ≡ Refused r → entry_read s f start ≡ bad r
+  pub sofar_stops : (r : Refusal) → at_boundary f k ≡ false → checked (number_by s f k t) k ≡ Err r → entry_read s f start ≡ bad r
   sofar_stops r b d =
       sym F.reads ∙ ap (λ (n : ℕ). entry_from n s f start k F.entry) (some_bytes b)
       ∙ entry_stops s f start k F.entry (F.bytes - 1) r b (ap (λ (n : ℕ). checked n k) (sym number_is) ∙ d)

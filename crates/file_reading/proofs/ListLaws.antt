@@ -1,4 +1,5 @@
 -- Laws of the reading of entries and of the list of their offsets.
+use Rattle.std.specs.Prelude.{Result, Ok, Err, ⊤}
 use Prim.Native.Nat.{ℕ, zero, suc, ◌+◌, ◌*◌, ◌-◌, ◌<◌, ◌≤◌}
 use mathlib.Core.Path.{◌≡◌, refl, sym, ap, ap₂, ◌∙◌}
 use mathlib.Core.Bool.{Bool, true, false, cond}
@@ -11,9 +12,6 @@ use borrow.Author.Tests.{leb-false, le-leb, lt-leb}
 use Rattle.machine_pws.specs.Machine.{Configuration}
 use Rattle.file_records.specs.declared.program.Shape.{Shape}
 use Rattle.file_records.specs.declared.program.Refusal.{Refusal}
-use Rattle.file_records.specs.declared.program.Checked.{Checked}
-use Rattle.file_records.specs.declared.program.Checked.TheVariants.{Fine, Refused}
-use Rattle.file_reading.specs.declared.list.EntryEnd.TheVariants.{Next, Bad}
 use Rattle.base.specs.Bytes.{choose, put32}
 use Rattle.file_records.specs.Records.{checked, entry_number}
 use Rattle.file_contents.specs.EvidencePart.{EntryRead, whole, bad, complete, at_boundary, finished, body_number, body_size, body_then, extended, entry_from, entry_read, stop_at, entries_from, wrote_from}
@@ -43,51 +41,51 @@ from_next zero s f start at e d next q = finish_next s start at e d next q
 from_next (suc bytes) s f start at e d next q =
     go (from_next bytes s f start (at + body_size f at) (extended f at e) d next) (at_boundary f at) (checked (body_number s f at e) at) q
   where
-    go : (entry_from bytes s f start (at + body_size f at) (extended f at e) ≡ whole d next → at + body_size f at ≤ next) → (b : Bool) (x : Checked)
+    go : (entry_from bytes s f start (at + body_size f at) (extended f at e) ≡ whole d next → at + body_size f at ≤ next) → (b : Bool) (x : Result ⊤ Refusal)
         → choose b (λ _. finished s start at e) (λ _. body_then x (λ _. entry_from bytes s f start (at + body_size f at) (extended f at e))) ≡ whole d next → at ≤ next
     go ih true x q = finish_next s start at e d next q
-    go ih false Fine q = omega (arith, ih q)
-    go ih false (Refused r) q = absurd (whole_bad q)
+    go ih false (Ok _) q = omega (arith, ih q)
+    go ih false (Err r) q = absurd (whole_bad q)
 
 pub entry_past : (s : Shape) (f : List ℕ) (start : ℕ) (e : Configuration) (next : ℕ) → entry_read s f start ≡ whole e next → start + 9 ≤ next
 unfolding entry_read
 entry_past s f start e next q = from_next (length f) s f start (start + 9) _ e next q
 
-pub end_whole : (x : EntryRead) (n : ℕ) → end_of x ≡ Next n → (e : Configuration) × (x ≡ whole e n)
+pub end_whole : (x : EntryRead) (n : ℕ) → end_of x ≡ Ok n → (e : Configuration) × (x ≡ whole e n)
 end_whole (whole e m) n q = let z : m ≡ n = cc in (e, ap (whole e) z)
 end_whole (bad r) n q = let z : ◌≡◌ {A = ℕ} 0 1 = cc in absurd (omega arith)
 
-pub end_bad : (x : EntryRead) (r : Refusal) → end_of x ≡ Bad r → x ≡ bad r
+pub end_bad : (x : EntryRead) (r : Refusal) → end_of x ≡ Err r → x ≡ bad r
 end_bad (whole e m) r q = let z : ◌≡◌ {A = ℕ} 0 1 = cc in absurd (omega arith)
 end_bad (bad t) r q = let z : t ≡ r = cc in ap bad z
 
 -- ---- one entry after another
 
 module _ (s : Shape) (states : List ℕ) (f : List ℕ) (k : ℕ) (offsets : List ℕ) (es : List Configuration) where
-  pub list_ends : (left : ℕ) → length f ≤ k → entries_from left s states f k offsets es ≡ record { offsets = offsets; entries = es; answer = Fine }
+  pub list_ends : (left : ℕ) → length f ≤ k → entries_from left s states f k offsets es ≡ record { offsets = offsets; entries = es; answer = Ok tt }
   unfolding entries_from
   list_ends zero l = rw (le-leb (length f) k l)
   list_ends (suc left) l = rw (le-leb (length f) k l)
 
   module _ (allowed n : ℕ) (inside : k < length f) where
-    pub head_stops : (r : Refusal) → checked (entry_number s states f k (leb allowed n)) k ≡ Refused r → entries_from (allowed - n) s states f k offsets es ≡ stop_at offsets es r
+    pub head_stops : (r : Refusal) → checked (entry_number s states f k (leb allowed n)) k ≡ Err r → entries_from (allowed - n) s states f k offsets es ≡ stop_at offsets es r
     unfolding entries_from
     head_stops r q = elim (dec_lt n allowed) [
       | yes l ↦
           let a : allowed - n ≡ suc (allowed - suc n) = omega arith in
-          let q' : checked (entry_number s states f k false) k ≡ Refused r = rw (lt-leb allowed n l) at q in
+          let q' : checked (entry_number s states f k false) k ≡ Err r = rw (lt-leb allowed n l) at q in
           rw (a, lt-leb (length f) k inside, q')
       | no l ↦
           let a : allowed - n ≡ 0 = omega arith in
-          let q' : checked (entry_number s states f k true) k ≡ Refused r = rw (le-leb allowed n (omega arith)) at q in
+          let q' : checked (entry_number s states f k true) k ≡ Err r = rw (le-leb allowed n (omega arith)) at q in
           rw (a, lt-leb (length f) k inside, q')
     ]
 
-    module _ (q : checked (entry_number s states f k (leb allowed n)) k ≡ Fine) where
+    module _ (q : checked (entry_number s states f k (leb allowed n)) k ≡ Ok tt) where
       pub head_room : n < allowed
       head_room = leb-false allowed n (entry_fine f k s states (leb allowed n) q).room
 
-      fine : checked (entry_number s states f k false) k ≡ Fine
+      fine : checked (entry_number s states f k false) k ≡ Ok tt
       fine = rw (lt-leb allowed n head_room) at q
 
       left_one : allowed - n ≡ suc (allowed - (n + 1))
@@ -135,7 +133,7 @@ listed_begin s states f at allowed list =
     record { offsets = []; entries = []; reads = ap (λ (n : ℕ). entries_from n s states f at [] []) z; count = refl; most = omega arith; wrote = refl }
 
 pub listed_next : {s : Shape} {states f : List ℕ} {at allowed : ℕ} {list₀ list list' : List ℕ} {k n next : ℕ} (L : Listed s states f at allowed list₀ list k n) (e : Configuration)
-    → k < length f → checked (entry_number s states f k (leb allowed n)) k ≡ Fine → entry_read s f k ≡ whole e next → {place : ℕ} → place ≡ 4 * n → list' ≡ put32 list place k
+    → k < length f → checked (entry_number s states f k (leb allowed n)) k ≡ Ok tt → entry_read s f k ≡ whole e next → {place : ℕ} → place ≡ 4 * n → list' ≡ put32 list place k
     → Listed s states f at allowed list₀ list' next (n + 1)
 listed_next {s} {states} {f} {at} {allowed} {list₀} {list} {list'} {k} {n} {next} L e l q d h w =
     record {

@@ -1,10 +1,8 @@
 -- What the reading of an entry keeps: counts. No statement rests on these definitions; they say how the code's counts stand for the entry.
-use Rattle.std.specs.Prelude.{ℕ, ◌+◌, ◌*◌, ◌<◌, ◌≤◌, ◌≡◌, true, false, cond, List, length, get_or, set}
+use Rattle.std.specs.Prelude.{ℕ, ◌+◌, ◌*◌, ◌<◌, ◌≤◌, ◌≡◌, true, false, cond, List, length, get_or, set, Result, Ok, Err}
 use Rattle.machine_pws.specs.Machine.{Configuration}
 use Rattle.file_records.specs.declared.program.Shape.{Shape}
 use Rattle.file_records.specs.declared.program.Refusal.{Refusal}
-use Rattle.file_reading.specs.declared.list.EntryEnd.{EntryEnd}
-use Rattle.file_reading.specs.declared.list.EntryEnd.TheVariants.{Next, Bad}
 use Rattle.file_reading.specs.declared.list.Tally.{Tally}
 use Rattle.file_records.specs.Records.{is_kind, message_number, waiting_number}
 use Rattle.file_contents.specs.EvidencePart.{EntryRead, whole, bad}
@@ -34,10 +32,6 @@ pub record Tallies (t : Tally) (e : Configuration) : Type 0 where
   pub waiting : (p v : ℕ) → p < 4 → v < 4 → get_or t.waiting (4 * p + v) 0 ≡ length (e.queue p v)
 
 -- what is handed on
-abbrev pub end_of : EntryRead → EntryEnd
-end_of (whole e next) = Next next
-end_of (bad r) = Bad r
-
-abbrev pub end_refusal : EntryEnd → Refusal
-end_refusal (Next n) = record { number = 0; place = 0 }
-end_refusal (Bad r) = r
+abbrev pub end_of : EntryRead → Result ℕ Refusal
+end_of (whole e next) = Ok next
+end_of (bad r) = Err r

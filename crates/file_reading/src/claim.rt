@@ -3,13 +3,13 @@ ghost use Rattle.std.specs.Prelude.{◌≡◌};
 ghost use Rattle.file_records.specs.Records.{checked, claim_number};
 
 use base::bytes::{cut, field};
-use file_records::program::Checked;
-use file_records::record::{answer, first_number, is_kind};
+use file_records::program::Refusal;
+use file_records::record::{checked, first_number, is_kind};
 
-pub(crate) fn check_claim(file: &[u8], at: usize) -> Checked
+pub(crate) fn check_claim(file: &[u8], at: usize) -> Result<(), Refusal>
     ensures { result ≡ checked (claim_number file.now at) at }
 {
-    answer(
+    checked(
         first_number(
             !is_kind(file, at, 15),
             cut(file, at, 1),

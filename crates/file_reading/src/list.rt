@@ -3,15 +3,16 @@ ghost use Rattle.std.specs.Prelude.{◌≡◌, ◌&&◌, [], ◌+◌, ◌≤◌,
 ghost use Rattle.file_records.specs.Records.{checked, message_number, waiting_number, pointer_at, pointer_name, pointer_names, state_names, entry_number, value_name, message_names, waiting_names};
 ghost use Rattle.file_contents.specs.EvidencePart.{body_size, pointer_inside, points_first, pointers_fit, first_some, complete, at_boundary, entry_read, entries_from, wrote_from};
 ghost use Rattle.file_contents.specs.Tally.{queue_at, count_of};
-ghost use Rattle.file_reading.specs.Tally.{number_by, TallyRoom, tallied, end_of, end_refusal};
+ghost use Rattle.file_reading.specs.Tally.{number_by, TallyRoom, tallied, end_of};
 
-use base::bytes::{both, cut, either, field, store_number, wide};
+use base::arrays::at_or;
+use base::bytes::{both, cut, either, field, store_number};
 use base::places::word_place;
 use file_contents::entry::message_at;
 use file_contents::steps::pair_exists;
 use file_program::record::state_name;
-use file_records::program::{Checked, Counted, Refusal, Shape, refusal_of, value_count};
-use file_records::record::{answer, first_number, is_kind};
+use file_records::program::{Refusal, Shape, value_count};
+use file_records::record::{checked, first_number, is_kind};
 
 fn pointer_name(shape: Shape, p: usize, pointer: u8) -> bool
     ensures { result ≡ pointer_name shape p pointer }
@@ -43,18 +44,24 @@ fn pointers_inside(file: &[u8], at: usize, shape: Shape) -> bool
 }
 
 // The 10 of an entry.
-fn check_entry(file: &[u8], at: usize, shape: Shape, states: [u8; 4], full: bool) -> Checked
+fn check_entry(
+    file: &[u8],
+    at: usize,
+    shape: Shape,
+    states: [u8; 4],
+    full: bool,
+) -> Result<(), Refusal>
     ensures { result ≡ checked (entry_number shape states file.now at full) at }
 {
     let other = !is_kind(file, at, 16);
     if cut(file, at, 8) {
-        return answer(first_number(other, true, full, false, true), at);
+        return checked(first_number(other, true, full, false, true), at);
     }
     let names = both(
         states_inside(file, at, shape, states),
         pointers_inside(file, at, shape),
     );
-    answer(first_number(other, false, full, false, !names), at)
+    checked(first_number(other, false, full, false, !names), at)
 }
 
 fn value_name(shape: Shape, variable: usize, value: u8) -> bool
@@ -96,7 +103,7 @@ fn waiting_names(file: &[u8], at: usize, shape: Shape) -> bool
     let variable = field(file, at, 2);
     both(
         pair_exists(shape, field(file, at, 1), variable),
-        value_name(shape, wide(variable), field(file, at, 3)),
+        value_name(shape, usize::from(variable), field(file, at, 3)),
     )
 }
 
@@ -119,20 +126,11 @@ pub struct Tally {
     pub waiting: [u8; 16],
 }
 
-fn of_sixteen(sixteen: [u8; 16], q: usize) -> u8
-    ensures { result ≡ get_or sixteen q 0 }
-{
-    if q < 16 {
-        return sixteen[q];
-    }
-    0
-}
-
 // The place of the count of the queue that the 12 at a place names.
 fn queue_at(file: &[u8], at: usize) -> usize
     ensures { result ≡ queue_at file.now at }
 {
-    4 * wide(field(file, at, 1)) + wide(field(file, at, 2))
+    4 * usize::from(field(file, at, 1)) + usize::from(field(file, at, 2))
 }
 
 fn message_number(file: &[u8], at: usize, shape: Shape, messages: usize) -> u8
@@ -170,17 +168,10 @@ fn body_number(file: &[u8], at: usize, shape: Shape, tally: Tally) -> u8
         return message_number(file, at, shape, tally.messages);
     }
     if is_kind(file, at, 18) {
-        let waiting = tally.waiting;
-        return waiting_number(file, at, shape, of_sixteen(waiting, queue_at(file, at)));
+        let waiting = at_or(tally.waiting, queue_at(file, at), 0);
+        return waiting_number(file, at, shape, waiting);
     }
     2
-}
-
-// Where an entry ends, or why it is refused.
-#[derive(Clone, Copy)]
-pub enum EntryEnd {
-    Next(usize),
-    Bad(Refusal),
 }
 
 // The counts with the record at a place, which was found fine.
@@ -203,7 +194,7 @@ fn pointer_fits(shape: Shape, messages: usize, p: usize, pointer: u8) -> bool
     ensures { result ≡ pointer_inside shape messages p pointer }
 {
     if p < shape.processes {
-        return both(1 <= pointer, wide(pointer) <= messages);
+        return both(1 <= pointer, usize::from(pointer) <= messages);
     }
     true
 }
@@ -251,8 +242,8 @@ fn is_complete(file: &[u8], at: usize, shape: Shape, messages: usize) -> bool
     )
 }
 
-// The records of the entry whose 10 stands at a place and is fine.
-fn entry_from(file: &[u8], start: usize, shape: Shape) -> EntryEnd
+// Where the entry ends whose 10 stands at a place and is fine, or why it is refused.
+fn entry_from(file: &[u8], start: usize, shape: Shape) -> Result<usize, Refusal>
     requires { (start + 9 ≤ length file.now) × (shape.processes ≤ 4) × (shape.variables ≤ 4) }
     ensures { result ≡ end_of (entry_read shape file.now start) }
 {
@@ -263,32 +254,17 @@ fn entry_from(file: &[u8], start: usize, shape: Shape) -> EntryEnd
     };
     let mut k = start + 9;
     while !at_boundary(file, k) {
-        let answer = answer(body_number(file, k, shape, tally), k);
-        let Checked::Fine = answer else {
-            return EntryEnd::Bad(refusal_of(answer));
-        };
+        checked(body_number(file, k, shape, tally), k)?;
         tally = tallied(file, k, tally);
         k += body_size(file, k);
     }
     if is_complete(file, start, shape, tally.messages) {
-        return EntryEnd::Next(k);
+        return Ok(k);
     }
-    EntryEnd::Bad(Refusal {
+    Err(Refusal {
         number: 7,
         place: start,
     })
-}
-
-fn end_refusal(end: EntryEnd) -> Refusal
-    ensures { result ≡ end_refusal end }
-{
-    match end {
-        EntryEnd::Next(_) => Refusal {
-            number: 0,
-            place: 0,
-        },
-        EntryEnd::Bad(refusal) => refusal,
-    }
 }
 
 // The entries, to the file's end. The place of each one's 10 is written into the list, four bytes each, least significant first.
@@ -299,7 +275,7 @@ pub(crate) fn entries_from(
     states: [u8; 4],
     allowed: usize,
     list: &mut [u8],
-) -> Counted
+) -> Result<usize, Refusal>
     requires { (shape.processes ≤ 4) × (shape.variables ≤ 4) × (allowed ≤ 524288) }
     ensures value { result ≡ count_of (entries_from allowed shape states file.now at [] []) }
     ensures list_after { list.new ≡ wrote_from 0 (entries_from allowed shape states file.now at [] []).offsets list.old }
@@ -307,17 +283,11 @@ pub(crate) fn entries_from(
     let mut k = at;
     let mut n = 0;
     while k < file.len() {
-        let head = check_entry(file, k, shape, states, allowed <= n);
-        let Checked::Fine = head else {
-            return Counted::Stopped(refusal_of(head));
-        };
-        let end = entry_from(file, k, shape);
-        let EntryEnd::Next(next) = end else {
-            return Counted::Stopped(end_refusal(end));
-        };
+        check_entry(file, k, shape, states, allowed <= n)?;
+        let next = entry_from(file, k, shape)?;
         store_number(list, word_place(n), k);
         n += 1;
         k = next;
     }
-    Counted::Records(n)
+    Ok(n)
 }

@@ -2,9 +2,9 @@
 ghost use Rattle.std.specs.Prelude.{◌≡◌};
 ghost use Rattle.file_records.specs.Records.{checked, start_name, start_names, start_number, memory_at};
 
-use base::bytes::{both, cut, field};
-use file_records::program::{Checked, Shape, value_count};
-use file_records::record::{answer, first_number, is_kind};
+use base::bytes::{both, cut, field, four_at};
+use file_records::program::{Refusal, Shape, value_count};
+use file_records::record::{checked, first_number, is_kind};
 
 fn start_name(shape: Shape, variable: usize, value: u8) -> bool
     ensures { result ≡ start_name shape variable value }
@@ -25,11 +25,11 @@ fn start_names(file: &[u8], at: usize, shape: Shape) -> bool
     both(a, both(b, both(c, d)))
 }
 
-pub(crate) fn check_start(file: &[u8], at: usize, shape: Shape) -> Checked
+pub(crate) fn check_start(file: &[u8], at: usize, shape: Shape) -> Result<(), Refusal>
     ensures { result ≡ checked (start_number shape file.now at) at }
 {
     let names = start_names(file, at, shape);
-    answer(
+    checked(
         first_number(
             !is_kind(file, at, 31),
             cut(file, at, 4),
@@ -44,9 +44,5 @@ pub(crate) fn check_start(file: &[u8], at: usize, shape: Shape) -> Checked
 pub(crate) fn memory_at(file: &[u8], at: usize) -> [u8; 4]
     ensures { result ≡ memory_at file.now at }
 {
-    let a = field(file, at, 1);
-    let b = field(file, at, 2);
-    let c = field(file, at, 3);
-    let d = field(file, at, 4);
-    [a, b, c, d]
+    four_at(file, at, 1)
 }

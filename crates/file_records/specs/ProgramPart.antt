@@ -2,18 +2,13 @@
 -- N8, for the number of 04s, and for a program with registers, which has 05s in place of the 03s and up to 16 of 04).
 -- In a combined file it ends at the claim, and a file that ends before that is 6. In a program file (document 02, N6) it ends with the file, which is 6 if it
 -- ends before its first 04; an 0F there is 2, as every other kind but 04 is. `alone` says that the file is a program file.
-use Rattle.std.specs.Prelude.{ℕ, zero, suc, ◌+◌, ◌*◌, Bool, true, false, cond, ◌&&◌, not, List, [], ◌∷◌, length, get_or, eqb, leb, ltb}
+use Rattle.std.specs.Prelude.{ℕ, zero, suc, ◌+◌, ◌*◌, Bool, true, false, cond, ◌&&◌, not, List, [], ◌∷◌, length, get_or, eqb, leb, ltb, Result, Ok, Err, ⊤}
 use Rattle.machine_pws.specs.Program as pws
 use Rattle.file_records.specs.declared.program.Format.{Format}
 use Rattle.file_records.specs.declared.program.Format.TheVariants.{Plain}
 use Rattle.file_records.specs.declared.program.Shape.{Shape}
 use Rattle.file_records.specs.declared.program.Refusal.{Refusal}
-use Rattle.file_records.specs.declared.program.Checked.{Checked}
-use Rattle.file_records.specs.declared.program.Checked.TheVariants.{Fine, Refused}
-use Rattle.file_records.specs.declared.program.Counted.{Counted}
-use Rattle.file_records.specs.declared.program.Counted.TheVariants.{Records, Stopped}
 use Rattle.file_records.specs.declared.program.Program.{Program}
-use Rattle.file_records.specs.declared.program.ProgramRead.{ProgramRead}
 use Rattle.base.specs.Bytes.{choose, byte}
 use Rattle.file_records.specs.Format.{transition_kind, most_targets}
 use Rattle.file_records.specs.Records.{checked, is_kind, shape_at, shape_number, value_count, states_number, transition_number, transition_at, target_number, state_at}
@@ -21,31 +16,23 @@ use Rattle.file_records.specs.Records.{checked, is_kind, shape_at, shape_number,
 -- ---- one record after another
 
 -- 6 at the file's end, else what is said of the record there
-unfoldable pub unless_end : List ℕ → ℕ → Checked → Checked
-unless_end f at x = cond (leb (length f) at) (Refused (record { number = 6; place = length f })) x
+unfoldable pub unless_end : List ℕ → ℕ → Result ⊤ Refusal → Result ⊤ Refusal
+unless_end f at x = cond (leb (length f) at) (Err (record { number = 6; place = length f })) x
 
--- the first refusal
-abbrev pub and_then : Checked → (Unit {0} → Checked) → Checked
-and_then Fine x = x tt
-and_then (Refused r) x = Refused r
+-- the first refusal, or what comes of the value
+abbrev pub and_then : {A B E : Type 0} → Result A E → (A → Result B E) → Result B E
+and_then (Ok a) x = x a
+and_then (Err e) x = Err e
 
-abbrev pub count_then : Checked → (Unit {0} → Counted) → Counted
-count_then Fine x = x tt
-count_then (Refused r) x = Stopped r
-
--- why it is refused
-abbrev pub refusal_of : Checked → Refusal
-refusal_of Fine = record { number = 0; place = 0 }
-refusal_of (Refused r) = r
-
-abbrev pub stop_of : Counted → Refusal
-stop_of (Records n) = record { number = 0; place = 0 }
-stop_of (Stopped r) = r
+-- the refusal alone
+abbrev pub whether : {A E : Type 0} → Result A E → Result ⊤ E
+whether (Ok a) = Ok tt
+whether (Err e) = Err e
 
 -- ---- the 02s: n of them
 
-unfoldable pub states_from : List ℕ → ℕ → ℕ → Checked
-states_from f at zero = Fine
+unfoldable pub states_from : List ℕ → ℕ → ℕ → Result ⊤ Refusal
+states_from f at zero = Ok tt
 states_from f at (suc n) = and_then (unless_end f at (checked (states_number f at) at)) (λ _. states_from f (at + 3) n)
 
 -- the byte k places into the 02 of each of n processes, and 0 for the others
@@ -59,13 +46,13 @@ of_processes f at k n = of_process f at k n 0 ∷ of_process f at k n 1 ∷ of_p
 
 -- How many stand here, n of them being read already, up to where the row ends; or the first refusal. `left` more are allowed, and the
 -- check of a record is told how many stand before it.
-unfoldable pub row_from : (ℕ → ℕ → Bool) → (ℕ → ℕ → Checked) → (ℕ → ℕ) → ℕ → ℕ → ℕ → Counted
-row_from ends check size zero at n = choose (ends at n) (λ _. Records n) (λ _. count_then (check at n) (λ _. Records n))
+unfoldable pub row_from : (ℕ → ℕ → Bool) → (ℕ → ℕ → Result ⊤ Refusal) → (ℕ → ℕ) → ℕ → ℕ → ℕ → Result ℕ Refusal
+row_from ends check size zero at n = choose (ends at n) (λ _. Ok n) (λ _. and_then (check at n) (λ _. Ok n))
 row_from ends check size (suc left) at n =
-    choose (ends at n) (λ _. Records n) (λ _. count_then (check at n) (λ _. row_from ends check size left (at + size at) (suc n)))
+    choose (ends at n) (λ _. Ok n) (λ _. and_then (check at n) (λ _. row_from ends check size left (at + size at) (suc n)))
 
 -- the 03s or 05s: all that stand here
-unfoldable pub transitions_from : Format → Shape → List ℕ → List ℕ → ℕ → Counted
+unfoldable pub transitions_from : Format → Shape → List ℕ → List ℕ → ℕ → Result ℕ Refusal
 transitions_from k s states f at =
     row_from (λ i n. not (is_kind f i (transition_kind k))) (λ i n. checked (transition_number k s states f i n) i) (λ i. 8) 256 at 0
 
@@ -74,7 +61,7 @@ unfoldable pub at_end : Bool → List ℕ → ℕ → ℕ → Bool
 at_end alone f at n = cond alone (leb (length f) at) (is_kind f at 15) && leb 1 n
 
 -- the 04s, up to where the part ends
-unfoldable pub targets_from : Format → Bool → Shape → List ℕ → List ℕ → ℕ → Counted
+unfoldable pub targets_from : Format → Bool → Shape → List ℕ → List ℕ → ℕ → Result ℕ Refusal
 targets_from k alone s states f at =
     row_from (at_end alone f) (λ i n. unless_end f i (checked (target_number k s states f i n) i)) (λ i. 5) (most_targets k) at 0
 
@@ -91,47 +78,38 @@ no_program =
       claim = 0;
     }
 
-abbrev pub program_refused : Refusal → ProgramRead
-program_refused r = record { answer = Refused r; program = no_program }
-
-abbrev pub or_refused : Checked → (Unit {0} → ProgramRead) → ProgramRead
-or_refused Fine x = x tt
-or_refused (Refused r) x = program_refused r
-
-abbrev pub with_count : Counted → (ℕ → ProgramRead) → ProgramRead
-with_count (Records n) x = x n
-with_count (Stopped r) x = program_refused r
+-- what was read, and nothing where it is refused
+abbrev pub program_read : Result Program Refusal → Program
+program_read (Ok p) = p
+program_read (Err r) = no_program
 
 -- the transitions and the 04s
-unfoldable pub rows_from : Format → Bool → List ℕ → ℕ → Shape → List ℕ → List ℕ → ProgramRead
+unfoldable pub rows_from : Format → Bool → List ℕ → ℕ → Shape → List ℕ → List ℕ → Result Program Refusal
 rows_from k alone f at s states initial =
-    with_count (transitions_from k s states f at) (λ n.
-    with_count (targets_from k alone s states f (at + 8 * n)) (λ m.
+    and_then (transitions_from k s states f at) (λ n.
+    and_then (targets_from k alone s states f (at + 8 * n)) (λ m.
+    Ok (
     record {
-      answer = Fine;
-      program =
-          record {
-            shape = s;
-            states = states;
-            initial = initial;
-            transitions = record { at = at; count = n };
-            targets = record { at = at + 8 * n; count = m };
-            claim = at + 8 * n + 5 * m;
-          };
-    }))
+      shape = s;
+      states = states;
+      initial = initial;
+      transitions = record { at = at; count = n };
+      targets = record { at = at + 8 * n; count = m };
+      claim = at + 8 * n + 5 * m;
+    })))
 
 -- and the 02s before them
-unfoldable pub rest_from : Format → Bool → List ℕ → ℕ → Shape → ProgramRead
+unfoldable pub rest_from : Format → Bool → List ℕ → ℕ → Shape → Result Program Refusal
 rest_from k alone f at s =
-    or_refused (states_from f at s.processes) (λ _.
+    and_then (states_from f at s.processes) (λ _.
     rows_from k alone f (at + 3 * s.processes) s (of_processes f at 1 s.processes) (of_processes f at 2 s.processes))
 
 -- and the 01 before these
-unfoldable pub program_with : Format → Bool → List ℕ → ℕ → ProgramRead
-program_with k alone f at = or_refused (unless_end f at (checked (shape_number k f at) at)) (λ _. rest_from k alone f (at + 7) (shape_at f at))
+unfoldable pub program_with : Format → Bool → List ℕ → ℕ → Result Program Refusal
+program_with k alone f at = and_then (unless_end f at (checked (shape_number k f at) at)) (λ _. rest_from k alone f (at + 7) (shape_at f at))
 
 -- as the judge reads it
-abbrev pub program_from : Bool → List ℕ → ℕ → ProgramRead
+abbrev pub program_from : Bool → List ℕ → ℕ → Result Program Refusal
 program_from alone f at = program_with Plain alone f at
 
 -- ---- what stands there

@@ -1,6 +1,6 @@
 -- What each record says, and when it is refused (document 01, "Records" and the refusal table): its kind and body length, its count
 -- limit (5), its ranges (3) and what its fields may name (4).
-use Rattle.std.specs.Prelude.{ℕ, zero, suc, ◌+◌, ◌*◌, Bool, true, false, cond, ◌&&◌, ◌||◌, not, List, [], ◌∷◌, length, get_or, eqb, leb, ltb}
+use Rattle.std.specs.Prelude.{ℕ, zero, suc, ◌+◌, ◌*◌, Bool, true, false, cond, ◌&&◌, ◌||◌, not, List, [], ◌∷◌, length, get_or, eqb, leb, ltb, Result, Ok, Err, ⊤}
 use Rattle.machine_pws.specs.declared.Message.{Message}
 use Rattle.machine_pws.specs.declared.Operation.{Operation}
 use Rattle.machine_pws.specs.declared.Operation.TheVariants.{Nop, Read, Write, Mfence, Sfence, Arw}
@@ -11,8 +11,6 @@ use Rattle.machine_pws.specs.Machine.{all_below}
 use Rattle.file_records.specs.declared.program.Format.{Format}
 use Rattle.file_records.specs.declared.program.Shape.{Shape}
 use Rattle.file_records.specs.declared.program.Refusal.{Refusal}
-use Rattle.file_records.specs.declared.program.Checked.{Checked}
-use Rattle.file_records.specs.declared.program.Checked.TheVariants.{Fine, Refused}
 use Rattle.base.specs.Bytes.{byte, cut}
 use Rattle.file_records.specs.Format.{transition_kind, last_operation, least_values, most_targets}
 
@@ -20,8 +18,8 @@ use Rattle.file_records.specs.Format.{transition_kind, last_operation, least_val
 unfoldable pub first_number : Bool → Bool → Bool → Bool → Bool → ℕ
 first_number not_allowed cut full out_of_range bad_name = cond not_allowed 2 (cond cut 1 (cond full 5 (cond out_of_range 3 (cond bad_name 4 0))))
 
-unfoldable pub checked : ℕ → ℕ → Checked
-checked n place = cond (eqb n 0) Fine (Refused (record { number = n; place = place }))
+unfoldable pub checked : ℕ → ℕ → Result ⊤ Refusal
+checked n place = cond (eqb n 0) (Ok tt) (Err (record { number = n; place = place }))
 
 unfoldable pub is_kind : List ℕ → ℕ → ℕ → Bool
 is_kind f at kind = eqb (byte f at) kind

@@ -2,8 +2,8 @@
 ghost use Rattle.std.specs.Prelude.{◌≡◌};
 ghost use Rattle.file_records.specs.Records.{first_number, checked, is_kind, operation_of, transition_at};
 
-use crate::program::{Checked, Refusal};
-use base::bytes::{byte_at, field, wide};
+use crate::program::Refusal;
+use base::bytes::{byte_at, field};
 use machine_pws::{Operation, Transition};
 
 // The first number that applies, in the order 2, 1, 5, 3, 4; 0 for none.
@@ -34,16 +34,14 @@ pub fn first_number(
     0
 }
 
-pub fn answer(number: u8, place: usize) -> Checked
+// What is said of the record at a place by its number in the refusal table.
+pub fn checked(number: u8, place: usize) -> Result<(), Refusal>
     ensures { result ≡ checked number place }
 {
     if number == 0 {
-        return Checked::Fine;
+        return Ok(());
     }
-    Checked::Refused(Refusal {
-        number: number,
-        place: place,
-    })
+    Err(Refusal { number, place })
 }
 
 pub fn is_kind(file: &[u8], at: usize, kind: u8) -> bool
@@ -57,19 +55,19 @@ fn operation_of(operation: u8, variable: u8, value: u8, new: u8) -> Operation
 {
     match operation {
         1 => Operation::Read {
-            variable: wide(variable),
-            value: value,
+            variable: usize::from(variable),
+            value,
         },
         2 => Operation::Write {
-            variable: wide(variable),
-            value: value,
+            variable: usize::from(variable),
+            value,
         },
         3 => Operation::Mfence,
         4 => Operation::Sfence,
         5 => Operation::Arw {
-            variable: wide(variable),
+            variable: usize::from(variable),
             old: value,
-            new: new,
+            new,
         },
         _ => Operation::Nop,
     }
@@ -86,9 +84,9 @@ pub fn transition_at(file: &[u8], at: usize) -> Transition
         field(file, at, 6),
     );
     Transition {
-        process: wide(field(file, at, 1)),
+        process: usize::from(field(file, at, 1)),
         from: field(file, at, 2),
-        operation: operation,
+        operation,
         to: field(file, at, 7),
     }
 }

@@ -1,4 +1,5 @@
 -- A written entry is read as what was written.
+use Rattle.std.specs.Prelude.{Ok}
 use Prim.Native.Nat.{ℕ, zero, suc, ◌+◌, ◌*◌, ◌<◌, ◌≤◌}
 use mathlib.Core.Path.{◌≡◌, refl, sym, ap, ap₂, subst, ◌∙◌}
 use mathlib.Core.Logic.{◌⊎◌, inl, inr, ⊎_elim}
@@ -17,7 +18,6 @@ use Rattle.machine_pws.specs.Configurations.{All, MessageIn, StatesOf}
 use Rattle.machine_pws.specs.Entries.{ValueOrFF}
 use Rattle.machine_pws.proofs.Facts.{message_old, message_new, put_queue_each}
 use Rattle.file_records.specs.declared.program.Shape.{Shape}
-use Rattle.file_records.specs.declared.program.Checked.TheVariants.{Fine}
 use Rattle.base.specs.Bytes.{byte, choose}
 use Rattle.file_records.specs.Records.{checked, is_kind, value_count, exists, state_names, state_at, pointer_name, pointer_names, pointer_at, entry_number, value_name, value_names, message_names, message_at, message_number, waiting_names, waiting_number}
 use Rattle.file_contents.specs.EvidencePart.{beginning, with_message, with_waiting, extended, body_size, body_number, pointer_inside, points_first, pointers_fit, first_some, complete, whole, bad, at_boundary, finished, body_then, entry_from, entry_read}
@@ -96,7 +96,7 @@ module _ (S : pws.Shape) (range : pws.ShapeInRange S) (counts : (v : ℕ) → va
           rw (T.same 1 (omega arith), T.same 2 (omega arith), T.same 3 (omega arith), T.same 4 (omega arith), T.same 5 (omega arith), T.same 6 (omega arith))
           (λ i. record { process = m.process; variable = m.variable; snapshot = e i })
 
-      message_passes : (n : ℕ) → n < 16 → checked (message_number s f at n) at ≡ Fine
+      message_passes : (n : ℕ) → n < 16 → checked (message_number s f at n) at ≡ Ok tt
       unfolding message_number
       message_passes n l =
           number_fine at (record { allowed = refl; whole = not_cut f at 6 T.fits; room = lt-leb 16 n l; range = refl; names = not_so message_names_lem })
@@ -108,7 +108,7 @@ module _ (S : pws.Shape) (range : pws.ShapeInRange S) (counts : (v : ℕ) → va
         rw (T.same 1 (omega arith), T.same 2 (omega arith), T.same 3 (omega arith))
         (both (both (lt-ltb p S.processes a) (lt-ltb v S.variables b)) (value_in v x b w))
 
-    waiting_passes : (n : ℕ) → n < 8 → checked (waiting_number s f at n) at ≡ Fine
+    waiting_passes : (n : ℕ) → n < 8 → checked (waiting_number s f at n) at ≡ Ok tt
     unfolding waiting_number
     waiting_passes n l =
         let full : (exists s (byte f (at + 1)) (byte f (at + 2)) && leb 8 n) ≡ false = rw (lt-leb 8 n l) (none (exists s (byte f (at + 1)) (byte f (at + 2)))) in
@@ -119,7 +119,7 @@ module _ (S : pws.Shape) (range : pws.ShapeInRange S) (counts : (v : ℕ) → va
         none false = refl
 
   module _ (f : List ℕ) (at : ℕ) (e : Configuration) where
-    pub record_passes : (r : EntryRecord) → RecordIn S r → Room e r → Stands f at (record_bytes r) → checked (body_number s f at e) at ≡ Fine
+    pub record_passes : (r : EntryRecord) → RecordIn S r → Room e r → Stands f at (record_bytes r) → checked (body_number s f at e) at ≡ Ok tt
     unfolding body_number
     record_passes (message_record m) w l T = rw (kind_is f at 17 17 (stands_first 17 _ T)) (message_passes m w f at T (length e.memory.channel) l)
     record_passes (waiting_record p v x) w l T =
@@ -213,7 +213,7 @@ module _ (S : pws.Shape) (range : pws.ShapeInRange S) (counts : (v : ℕ) → va
   entry_stops zero at e b = refl
   entry_stops (suc bytes) at e b = rw b
 
-  entry_goes : (bytes at : ℕ) (e : Configuration) → at_boundary f at ≡ false → checked (body_number (shape_for S) f at e) at ≡ Fine
+  entry_goes : (bytes at : ℕ) (e : Configuration) → at_boundary f at ≡ false → checked (body_number (shape_for S) f at e) at ≡ Ok tt
       → entry_from (suc bytes) (shape_for S) f start at e ≡ entry_from bytes (shape_for S) f start (at + body_size f at) (extended f at e)
   unfolding entry_from
   entry_goes bytes at e b c = rw (b, c)
@@ -364,7 +364,7 @@ module _ (P : pws.Program) (range : pws.ShapeInRange P.shape) (counts : (v : ℕ
         rw (H.same 5 (omega arith), H.same 6 (omega arith), H.same 7 (omega arith), H.same 8 (omega arith))
         (both (pointer_named 0) (both (pointer_named 1) (both (pointer_named 2) (pointer_named 3))))
 
-    pub head_passes : checked (entry_number (shape_for S) states f at false) at ≡ Fine
+    pub head_passes : checked (entry_number (shape_for S) states f at false) at ≡ Ok tt
     unfolding entry_number
     head_passes =
         number_fine at (record {

@@ -1,4 +1,5 @@
 -- Evidence that was read stands after the program part, or in a file of its own.
+use Rattle.std.specs.Prelude.{Result, Ok, Err, ⊤}
 use Prim.Native.Nat.{ℕ, suc, ◌+◌, ◌<◌, ◌≤◌}
 use mathlib.Core.Path.{◌≡◌, refl, sym, ap, subst, ◌∙◌}
 use mathlib.Core.Bool.{Bool, true, false}
@@ -9,13 +10,10 @@ use lib.ListN.{length, length-append}
 use lib.Dec.{leb}
 use borrow.Author.Tests.{leb-true, not-false}
 use Rattle.file_records.specs.declared.program.Refusal.{Refusal}
-use Rattle.file_records.specs.declared.program.Checked.{Checked}
-use Rattle.file_records.specs.declared.program.Checked.TheVariants.{Fine, Refused}
-use Rattle.file_records.specs.declared.program.Counted.{Counted}
 use Rattle.file_records.specs.declared.program.Program.{Program}
 use Rattle.base.specs.Bytes.{byte}
 use Rattle.file_records.specs.Records.{checked, claim_number, start_number, memory_at}
-use Rattle.file_records.specs.ProgramPart.{unless_end, program_from, program_of, targets_of}
+use Rattle.file_records.specs.ProgramPart.{unless_end, program_from, program_of, targets_of, whether, program_read}
 use Rattle.file_contents.specs.EvidencePart.{EntriesRead, steps_from}
 use Rattle.file_contents.specs.Reading.{Input, combined, pair, evidence_at, Evidence, refusal, entries, steps, claim_then, run_evidence, evidence_from, no_parts, two_parts, parts_of}
 use Rattle.base.proofs.ByteLaws.{cut_fits}
@@ -28,27 +26,27 @@ use Rattle.file_written.proofs.ProgramRead.{PartRead, program_file}
 
 -- ---- what was read of the parts
 
-pub parts_evidence : (x : Input) (area : ℕ) → (program_from x.alone x.code 0).answer ≡ Fine → (p : Program) (e : Evidence) → parts_of x area ≡ two_parts p e
-    → (65536 ≤ area) × (evidence_from x.file (evidence_at x (program_from x.alone x.code 0).program) (program_from x.alone x.code 0).program area ≡ e)
+pub parts_evidence : (x : Input) (area : ℕ) → whether (program_from x.alone x.code 0) ≡ Ok tt → (p : Program) (e : Evidence) → parts_of x area ≡ two_parts p e
+    → (65536 ≤ area) × (evidence_from x.file (evidence_at x (program_read (program_from x.alone x.code 0))) (program_read (program_from x.alone x.code 0)) area ≡ e)
 parts_evidence x area q p e d = elim (dec_lt area 65536) [
   | yes l ↦ absurd (let c = parts_short x area l in let z : ◌≡◌ {A = ℕ} 0 1 = cc in omega arith)
   | no l ↦ let m : 65536 ≤ area = omega arith in let c = parts_both x area m q in (m, cc)
 ]
 
 module _ (f : List ℕ) (at : ℕ) (p : Program) (area : ℕ) where
-  claim_fine : (e : Evidence) → evidence_from f at p area ≡ e → ((r : Refusal) → refusal r ≡ e → ⊥) → unless_end f at (checked (claim_number f at) at) ≡ Fine
+  claim_fine : (e : Evidence) → evidence_from f at p area ≡ e → ((r : Refusal) → refusal r ≡ e → ⊥) → unless_end f at (checked (claim_number f at) at) ≡ Ok tt
   claim_fine e d other = go _ refl
     where
-      go : (x : Checked) → unless_end f at (checked (claim_number f at) at) ≡ x → unless_end f at (checked (claim_number f at) at) ≡ Fine
-      go Fine c = c
-      go (Refused r) c = absurd (other r (sym (evidence_refused f at p area r c) ∙ d))
+      go : (x : Result ⊤ Refusal) → unless_end f at (checked (claim_number f at) at) ≡ x → unless_end f at (checked (claim_number f at) at) ≡ Ok tt
+      go (Ok _) c = c
+      go (Err r) c = absurd (other r (sym (evidence_refused f at p area r c) ∙ d))
 
   pub record Claimed : Type 0 where
-    pub fine : unless_end f at (checked (claim_number f at) at) ≡ Fine
+    pub fine : unless_end f at (checked (claim_number f at) at) ≡ Ok tt
     pub stands : Stands f at (claim_bytes (byte f (at + 1)))
     pub most : byte f (at + 1) ≤ 2
 
-  claimed : unless_end f at (checked (claim_number f at) at) ≡ Fine → Claimed
+  claimed : unless_end f at (checked (claim_number f at) at) ≡ Ok tt → Claimed
   unfolding claim_number
   claimed e =
       let g = good at (unless_fine f at _ e).1 in
@@ -58,16 +56,16 @@ module _ (f : List ℕ) (at : ℕ) (p : Program) (area : ℕ) where
         most = leb-true (byte f (at + 1)) 2 (not-false _ g.names);
       }
 
-  pub claimed_steps : (c : ℕ) (m : List ℕ) (n : Counted) → evidence_from f at p area ≡ steps c m n → Claimed
+  pub claimed_steps : (c : ℕ) (m : List ℕ) (n : Result ℕ Refusal) → evidence_from f at p area ≡ steps c m n → Claimed
   claimed_steps c m n d = claimed (claim_fine (steps c m n) d (λ r e. let z : ◌≡◌ {A = ℕ} 0 1 = cc in omega arith))
 
   no_run : (claim : ℕ) (r : EntriesRead) → run_evidence f claim (at + 2) p ≡ entries r → ⊥
   unfolding run_evidence
   no_run claim r e = go (unless_end f (at + 2) (checked (start_number p.shape f (at + 2)) (at + 2))) e
     where
-      go : (x : Checked) → claim_then x (λ _. steps claim (memory_at f (at + 2)) (steps_from p.shape p.transitions.count f (at + 2 + 5))) ≡ entries r → ⊥
-      go Fine e = let z : ◌≡◌ {A = ℕ} 0 1 = cc in omega arith
-      go (Refused q) e = let z : ◌≡◌ {A = ℕ} 0 1 = cc in omega arith
+      go : (x : Result ⊤ Refusal) → claim_then x (λ _. steps claim (memory_at f (at + 2)) (steps_from p.shape p.transitions.count f (at + 2 + 5))) ≡ entries r → ⊥
+      go (Ok _) e = let z : ◌≡◌ {A = ℕ} 0 1 = cc in omega arith
+      go (Err q) e = let z : ◌≡◌ {A = ℕ} 0 1 = cc in omega arith
 
   pub claimed_list : (r : EntriesRead) → evidence_from f at p area ≡ entries r → Claimed × (byte f (at + 1) ≡ 0)
   claimed_list r d =

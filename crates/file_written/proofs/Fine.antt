@@ -1,4 +1,6 @@
 -- Records that have no fault, one and in a row.
+use Rattle.std.specs.Prelude.{Result, Ok, ⊤}
+use Rattle.file_records.specs.declared.program.Refusal.{Refusal}
 use Prim.Native.Nat.{ℕ, zero, suc, ◌+◌, ◌*◌, ◌-◌, ◌<◌, ◌≤◌}
 use mathlib.Core.Path.{◌≡◌, refl, sym, ap, subst, ◌∙◌}
 use mathlib.Core.Bool.{Bool, true, false, ◌&&◌, not}
@@ -7,9 +9,6 @@ use native.Mathlib.Omega.{arith}
 use lib.ListN.{length, get_or, length-append}
 use lib.Dec.{eqb, leb}
 use borrow.Author.Tests.{le-leb, ne_eqb}
-use Rattle.file_records.specs.declared.program.Checked.{Checked}
-use Rattle.file_records.specs.declared.program.Checked.TheVariants.{Fine, Refused}
-use Rattle.file_records.specs.declared.program.Counted.TheVariants.{Records, Stopped}
 use Rattle.file_records.specs.Records.{first_number, checked, in_range}
 use Rattle.file_records.specs.ProgramPart.{row_from}
 use Rattle.file_records.proofs.RecordLaws.{Good, row_ends, row_next}
@@ -17,7 +16,7 @@ use Rattle.file_written.specs.Written.{joined}
 use Rattle.file_written.specs.Standing.{Stands}
 use Rattle.file_written.proofs.Standing.{stands_left, stands_right}
 
-pub number_fine : {a b c d e : Bool} (at : ℕ) → Good a b c d e → checked (first_number a b c d e) at ≡ Fine
+pub number_fine : {a b c d e : Bool} (at : ℕ) → Good a b c d e → checked (first_number a b c d e) at ≡ Ok tt
 unfolding checked first_number
 number_fine at g = rw (g.allowed, g.whole, g.room, g.range, g.names)
 
@@ -33,14 +32,14 @@ range_in x most a b = both (ap not (ne_eqb x 0 (λ e. omega arith))) (le-leb x m
 
 -- ---- records in a row
 
-module _ {ℓ} {A : Type ℓ} (bytes : A → List ℕ) (Q : A → Type 0) (d : A) (f : List ℕ) (ends : ℕ → ℕ → Bool) (check : ℕ → ℕ → Checked) (size : ℕ → ℕ) (most : ℕ)
-    (goes : (x : A) → Q x → (at n : ℕ) → n < most → Stands f at (bytes x) → (ends at n ≡ false) × (check at n ≡ Fine) × (size at ≡ length (bytes x))) where
+module _ {ℓ} {A : Type ℓ} (bytes : A → List ℕ) (Q : A → Type 0) (d : A) (f : List ℕ) (ends : ℕ → ℕ → Bool) (check : ℕ → ℕ → Result ⊤ Refusal) (size : ℕ → ℕ) (most : ℕ)
+    (goes : (x : A) → Q x → (at n : ℕ) → n < most → Stands f at (bytes x) → (ends at n ≡ false) × (check at n ≡ Ok tt) × (size at ≡ length (bytes x))) where
   pub row_written : (xs : List A) → ((k : ℕ) → k < length xs → Q (get_or xs k d)) → (left at n : ℕ) → n + left ≡ most → length xs ≤ left → Stands f at (joined bytes xs)
-      → ends (at + length (joined bytes xs)) (n + length xs) ≡ true → row_from ends check size left at n ≡ Records (n + length xs)
+      → ends (at + length (joined bytes xs)) (n + length xs) ≡ true → row_from ends check size left at n ≡ Ok (n + length xs)
   row_written [] q left at n e l S shut =
       let z : n + 0 ≡ n = omega arith in
       let y : at + 0 ≡ at = omega arith in
-      row_ends ends check size left at n (ap (λ (k : ℕ). ends k n) (sym y) ∙ ap (ends (at + 0)) (sym z) ∙ shut) ∙ ap Records (sym z)
+      row_ends ends check size left at n (ap (λ (k : ℕ). ends k n) (sym y) ∙ ap (ends (at + 0)) (sym z) ∙ shut) ∙ ap Ok (sym z)
   row_written (x ∷ xs) q zero at n e l S shut = absurd (omega arith)
   row_written (x ∷ xs) q (suc left) at n e l S shut =
       let G = goes x (q 0 (omega arith)) at n (omega arith) (stands_left (bytes x) (joined bytes xs) S) in
@@ -52,4 +51,4 @@ module _ {ℓ} {A : Type ℓ} (bytes : A → List ℕ) (Q : A → Type 0) (d : A
       ∙ ap (λ (k : ℕ). row_from ends check size left k (suc n)) next
       ∙ row_written xs (λ k i. q (suc k) (omega arith)) left (at + length (bytes x)) (suc n) (omega arith) (omega arith) (stands_right (bytes x) (joined bytes xs) S)
       (ap (λ (k : ℕ). ends k (suc n + length xs)) far ∙ ap (ends (at + length (bytes x ++ joined bytes xs))) on ∙ shut)
-      ∙ ap Records on
+      ∙ ap Ok on

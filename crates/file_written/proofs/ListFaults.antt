@@ -1,4 +1,5 @@
 -- A refusal in an entry, in the table's words.
+use Rattle.std.specs.Prelude.{Result, Ok, Err, ⊤}
 use Prim.Native.Nat.{ℕ, zero, suc, ◌+◌, ◌*◌, ◌-◌, ◌<◌, ◌≤◌}
 use mathlib.Core.Path.{◌≡◌, refl, sym, ap, ap₂, subst, ◌∙◌}
 use mathlib.Core.Logic.{◌⊎◌, inl, inr, ⊎_elim}
@@ -16,8 +17,6 @@ use Rattle.machine_pws.specs.Configurations.{MessageIn}
 use Rattle.machine_pws.specs.Entries.{ValueOrFF}
 use Rattle.file_records.specs.declared.program.Shape.{Shape}
 use Rattle.file_records.specs.declared.program.Refusal.{Refusal}
-use Rattle.file_records.specs.declared.program.Checked.{Checked}
-use Rattle.file_records.specs.declared.program.Checked.TheVariants.{Fine, Refused}
 use Rattle.base.specs.Bytes.{byte, choose}
 use Rattle.file_records.specs.Records.{checked, is_kind, exists, value_count, message_number, waiting_names, waiting_number}
 use Rattle.file_records.proofs.ProgramLaws.{and_true}
@@ -40,7 +39,7 @@ use Rattle.file_written.specs.Faults.{ShapeBegun}
 use Rattle.file_written.proofs.Faults.{Told, fault_of}
 
 module _ (P : pws.Program) (range : pws.ShapeInRange P.shape) (counts : (v : ℕ) → value_count (shape_for P.shape) v ≡ P.shape.values v) (f : List ℕ) (at : ℕ) (r : Refusal) where
-  message_fault : (n : ℕ) → byte f at ≡ 17 → checked (message_number (shape_for P.shape) f at n) at ≡ Refused r → (r.place ≡ at) × MessageFault P n f at r.number
+  message_fault : (n : ℕ) → byte f at ≡ 17 → checked (message_number (shape_for P.shape) f at n) at ≡ Err r → (r.place ≡ at) × MessageFault P n f at r.number
   unfolding message_number
   message_fault n k q =
       fault_of f at 6 (byte f at ≡ 17) (16 ≤ n) Unit ((m : Message) × MessageIn (ValueOrFF P.shape) P.shape m × Stands f at (record_bytes (message_record m))) r
@@ -54,7 +53,7 @@ module _ (P : pws.Program) (range : pws.ShapeInRange P.shape) (counts : (v : ℕ
         names = λ h. not_so (message_names_lem P.shape range counts h.0 h.1 f at h.2);
       }) q
 
-  waiting_fault : (queue : ℕ → ℕ → List ℕ) → byte f at ≡ 18 → checked (waiting_number (shape_for P.shape) f at (length (queue (byte f (at + 1)) (byte f (at + 2))))) at ≡ Refused r
+  waiting_fault : (queue : ℕ → ℕ → List ℕ) → byte f at ≡ 18 → checked (waiting_number (shape_for P.shape) f at (length (queue (byte f (at + 1)) (byte f (at + 2))))) at ≡ Err r
       → (r.place ≡ at) × WaitingFault P queue f at r.number
   unfolding waiting_number
   waiting_fault queue k q =
@@ -123,15 +122,15 @@ module _ (s : Shape) (f : List ℕ) (start : ℕ) (r : Refusal) where
     items : List EntryRecord
     stands : Stands f at (joined record_bytes items)
     stops : (let here = at + length (joined record_bytes items) in let d = added_all e items in
-        ((at_boundary f here ≡ true) × (finished s start here d ≡ bad r)) ⊎ ((at_boundary f here ≡ false) × (checked (body_number s f here d) here ≡ Refused r)))
+        ((at_boundary f here ≡ true) × (finished s start here d ≡ bad r)) ⊎ ((at_boundary f here ≡ false) × (checked (body_number s f here d) here ≡ Err r)))
 
-  now : (at : ℕ) (e : Configuration) → at ≤ length f → ((at_boundary f at ≡ true) × (finished s start at e ≡ bad r)) ⊎ ((at_boundary f at ≡ false) × (checked (body_number s f at e) at ≡ Refused r)) → Fail at e
+  now : (at : ℕ) (e : Configuration) → at ≤ length f → ((at_boundary f at ≡ true) × (finished s start at e ≡ bad r)) ⊎ ((at_boundary f at ≡ false) × (checked (body_number s f at e) at ≡ Err r)) → Fail at e
   now at e l w =
       let y : at ≡ at + 0 = omega arith in
       record {
         items = [];
         stands = record { fits = omega arith; same = λ k i. absurd (omega arith) };
-        stops = subst (λ (k : ℕ). ((at_boundary f k ≡ true) × (finished s start k e ≡ bad r)) ⊎ ((at_boundary f k ≡ false) × (checked (body_number s f k e) k ≡ Refused r))) y w;
+        stops = subst (λ (k : ℕ). ((at_boundary f k ≡ true) × (finished s start k e ≡ bad r)) ⊎ ((at_boundary f k ≡ false) × (checked (body_number s f k e) k ≡ Err r))) y w;
       }
 
   later : (at : ℕ) (e : Configuration) (b : Back f at e) → (at + body_size f at ≤ length f → Fail (at + body_size f at) (extended f at e)) → Fail at e
@@ -145,9 +144,9 @@ module _ (s : Shape) (f : List ℕ) (start : ℕ) (r : Refusal) where
         items = b.item ∷ R.items;
         stands = stands_join (record_bytes b.item) rest b.stands (stands_moved y R.stands);
         stops = subst (λ (c : Configuration). (let k = at + length (record_bytes b.item ++ rest) in let d = added_all c R.items in
-            ((at_boundary f k ≡ true) × (finished s start k d ≡ bad r)) ⊎ ((at_boundary f k ≡ false) × (checked (body_number s f k d) k ≡ Refused r)))) b.says
+            ((at_boundary f k ≡ true) × (finished s start k d ≡ bad r)) ⊎ ((at_boundary f k ≡ false) × (checked (body_number s f k d) k ≡ Err r)))) b.says
             (subst (λ (k : ℕ). (let d = added_all (extended f at e) R.items in
-            ((at_boundary f k ≡ true) × (finished s start k d ≡ bad r)) ⊎ ((at_boundary f k ≡ false) × (checked (body_number s f k d) k ≡ Refused r)))) x R.stops);
+            ((at_boundary f k ≡ true) × (finished s start k d ≡ bad r)) ⊎ ((at_boundary f k ≡ false) × (checked (body_number s f k d) k ≡ Err r)))) x R.stops);
       }
 
   past : (at : ℕ) → length f ≤ at → at_boundary f at ≡ true
@@ -161,11 +160,11 @@ module _ (s : Shape) (f : List ℕ) (start : ℕ) (r : Refusal) where
       go (λ b k. entry_fail bytes (at + body_size f at) (extended f at e) (omega (arith, b)) k) (at_boundary f at) refl (checked (body_number s f at e) at) refl q
     where
       go : (1 ≤ body_size f at → at + body_size f at ≤ length f → entry_from bytes s f start (at + body_size f at) (extended f at e) ≡ bad r → Fail (at + body_size f at) (extended f at e))
-          → (b : Bool) → at_boundary f at ≡ b → (x : Checked) → checked (body_number s f at e) at ≡ x
+          → (b : Bool) → at_boundary f at ≡ b → (x : Result ⊤ Refusal) → checked (body_number s f at e) at ≡ x
           → choose b (λ _. finished s start at e) (λ _. body_then x (λ _. entry_from bytes s f start (at + body_size f at) (extended f at e))) ≡ bad r → Fail at e
       go ih true d x c q = now at e l (inl (d, q))
-      go ih false d (Refused p) c q = now at e l (inr (d, c ∙ ap Refused (bad_same q)))
-      go ih false d Fine c q = let b = record_back s f at e c in later at e b (λ k. ih (some b) k q)
+      go ih false d (Err p) c q = now at e l (inr (d, c ∙ ap Err (bad_same q)))
+      go ih false d (Ok _) c q = let b = record_back s f at e c in later at e b (λ k. ih (some b) k q)
         where
           some : Back f at e → 1 ≤ body_size f at
           some b = least b.item b.size
@@ -199,7 +198,7 @@ module _ (P : pws.Program) (B : ShapeBegun P.shape) (f : List ℕ) (start : ℕ)
           let e = bad_same q in
           not_complete rec T edge (λ K. no_true (sym c ∙ complete_tells P B.shape d K)) (ap (λ (p : Refusal). p.number) (sym e)) (ap (λ (p : Refusal). p.place) (sym e))
 
-  by_record : at_boundary f place ≡ false → checked (body_number sh f place d) place ≡ Refused r → EntryFault P f start r
+  by_record : at_boundary f place ≡ false → checked (body_number sh f place d) place ≡ Err r → EntryFault P f start r
   unfolding at_boundary body_number is_kind checked
   by_record b q = go (eqb (byte f place) 17) refl (eqb (byte f place) 18) refl q
     where
@@ -215,7 +214,7 @@ module _ (P : pws.Program) (B : ShapeBegun P.shape) (f : List ℕ) (start : ℕ)
           both_false false i false j e = (leb-false (length f) place i, j)
 
       go : (x : Bool) → eqb (byte f place) 17 ≡ x → (y : Bool) → eqb (byte f place) 18 ≡ y
-          → checked (cond x (message_number sh f place (length d.memory.channel)) (cond y (waiting_number sh f place (length (d.queue (byte f (place + 1)) (byte f (place + 2))))) 2)) place ≡ Refused r
+          → checked (cond x (message_number sh f place (length d.memory.channel)) (cond y (waiting_number sh f place (length (d.queue (byte f (place + 1)) (byte f (place + 2))))) 2)) place ≡ Err r
           → EntryFault P f start r
       go true i y j q =
           let k = eqb-true (byte f place) 17 i in

@@ -1,4 +1,5 @@
 -- A file with a list that was read is the written form of what it was read as, in the order that its records stand in.
+use Rattle.std.specs.Prelude.{Result, Ok, Err, ⊤}
 use Prim.Native.Nat.{ℕ, zero, suc, ◌+◌, ◌*◌, ◌-◌, ◌<◌, ◌≤◌}
 use mathlib.Core.Path.{◌≡◌, refl, sym, ap, ap₂, subst, ◌∙◌}
 use mathlib.Core.Bool.{Bool, true, false, cond, ◌&&◌, not}
@@ -13,11 +14,9 @@ use Rattle.machine_pws.specs.Machine.{Configuration}
 use Rattle.file_records.specs.declared.program.Shape.{Shape}
 use Rattle.file_records.specs.declared.program.Program.{Program}
 use Rattle.file_records.specs.declared.program.Refusal.{Refusal}
-use Rattle.file_records.specs.declared.program.Checked.{Checked}
-use Rattle.file_records.specs.declared.program.Checked.TheVariants.{Fine, Refused}
 use Rattle.base.specs.Bytes.{byte, choose, cut}
 use Rattle.file_records.specs.Records.{checked, is_kind, exists, state_at, pointer_at, entry_number, message_at, message_number, message_names, waiting_number, waiting_names}
-use Rattle.file_records.specs.ProgramPart.{program_from, program_of, targets_of}
+use Rattle.file_records.specs.ProgramPart.{program_from, program_of, targets_of, program_read}
 use Rattle.file_contents.specs.EvidencePart.{beginning, with_message, with_waiting, extended, body_size, body_number, complete, EntryRead, whole, bad, at_boundary, finished, body_then, entry_from, entry_read, EntriesRead, head_then, entry_then, entries_from, entries_allowed}
 use Rattle.file_contents.specs.Reading.{Input, combined, pair, evidence_at, FileRead, refused, list, run, pso_run, read_file}
 use Rattle.base.proofs.ByteLaws.{cut_fits}
@@ -41,15 +40,15 @@ pub record Back (f : List ℕ) (at : ℕ) (e : Configuration) : Type 0 where
   pub says : extended f at e ≡ added e item
   pub size : body_size f at ≡ length (record_bytes item)
 
-pub record_back : (s : Shape) (f : List ℕ) (at : ℕ) (e : Configuration) → checked (body_number s f at e) at ≡ Fine → Back f at e
+pub record_back : (s : Shape) (f : List ℕ) (at : ℕ) (e : Configuration) → checked (body_number s f at e) at ≡ Ok tt → Back f at e
 unfolding body_number message_number waiting_number checked extended body_size
 record_back s f at e d = go (is_kind f at 17) refl (is_kind f at 18) refl d
   where
-    two : checked 2 at ≡ Fine → ⊥
+    two : checked 2 at ≡ Ok tt → ⊥
     two q = let z : ◌≡◌ {A = ℕ} 0 1 = cc in omega arith
 
     go : (a : Bool) → is_kind f at 17 ≡ a → (b : Bool) → is_kind f at 18 ≡ b
-        → checked (cond a (message_number s f at (length e.memory.channel)) (cond b (waiting_number s f at (length (e.queue (byte f (at + 1)) (byte f (at + 2))))) 2)) at ≡ Fine
+        → checked (cond a (message_number s f at (length e.memory.channel)) (cond b (waiting_number s f at (length (e.queue (byte f (at + 1)) (byte f (at + 2))))) 2)) at ≡ Ok tt
         → Back f at e
     go true k b j q =
         let g : Good false (cut f at 6) (leb 16 (length e.memory.channel)) false (not (message_names s f at)) = good at q in
@@ -101,11 +100,11 @@ module _ (s : Shape) (f : List ℕ) (start : ℕ) where
   body_back (suc bytes) at e d next q l = go (body_back bytes (at + body_size f at) (extended f at e) d next) (at_boundary f at) (checked (body_number s f at e) at) refl q
     where
       go : (entry_from bytes s f start (at + body_size f at) (extended f at e) ≡ whole d next → at + body_size f at ≤ length f → Body (at + body_size f at) (extended f at e) d next)
-          → (b : Bool) (x : Checked) → checked (body_number s f at e) at ≡ x
+          → (b : Bool) (x : Result ⊤ Refusal) → checked (body_number s f at e) at ≡ x
           → choose b (λ _. finished s start at e) (λ _. body_then x (λ _. entry_from bytes s f start (at + body_size f at) (extended f at e))) ≡ whole d next → Body at e d next
       go ih true x k q = none at e l d next q
-      go ih false (Refused r) k q = absurd (bad_whole q)
-      go ih false Fine k q = one_more at e d next (record_back s f at e k) (ih q)
+      go ih false (Err r) k q = absurd (bad_whole q)
+      go ih false (Ok _) k q = one_more at e d next (record_back s f at e k) (ih q)
 
 -- ---- an entry
 
@@ -125,7 +124,7 @@ module _ (s : Shape) (states f : List ℕ) where
     ends : next ≡ at + length (entry_bytes records)
     says : entry_of records ≡ e
 
-  entry_back : (at : ℕ) (e : Configuration) (next : ℕ) → checked (entry_number s states f at false) at ≡ Fine → entry_read s f at ≡ whole e next → Entry at e next
+  entry_back : (at : ℕ) (e : Configuration) (next : ℕ) → checked (entry_number s states f at false) at ≡ Ok tt → entry_read s f at ≡ whole e next → Entry at e next
   unfolding entry_read
   entry_back at e next h q =
       let g = entry_fine f at s states false h in
@@ -148,30 +147,30 @@ module _ (s : Shape) (states f : List ℕ) where
     ends : length f ≡ at + length (joined entry_bytes records)
     says : r.entries ≡ es ++ entries_of records
 
-  nothing : (at : ℕ) (os : List ℕ) (es : List Configuration) → at ≤ length f → leb (length f) at ≡ true → Rest at es (record { offsets = os; entries = es; answer = Fine })
+  nothing : (at : ℕ) (os : List ℕ) (es : List Configuration) → at ≤ length f → leb (length f) at ≡ true → Rest at es (record { offsets = os; entries = es; answer = Ok tt })
   nothing at os es l e =
       let m = leb-true (length f) at e in
       record { records = []; stands = record { fits = omega arith; same = λ k i. absurd (omega arith) }; ends = omega arith; says = sym (append-nil es) }
 
-  last : (at : ℕ) (os : List ℕ) (es : List Configuration) → at ≤ length f → (b : Bool) → leb (length f) at ≡ b → (x : Checked) → checked (entry_number s states f at true) at ≡ x
-      → (let r : EntriesRead = choose b (λ _. record { offsets = os; entries = es; answer = Fine }) (λ _. head_then x os es (λ _. record { offsets = os; entries = es; answer = Fine })) in
-      r.answer ≡ Fine → Rest at es r)
+  last : (at : ℕ) (os : List ℕ) (es : List Configuration) → at ≤ length f → (b : Bool) → leb (length f) at ≡ b → (x : Result ⊤ Refusal) → checked (entry_number s states f at true) at ≡ x
+      → (let r : EntriesRead = choose b (λ _. record { offsets = os; entries = es; answer = Ok tt }) (λ _. head_then x os es (λ _. record { offsets = os; entries = es; answer = Ok tt })) in
+      r.answer ≡ Ok tt → Rest at es r)
   last at os es l true e x d q = nothing at os es l e
-  last at os es l false e Fine d q = absurd (no_true (sym (entry_fine f at s states true d).room))
-  last at os es l false e (Refused r) d q = absurd (fine_refused (sym q))
+  last at os es l false e (Ok _) d q = absurd (no_true (sym (entry_fine f at s states true d).room))
+  last at os es l false e (Err r) d q = absurd (fine_refused (sym q))
 
   longer : (left at : ℕ) (os : List ℕ) (es : List Configuration) → at ≤ length f
-      → ((e : Configuration) (next : ℕ) → next ≤ length f → (entries_from left s states f next (os ++ (at ∷ [])) (es ++ (e ∷ []))).answer ≡ Fine
+      → ((e : Configuration) (next : ℕ) → next ≤ length f → (entries_from left s states f next (os ++ (at ∷ [])) (es ++ (e ∷ []))).answer ≡ Ok tt
       → Rest next (es ++ (e ∷ [])) (entries_from left s states f next (os ++ (at ∷ [])) (es ++ (e ∷ []))))
-      → (b : Bool) → leb (length f) at ≡ b → (x : Checked) → checked (entry_number s states f at false) at ≡ x → (y : EntryRead) → entry_read s f at ≡ y
+      → (b : Bool) → leb (length f) at ≡ b → (x : Result ⊤ Refusal) → checked (entry_number s states f at false) at ≡ x → (y : EntryRead) → entry_read s f at ≡ y
       → (let r : EntriesRead =
-      choose b (λ _. record { offsets = os; entries = es; answer = Fine })
+      choose b (λ _. record { offsets = os; entries = es; answer = Ok tt })
       (λ _. head_then x os es (λ _. entry_then y os es (λ e next. entries_from left s states f next (os ++ (at ∷ [])) (es ++ (e ∷ []))))) in
-      r.answer ≡ Fine → Rest at es r)
+      r.answer ≡ Ok tt → Rest at es r)
   longer left at os es l ih true e x d y c q = nothing at os es l e
-  longer left at os es l ih false e (Refused r) d y c q = absurd (fine_refused (sym q))
-  longer left at os es l ih false e Fine d (bad r) c q = absurd (fine_refused (sym q))
-  longer left at os es l ih false e Fine d (whole c' next) c q =
+  longer left at os es l ih false e (Err r) d y c q = absurd (fine_refused (sym q))
+  longer left at os es l ih false e (Ok _) d (bad r) c q = absurd (fine_refused (sym q))
+  longer left at os es l ih false e (Ok _) d (whole c' next) c q =
       let E = entry_back at c' next d c in
       let ends = E.ends in
       let R = ih c' next (omega (arith, E.stands.fits)) q in
@@ -182,7 +181,7 @@ module _ (s : Shape) (states f : List ℕ) where
         says = R.says ∙ append_assoc es (c' ∷ []) (entries_of R.records) ∙ ap (λ (c : Configuration). es ++ (c ∷ entries_of R.records)) (sym E.says);
       }
 
-  entries_back : (left at : ℕ) (os : List ℕ) (es : List Configuration) → at ≤ length f → (entries_from left s states f at os es).answer ≡ Fine → Rest at es (entries_from left s states f at os es)
+  entries_back : (left at : ℕ) (os : List ℕ) (es : List Configuration) → at ≤ length f → (entries_from left s states f at os es).answer ≡ Ok tt → Rest at es (entries_from left s states f at os es)
   unfolding entries_from
   entries_back zero at os es l q = last at os es l (leb (length f) at) refl (checked (entry_number s states f at true) at) refl q
   entries_back (suc left) at os es l q =
@@ -196,7 +195,7 @@ module _ (x : Input) (area : ℕ) (L : ListParts x area) where
   f = x.file
 
   abbrev p : Program
-  p = (program_from x.alone x.code 0).program
+  p = program_read (program_from x.alone x.code 0)
 
   abbrev at : ℕ
   at = evidence_at x p
@@ -238,7 +237,7 @@ module _ (x : Input) (area : ℕ) (G : pws.Program → List (ℕ → ℕ) → Li
       go : Outcome x area → HeldAs G (read_file x area)
       go (outcome_refused w r a b) = subst (HeldAs G) (sym b) tt
       go (outcome_list L) = subst (HeldAs G) (sym (file_list x area L)) (h L)
-      go (outcome_run R) = subst (HeldAs G) (sym (file_run x area R)) (no_list (eqb (byte x.file (evidence_at x (program_from x.alone x.code 0).program + 1)) 1) _ _ _ _)
+      go (outcome_run R) = subst (HeldAs G) (sym (file_run x area R)) (no_list (eqb (byte x.file (evidence_at x (program_read (program_from x.alone x.code 0)) + 1)) 1) _ _ _ _)
 
 abbrev One : List ℕ → pws.Program → List (ℕ → ℕ) → List Configuration → Type 0
 One f P ts es = (rs : List EntryRecords) × (entries_of rs ≡ es) × (f ≡ program_bytes P ts ++ list_bytes rs)

@@ -1,4 +1,5 @@
 -- A written list is read as what was written.
+use Rattle.std.specs.Prelude.{Ok}
 use Prim.Native.Nat.{ℕ, zero, suc, ◌+◌, ◌*◌, ◌<◌, ◌≤◌}
 use mathlib.Core.Path.{◌≡◌, refl, sym, ap, ap₂, subst, ◌∙◌}
 use mathlib.Core.Bool.{Bool, true, false, ◌||◌}
@@ -10,7 +11,6 @@ use borrow.Author.Tests.{le-leb, lt-leb}
 use Rattle.machine_pws.specs.Program as pws
 use Rattle.machine_pws.specs.Machine.{Configuration}
 use Rattle.machine_pws.specs.Entries.{entry}
-use Rattle.file_records.specs.declared.program.Checked.TheVariants.{Fine}
 use Rattle.base.specs.Bytes.{byte, choose}
 use Rattle.file_records.specs.Records.{checked, value_count, is_kind, entry_number}
 use Rattle.file_contents.specs.EvidencePart.{at_boundary, whole, entry_read, EntriesRead, entries_from, entries_allowed}
@@ -44,12 +44,12 @@ module _ (P : pws.Program) (range : pws.ShapeInRange P.shape) (counts : (v : ℕ
       any true = refl
       any false = refl
 
-  ends_here : (left at : ℕ) (os : List ℕ) (es : List Configuration) → length f ≤ at → entries_from left (shape_for P.shape) states f at os es ≡ record { offsets = os; entries = es; answer = Fine }
+  ends_here : (left at : ℕ) (os : List ℕ) (es : List Configuration) → length f ≤ at → entries_from left (shape_for P.shape) states f at os es ≡ record { offsets = os; entries = es; answer = Ok tt }
   unfolding entries_from
   ends_here zero at os es l = rw (le-leb (length f) at l)
   ends_here (suc left) at os es l = rw (le-leb (length f) at l)
 
-  goes_on : (left at next : ℕ) (os : List ℕ) (es : List Configuration) (e : Configuration) → at < length f → checked (entry_number (shape_for P.shape) states f at false) at ≡ Fine
+  goes_on : (left at next : ℕ) (os : List ℕ) (es : List Configuration) (e : Configuration) → at < length f → checked (entry_number (shape_for P.shape) states f at false) at ≡ Ok tt
       → entry_read (shape_for P.shape) f at ≡ whole e next
       → entries_from (suc left) (shape_for P.shape) states f at os es ≡ entries_from left (shape_for P.shape) states f next (os ++ (at ∷ [])) (es ++ (e ∷ []))
   unfolding entries_from
@@ -58,14 +58,14 @@ module _ (P : pws.Program) (range : pws.ShapeInRange P.shape) (counts : (v : ℕ
   -- the entries, and their offsets
   record Reads (left at : ℕ) (os : List ℕ) (es more : List Configuration) : Type 0 where
     offsets : List ℕ
-    reads : entries_from left (shape_for P.shape) states f at os es ≡ record { offsets = offsets; entries = es ++ more; answer = Fine }
+    reads : entries_from left (shape_for P.shape) states f at os es ≡ record { offsets = offsets; entries = es ++ more; answer = Ok tt }
 
   list_read : (rs : List EntryRecords) (left at : ℕ) (os : List ℕ) (es : List Configuration) → ((k : ℕ) → k < length (entries_of rs) → EntryRange P (entry (entries_of rs) k)) → length rs ≤ left
       → Stands f at (joined entry_bytes rs) → length f ≡ at + length (joined entry_bytes rs) → Reads left at os es (entries_of rs)
   list_read [] left at os es w l T e =
       record {
         offsets = os;
-        reads = ends_here left at os es (omega arith) ∙ ap (λ (es : List Configuration). record { offsets = os; entries = es; answer = Fine }) (sym (append-nil es));
+        reads = ends_here left at os es (omega arith) ∙ ap (λ (es : List Configuration). record { offsets = os; entries = es; answer = Ok tt }) (sym (append-nil es));
       }
   list_read (r ∷ rs) zero at os es w l T e = absurd (omega arith)
   list_read (r ∷ rs) (suc left) at os es w l T e =
@@ -82,7 +82,7 @@ module _ (P : pws.Program) (range : pws.ShapeInRange P.shape) (counts : (v : ℕ
             goes_on left at next os es (entry_of r) (omega (arith, H.fits, length-append (head_bytes r) (joined record_bytes r.body))) (head_passes P range counts states stated r E f at H)
             (entry_written P range counts states stated r E f at H (edge next rs R end))
             ∙ M.reads
-            ∙ ap (λ (es : List Configuration). record { offsets = M.offsets; entries = es; answer = Fine }) (append_assoc es (entry_of r ∷ []) (entries_of rs));
+            ∙ ap (λ (es : List Configuration). record { offsets = M.offsets; entries = es; answer = Ok tt }) (append_assoc es (entry_of r ∷ []) (entries_of rs));
       }
 
 module _ (P : pws.Program) (ts : List (ℕ → ℕ)) (rs : List EntryRecords) (area : ℕ) (K : ProgramContents P ts) (W : ListRead P ts (entries_of rs) area) (large : 65536 ≤ area)

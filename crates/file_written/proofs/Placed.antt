@@ -1,4 +1,6 @@
 -- A written program part and what follows it, in one file or in two.
+use Rattle.std.specs.Prelude.{Result, Ok}
+use Rattle.file_records.specs.declared.program.Refusal.{Refusal}
 use Prim.Native.Nat.{ℕ, ◌+◌, ◌≤◌}
 use mathlib.Core.Path.{◌≡◌, refl, sym, ap, subst, ◌∙◌}
 use mathlib.Core.Bool.{Bool, true, false}
@@ -8,10 +10,8 @@ use lib.ListN.{length, length-append}
 use borrow.Author.Tests.{le-leb}
 use Rattle.machine_pws.specs.Program as pws
 use Rattle.file_records.specs.declared.program.Program.{Program}
-use Rattle.file_records.specs.declared.program.ProgramRead.{ProgramRead}
-use Rattle.file_records.specs.declared.program.Checked.TheVariants.{Fine}
 use Rattle.file_records.specs.Records.{is_kind}
-use Rattle.file_records.specs.ProgramPart.{program_from, program_of, targets_of}
+use Rattle.file_records.specs.ProgramPart.{program_from, program_of, targets_of, whether, program_read}
 use Rattle.file_contents.specs.Reading.{Input, combined, pair, evidence_at, two_parts, parts_of, parts_read, evidence_read, evidence_from, read_file}
 use Rattle.file_contents.proofs.ReadingLaws.{parts_both}
 use Rattle.file_written.specs.Written.{program_bytes}
@@ -22,7 +22,7 @@ use Rattle.file_written.proofs.ProgramWritten.{placed, program_length, part_plac
 
 pub record Placed (x : Input) (P : pws.Program) (ts : List (ℕ → ℕ)) (evidence : List ℕ) : Type 0 where
   pub at : ℕ
-  pub part : program_from x.alone x.code 0 ≡ record { answer = Fine; program = placed P ts 0 }
+  pub part : program_from x.alone x.code 0 ≡ Ok (placed P ts 0)
   pub program : program_of x.code (placed P ts 0) ≡ P
   pub targets : targets_of x.code (placed P ts 0) ≡ ts
   pub begins : evidence_at x (placed P ts 0) ≡ at
@@ -73,8 +73,8 @@ pub placed_read : {x : Input} {P : pws.Program} {ts : List (ℕ → ℕ)} {evide
     → read_file x area ≡ evidence_read x (placed P ts 0) (evidence_from x.file L.at (placed P ts 0) area)
 unfolding read_file
 placed_read {x} {P} {ts} L area l =
-    let fine = ap (λ (r : ProgramRead). r.answer) L.part in
-    let program = ap (λ (r : ProgramRead). r.program) L.part in
+    let fine = ap (λ (r : Result Program Refusal). whether r) L.part in
+    let program = ap (λ (r : Result Program Refusal). program_read r) L.part in
     ap (parts_read x) (parts_both x area l fine)
     ∙ ap (λ (p : Program). evidence_read x p (evidence_from x.file (evidence_at x p) p area)) program
     ∙ ap (λ (k : ℕ). evidence_read x (placed P ts 0) (evidence_from x.file k (placed P ts 0) area)) L.begins

@@ -1,4 +1,5 @@
 -- Each record of the program part, and the part as a whole, in the table's words.
+use Rattle.std.specs.Prelude.{Result, Ok, Err, ⊤}
 use Prim.Native.Nat.{ℕ, zero, suc, ◌+◌, ◌*◌, ◌-◌, ◌<◌, ◌≤◌}
 use mathlib.Core.Path.{◌≡◌, refl, sym, ap, subst, ◌∙◌}
 use mathlib.Core.Logic.{◌⊎◌, inl, inr, ⊎_elim}
@@ -15,13 +16,9 @@ use Rattle.machine_pws.specs.Configurations.{StatesOf}
 use Rattle.file_records.specs.declared.program.Format.TheVariants.{Plain}
 use Rattle.file_records.specs.declared.program.Shape.{Shape}
 use Rattle.file_records.specs.declared.program.Refusal.{Refusal}
-use Rattle.file_records.specs.declared.program.Checked.{Checked}
-use Rattle.file_records.specs.declared.program.Checked.TheVariants.{Fine, Refused}
-use Rattle.file_records.specs.declared.program.Counted.{Counted}
-use Rattle.file_records.specs.declared.program.Counted.TheVariants.{Records, Stopped}
 use Rattle.base.specs.Bytes.{byte, choose, cut}
 use Rattle.file_records.specs.Records.{first_number, checked, is_kind, in_range, shape_at, shape_number, value_count, count_in_range, counts_in_range, count_if_absent, counts_if_absent, states_number, transition_at, transition_number, transition_names, state_at, state_names, target_number}
-use Rattle.file_records.specs.ProgramPart.{unless_end, row_from, states_from, of_process, of_processes, transitions_from, at_end, targets_from, rows_from, rest_from, program_with, program_from, shape_of, table_from}
+use Rattle.file_records.specs.ProgramPart.{unless_end, row_from, states_from, of_process, of_processes, transitions_from, at_end, targets_from, rows_from, rest_from, program_with, program_from, shape_of, table_from, whether}
 use Rattle.file_records.proofs.RecordLaws.{fine_refused, refused_same, unless_fine, transition_fine, target_fine}
 use Rattle.base.proofs.ByteLaws.{byte_past}
 use Rattle.file_records.proofs.ProgramLaws.{and_true, transitions_most, targets_most}
@@ -99,7 +96,7 @@ module _ (f : List ℕ) (at : ℕ) where
   unfolding counts_if_absent
   absents_tell h = let c = absent_tells h in not_so (both (c 0 (omega arith)) (both (c 1 (omega arith)) (both (c 2 (omega arith)) (c 3 (omega arith)))))
 
-  shape_fault : (r : Refusal) → checked (shape_number Plain f at) at ≡ Refused r → (r.place ≡ at) × ShapeFault f at r.number
+  shape_fault : (r : Refusal) → checked (shape_number Plain f at) at ≡ Err r → (r.place ≡ at) × ShapeFault f at r.number
   unfolding shape_number
   shape_fault r q =
       fault_of f at 6 (byte f at ≡ 1) ⊥ (ShapeNumbers f at) (AbsentCounts f at) r
@@ -115,7 +112,7 @@ module _ (f : List ℕ) (at : ℕ) where
 
   -- ---- 02
 
-  states_fault : (r : Refusal) → checked (states_number f at) at ≡ Refused r → (r.place ≡ at) × StatesFault f at r.number
+  states_fault : (r : Refusal) → checked (states_number f at) at ≡ Err r → (r.place ≡ at) × StatesFault f at r.number
   unfolding states_number
   states_fault r q =
       fault_of f at 2 (byte f at ≡ 2) ⊥ ((1 ≤ byte f (at + 1)) × (byte f (at + 1) ≤ 32)) (byte f (at + 2) < byte f (at + 1)) r
@@ -133,7 +130,7 @@ module _ (f : List ℕ) (at : ℕ) where
 
 module _ (P : pws.Program) (s : Shape) (states : List ℕ) (processes : s.processes ≡ P.shape.processes) (variables : s.variables ≡ P.shape.variables)
     (counts : (v : ℕ) → value_count s v ≡ P.shape.values v) (stated : (p : ℕ) → get_or states p 0 ≡ P.states p) (f : List ℕ) (at : ℕ) (r : Refusal) where
-  transition_fault : (n : ℕ) → n ≡ length P.transitions → checked (transition_number Plain s states f at n) at ≡ Refused r → (r.place ≡ at) × TransitionFault P f at r.number
+  transition_fault : (n : ℕ) → n ≡ length P.transitions → checked (transition_number Plain s states f at n) at ≡ Err r → (r.place ≡ at) × TransitionFault P f at r.number
   unfolding transition_number
   transition_fault n e q =
       fault_of f at 7 (byte f at ≡ 3) (256 ≤ length P.transitions) Unit ((t : Transition) × pws.TransitionOf P t × Stands f at (transition_bytes t)) r
@@ -147,7 +144,7 @@ module _ (P : pws.Program) (s : Shape) (states : List ℕ) (processes : s.proces
         names = λ h. not_so (transition_names_lem f at h.0 h.2 s states P processes variables counts stated h.1);
       }) q
 
-  target_fault : (ts : List (ℕ → ℕ)) (n : ℕ) → n ≡ length ts → checked (target_number Plain s states f at n) at ≡ Refused r → (r.place ≡ at) × TargetFault P ts f at r.number
+  target_fault : (ts : List (ℕ → ℕ)) (n : ℕ) → n ≡ length ts → checked (target_number Plain s states f at n) at ≡ Err r → (r.place ≡ at) × TargetFault P ts f at r.number
   unfolding target_number
   target_fault ts n e q =
       fault_of f at 4 (byte f at ≡ 4) (4096 ≤ length ts) Unit ((t : ℕ → ℕ) × StatesOf P t × Stands f at (target_bytes t)) r
@@ -163,7 +160,7 @@ module _ (P : pws.Program) (s : Shape) (states : List ℕ) (processes : s.proces
 
 -- ---- beginnings
 
-module _ (f : List ℕ) (first_Fine : unless_end f 0 (checked (shape_number Plain f 0) 0) ≡ Fine) where
+module _ (f : List ℕ) (first_Fine : unless_end f 0 (checked (shape_number Plain f 0) 0) ≡ Ok tt) where
   abbrev shaped : Shape
   shaped = shape_at f 0
 
@@ -197,7 +194,7 @@ module _ (f : List ℕ) (first_Fine : unless_end f 0 (checked (shape_number Plai
       }
 
   -- the first k processes
-  module _ (k : ℕ) (l : k ≤ shaped.processes) (q : states_from f 7 k ≡ Fine) (ts : List Transition) where
+  module _ (k : ℕ) (l : k ≤ shaped.processes) (q : states_from f 7 k ≡ Ok tt) (ts : List Transition) where
     abbrev begun_with : pws.Program
     begun_with = record { shape = shape_of shaped; states = λ p. get_or (of_processes f 7 1 k) p 0; initial = λ p. get_or (of_processes f 7 2 k) p 0; transitions = ts }
 
@@ -224,7 +221,7 @@ module _ (f : List ℕ) (first_Fine : unless_end f 0 (checked (shape_number Plai
     begun_length = omega (arith, second_length, length-append (shape_bytes (shape_of shaped)) (joined (states_bytes begun_with) (numbers k)))
 
   -- and n transitions and m targets
-  module _ (q : states_from f 7 shaped.processes ≡ Fine) (n m : ℕ) (fewer : n ≤ 256) (fewest : m ≤ 4096) where
+  module _ (q : states_from f 7 shaped.processes ≡ Ok tt) (n m : ℕ) (fewer : n ≤ 256) (fewest : m ≤ 4096) where
     abbrev states : List ℕ
     states = of_processes f 7 1 shaped.processes
 
@@ -249,8 +246,8 @@ module _ (f : List ℕ) (first_Fine : unless_end f 0 (checked (shape_number Plai
     rows_length : length (program_bytes P ts) ≡ second + 5 * m
     rows_length = omega (arith, program_length P ts, count₁, count₂)
 
-    module _ (taken : (i : ℕ) → i < n → checked (transition_number Plain shaped states f (first + 8 * i) (0 + i)) (first + 8 * i) ≡ Fine)
-        (aimed : (i : ℕ) → i < m → checked (target_number Plain shaped states f (second + 5 * i) (0 + i)) (second + 5 * i) ≡ Fine) where
+    module _ (taken : (i : ℕ) → i < n → checked (transition_number Plain shaped states f (first + 8 * i) (0 + i)) (first + 8 * i) ≡ Ok tt)
+        (aimed : (i : ℕ) → i < m → checked (target_number Plain shaped states f (second + 5 * i) (0 + i)) (second + 5 * i) ≡ Ok tt) where
       rows_begun : RowsBegun P ts
       rows_begun =
           record {
@@ -297,13 +294,13 @@ inside : (f : List ℕ) (at k : ℕ) → byte f at ≡ suc k → at < length f
 inside f at k e = elim (dec_lt at (length f)) [ yes l ↦ l | no l ↦ absurd (omega (arith, byte_past f at (omega arith))) ]
 
 module _ (alone : Bool) (f : List ℕ) (r : Refusal) where
-  by_shape : unless_end f 0 (checked (shape_number Plain f 0) 0) ≡ Refused r → ProgramFault alone f r
+  by_shape : unless_end f 0 (checked (shape_number Plain f 0) 0) ≡ Err r → ProgramFault alone f r
   by_shape q = ⊎_elim
       (λ a. ends_before a.1 a.2 (omega (arith, a.0)))
       (λ a. let w = shape_fault f 0 r a.1 in in_shape a.0 w.0 w.1) (unless_refused f 0 _ r q)
 
-  module _ (A : unless_end f 0 (checked (shape_number Plain f 0) 0) ≡ Fine) where
-    by_states : states_from f 7 (shape_at f 0).processes ≡ Refused r → ProgramFault alone f r
+  module _ (A : unless_end f 0 (checked (shape_number Plain f 0) 0) ≡ Ok tt) where
+    by_states : states_from f 7 (shape_at f 0).processes ≡ Err r → ProgramFault alone f r
     by_states q =
         let S = states_stopped f 7 (shape_at f 0).processes r q in
         let k = S.count in
@@ -318,7 +315,7 @@ module _ (alone : Bool) (f : List ℕ) (r : Refusal) where
         in_states _ k B S.less T (w.0 ∙ sym n) (omega (arith, w.0, a.0)) (subst (λ (i : ℕ). StatesFault f i r.number) (sym w.0) w.1))
         (unless_refused f (7 + 3 * k) _ r S.stops)
 
-    module _ (Q : states_from f 7 (shape_at f 0).processes ≡ Fine) where
+    module _ (Q : states_from f 7 (shape_at f 0).processes ≡ Ok tt) where
       abbrev sh : Shape
       sh = shape_at f 0
 
@@ -328,13 +325,13 @@ module _ (alone : Bool) (f : List ℕ) (r : Refusal) where
       abbrev begins : ℕ
       begins = 7 + 3 * sh.processes
 
-      by_transitions : transitions_from Plain sh st f begins ≡ Stopped r → ProgramFault alone f r
+      by_transitions : transitions_from Plain sh st f begins ≡ Err r → ProgramFault alone f r
       unfolding transitions_from
       by_transitions q =
           let S = row_stopped (λ k n. not (is_kind f k 3)) (λ k n. checked (transition_number Plain sh st f k n) k) (λ k. 8) r 256 begins 0 q in
           let n = S.count in
-          let taken : (i : ℕ) → i < n → checked (transition_number Plain sh st f (begins + 8 * i) (0 + i)) (begins + 8 * i) ≡ Fine = λ i l. rw (place_eight begins i) at (S.before i l) in
-          let none : (i : ℕ) → i < 0 → checked (target_number Plain sh st f (begins + 8 * n + 5 * i) (0 + i)) (begins + 8 * n + 5 * i) ≡ Fine = λ i l. absurd (omega arith) in
+          let taken : (i : ℕ) → i < n → checked (transition_number Plain sh st f (begins + 8 * i) (0 + i)) (begins + 8 * i) ≡ Ok tt = λ i l. rw (place_eight begins i) at (S.before i l) in
+          let none : (i : ℕ) → i < 0 → checked (target_number Plain sh st f (begins + 8 * n + 5 * i) (0 + i)) (begins + 8 * n + 5 * i) ≡ Ok tt = λ i l. absurd (omega arith) in
           let goes = rw (place_eight begins n) at S.goes in
           let stops = rw (place_eight begins n) at S.stops in
           let c = count₁ f A Q n 0 S.most (omega arith) in
@@ -346,11 +343,11 @@ module _ (alone : Bool) (f : List ℕ) (r : Refusal) where
           (omega (arith, rows_length f A Q n 0 S.most (omega arith))) (omega (arith, inside f (begins + 8 * n) 2 three)) (ap (byte f) place ∙ three)
           (subst (λ (i : ℕ). TransitionFault (P f A Q n 0 S.most (omega arith)) f i r.number) (sym place) w.1)
 
-      module _ (n : ℕ) (reads : transitions_from Plain sh st f begins ≡ Records n) where
+      module _ (n : ℕ) (reads : transitions_from Plain sh st f begins ≡ Ok n) where
         most : n ≤ 256
         most = transitions_most Plain sh st f begins n reads
 
-        taken : (i : ℕ) → i < n → checked (transition_number Plain sh st f (begins + 8 * i) (0 + i)) (begins + 8 * i) ≡ Fine
+        taken : (i : ℕ) → i < n → checked (transition_number Plain sh st f (begins + 8 * i) (0 + i)) (begins + 8 * i) ≡ Ok tt
         unfolding transitions_from
         taken i l =
             let e = row_each (λ k n. not (is_kind f k 3)) (λ k n. checked (transition_number Plain sh st f k n) k) (λ k. 8) 256 begins 0 n reads i (omega arith) in
@@ -383,16 +380,16 @@ module _ (alone : Bool) (f : List ℕ) (r : Refusal) where
               no_true (sym (subst (λ (b : Bool). (cond b (leb (length f) at) (eqb (byte f at) 15) && leb 1 j) ≡ false) c e) ∙ t)),
         )
 
-        by_targets : targets_from Plain alone sh st f ends ≡ Stopped r → ProgramFault alone f r
+        by_targets : targets_from Plain alone sh st f ends ≡ Err r → ProgramFault alone f r
         unfolding targets_from at_end
         by_targets q =
             let S = row_stopped (at_end alone f) (λ k n. unless_end f k (checked (target_number Plain sh st f k n) k)) (λ k. 5) r 4096 ends 0 q in
             let m = S.count in
             let place : ℕ = ends + 5 * m in
-            let aimed : (i : ℕ) → i < m → checked (target_number Plain sh st f (ends + 5 * i) (0 + i)) (ends + 5 * i) ≡ Fine =
+            let aimed : (i : ℕ) → i < m → checked (target_number Plain sh st f (ends + 5 * i) (0 + i)) (ends + 5 * i) ≡ Ok tt =
             λ i l. (unless_fine f (ends + 5 * i) _ (rw (place_five ends i) at (S.before i l))).1 in
             let goes : at_end alone f place (0 + m) ≡ false = rw (place_five ends m) at S.goes in
-            let stops : unless_end f place (checked (target_number Plain sh st f place (0 + m)) place) ≡ Refused r = rw (place_five ends m) at S.stops in
+            let stops : unless_end f place (checked (target_number Plain sh st f place (0 + m)) place) ≡ Err r = rw (place_five ends m) at S.stops in
             let N = not_ended alone place (0 + m) goes in
             let PP = P f A Q n m most S.most in
             let us = ts f A Q n m most S.most in
@@ -415,19 +412,19 @@ module _ (alone : Bool) (f : List ℕ) (r : Refusal) where
   -- ---- which of them it is
 
   abbrev answer : Type 0
-  answer = (program_from alone f 0).answer ≡ Refused r
+  answer = whether (program_from alone f 0) ≡ Err r
 
-  by_parts : answer → (x y : Checked) (n : Counted) → unless_end f 0 (checked (shape_number Plain f 0) 0) ≡ x → states_from f 7 (shape_at f 0).processes ≡ y
+  by_parts : answer → (x y : Result ⊤ Refusal) (n : Result ℕ Refusal) → unless_end f 0 (checked (shape_number Plain f 0) 0) ≡ x → states_from f 7 (shape_at f 0).processes ≡ y
       → transitions_from Plain (shape_at f 0) (of_processes f 7 1 (shape_at f 0).processes) f (7 + 3 * (shape_at f 0).processes) ≡ n → ProgramFault alone f r
   unfolding program_with rest_from rows_from
-  by_parts q (Refused p) y n a b c = by_shape (a ∙ (sym (rw a) ∙ q))
-  by_parts q Fine (Refused p) n a b c = by_states a (b ∙ (sym (rw (a, b)) ∙ q))
-  by_parts q Fine Fine (Stopped p) a b c = by_transitions a b (c ∙ ap Stopped (refused_same (sym (rw (a, b, c)) ∙ q)))
-  by_parts q Fine Fine (Records n) a b c = go (targets_from Plain alone (shape_at f 0) (of_processes f 7 1 (shape_at f 0).processes) f (7 + 3 * (shape_at f 0).processes + 8 * n)) refl
+  by_parts q (Err p) y n a b c = by_shape (a ∙ (sym (rw a) ∙ q))
+  by_parts q (Ok _) (Err p) n a b c = by_states a (b ∙ (sym (rw (a, b)) ∙ q))
+  by_parts q (Ok _) (Ok _) (Err p) a b c = by_transitions a b (c ∙ ap Err (refused_same (sym (rw (a, b, c)) ∙ q)))
+  by_parts q (Ok _) (Ok _) (Ok n) a b c = go (targets_from Plain alone (shape_at f 0) (of_processes f 7 1 (shape_at f 0).processes) f (7 + 3 * (shape_at f 0).processes + 8 * n)) refl
     where
-      go : (m : Counted) → targets_from Plain alone (shape_at f 0) (of_processes f 7 1 (shape_at f 0).processes) f (7 + 3 * (shape_at f 0).processes + 8 * n) ≡ m → ProgramFault alone f r
-      go (Records m) d = absurd (fine_refused {r = r} (sym (rw (a, b, c, d)) ∙ q))
-      go (Stopped p) d = by_targets a b n c (d ∙ ap Stopped (refused_same (sym (rw (a, b, c, d)) ∙ q)))
+      go : (m : Result ℕ Refusal) → targets_from Plain alone (shape_at f 0) (of_processes f 7 1 (shape_at f 0).processes) f (7 + 3 * (shape_at f 0).processes + 8 * n) ≡ m → ProgramFault alone f r
+      go (Ok m) d = absurd (fine_refused {r = r} (sym (rw (a, b, c, d)) ∙ q))
+      go (Err p) d = by_targets a b n c (d ∙ ap Err (refused_same (sym (rw (a, b, c, d)) ∙ q)))
 
 pub program_refused : ProgramRefused
 program_refused alone f r q = by_parts alone f r q _ _ _ refl refl refl

@@ -1,4 +1,6 @@
 -- A program part that was read is the written form of what it was read as.
+use Rattle.std.specs.Prelude.{Result, Ok, Err, ⊤}
+use Rattle.file_records.specs.declared.program.Refusal.{Refusal}
 use Prim.Native.Nat.{ℕ, zero, suc, ◌+◌, ◌*◌, ◌-◌, ◌<◌, ◌≤◌}
 use mathlib.Core.Path.{◌≡◌, refl, sym, ap, ap₂, subst, ◌∙◌}
 use mathlib.Core.Bool.{Bool, true, false, cond, ◌&&◌, not}
@@ -14,13 +16,9 @@ use Rattle.machine_pws.specs.Program as pws
 use Rattle.file_records.specs.declared.program.Format.TheVariants.{Plain}
 use Rattle.file_records.specs.declared.program.Shape.{Shape}
 use Rattle.file_records.specs.declared.program.Program.{Program}
-use Rattle.file_records.specs.declared.program.Checked.{Checked}
-use Rattle.file_records.specs.declared.program.Checked.TheVariants.{Fine, Refused}
-use Rattle.file_records.specs.declared.program.Counted.{Counted}
-use Rattle.file_records.specs.declared.program.Counted.TheVariants.{Records, Stopped}
 use Rattle.base.specs.Bytes.{byte, choose}
 use Rattle.file_records.specs.Records.{checked, is_kind, shape_at, shape_number, value_count, value_exists, all_zero, names_of, operation_names, operation_of, transition_at, transition_number, state_at, target_number}
-use Rattle.file_records.specs.ProgramPart.{unless_end, count_then, row_from, states_from, of_process, of_processes, transitions_from, at_end, targets_from, program_from, shape_of, table_from, program_of, targets_of}
+use Rattle.file_records.specs.ProgramPart.{unless_end, row_from, states_from, of_process, of_processes, transitions_from, at_end, targets_from, program_from, shape_of, table_from, program_of, targets_of, whether, program_read, and_then}
 use Rattle.base.proofs.ByteLaws.{byte_past, cut_fits}
 use Rattle.file_records.proofs.RecordLaws.{good, unless_fine, states_fine, transition_fine, target_fine}
 use Rattle.file_records.proofs.ProgramLaws.{and_true}
@@ -39,10 +37,10 @@ use Rattle.file_written.proofs.ProgramWritten.{program_length}
 
 -- ---- where a row ends
 
-records_same : {m n : ℕ} → ◌≡◌ {A = Counted} (Records m) (Records n) → m ≡ n
+records_same : {m n : ℕ} → ◌≡◌ {A = Result ℕ Refusal} (Ok m) (Ok n) → m ≡ n
 records_same e = cc
 
-module _ (ends : ℕ → ℕ → Bool) (check : ℕ → ℕ → Checked) (size : ℕ → ℕ) where
+module _ (ends : ℕ → ℕ → Bool) (check : ℕ → ℕ → Result ⊤ Refusal) (size : ℕ → ℕ) where
   abbrev Shut : ℕ → ℕ → ℕ → Type 0
   Shut at n m = (n ≤ m) × (ends (place_of size at (m - n)) m ≡ true)
 
@@ -51,22 +49,22 @@ module _ (ends : ℕ → ℕ → Bool) (check : ℕ → ℕ → Checked) (size :
       let z : m - n ≡ 0 = omega arith in
       (omega arith, rw z (ap (ends at) (sym q) ∙ e))
 
-  shut_more : (left at n m : ℕ) → (row_from ends check size left (at + size at) (suc n) ≡ Records m → Shut (at + size at) (suc n) m) → (b : Bool) → ends at n ≡ b → (x : Checked)
-      → choose b (λ _. Records n) (λ _. count_then x (λ _. row_from ends check size left (at + size at) (suc n))) ≡ Records m → Shut at n m
+  shut_more : (left at n m : ℕ) → (row_from ends check size left (at + size at) (suc n) ≡ Ok m → Shut (at + size at) (suc n) m) → (b : Bool) → ends at n ≡ b → (x : Result ⊤ Refusal)
+      → choose b (λ _. Ok n) (λ _. and_then x (λ _. row_from ends check size left (at + size at) (suc n))) ≡ Ok m → Shut at n m
   shut_more left at n m ih true d x q = shut_here at n m d (records_same q)
-  shut_more left at n m ih false d (Refused r) q = absurd (stopped_records q)
-  shut_more left at n m ih false d Fine q =
+  shut_more left at n m ih false d (Err r) q = absurd (stopped_records q)
+  shut_more left at n m ih false d (Ok _) q =
       let h = ih q in
       let z : m - n ≡ suc (m - suc n) = omega (arith, h.0) in
       (omega (arith, h.0), rw z h.1)
 
-  shut_last : (at n m : ℕ) → (check at n ≡ Fine → ⊥) → (b : Bool) → ends at n ≡ b → (x : Checked) → check at n ≡ x
-      → choose b (λ _. Records n) (λ _. count_then x (λ _. Records n)) ≡ Records m → Shut at n m
+  shut_last : (at n m : ℕ) → (check at n ≡ Ok tt → ⊥) → (b : Bool) → ends at n ≡ b → (x : Result ⊤ Refusal) → check at n ≡ x
+      → choose b (λ _. Ok n) (λ _. and_then x (λ _. Ok n)) ≡ Ok m → Shut at n m
   shut_last at n m full true d x c q = shut_here at n m d (records_same q)
-  shut_last at n m full false d (Refused r) c q = absurd (stopped_records q)
-  shut_last at n m full false d Fine c q = absurd (full c)
+  shut_last at n m full false d (Err r) c q = absurd (stopped_records q)
+  shut_last at n m full false d (Ok _) c q = absurd (full c)
 
-  pub row_shut : (left at n m : ℕ) → ((k : ℕ) → check k (n + left) ≡ Fine → ⊥) → row_from ends check size left at n ≡ Records m → Shut at n m
+  pub row_shut : (left at n m : ℕ) → ((k : ℕ) → check k (n + left) ≡ Ok tt → ⊥) → row_from ends check size left at n ≡ Ok m → Shut at n m
   unfolding row_from
   row_shut zero at n m full q = let z : n + 0 ≡ n = omega arith in shut_last at n m (λ c. full at (ap (check at) z ∙ c)) (ends at n) refl (check at n) refl q
   row_shut (suc left) at n m full q =
@@ -133,26 +131,26 @@ module _ (s : Shape) (v x y : ℕ) where
 -- ---- each record stands as it is written
 
 module _ (f : List ℕ) (at : ℕ) where
-  pub shape_stands : unless_end f at (checked (shape_number Plain f at) at) ≡ Fine → Stands f at (shape_bytes (shape_of (shape_at f at)))
+  pub shape_stands : unless_end f at (checked (shape_number Plain f at) at) ≡ Ok tt → Stands f at (shape_bytes (shape_of (shape_at f at)))
   unfolding shape_number
   shape_stands e =
       let g = good at (unless_fine f at _ e).1 in
       stands_record f at 1 6 (not-false _ g.allowed) (omega (arith, cut_fits f at 6 g.whole))
 
   module _ (s : Shape) (states : List ℕ) (n : ℕ) where
-    pub transition_stands : checked (transition_number Plain s states f at n) at ≡ Fine → Stands f at (transition_bytes (transition_at f at))
+    pub transition_stands : checked (transition_number Plain s states f at n) at ≡ Ok tt → Stands f at (transition_bytes (transition_at f at))
     transition_stands e =
         let g = transition_fine f at Plain s states n e in
         let S = stands_record f at 3 7 (not-false _ g.allowed) (omega (arith, cut_fits f at 7 g.whole)) in
         let o = operation_back s (byte f (at + 4)) (byte f (at + 5)) (byte f (at + 6)) (byte f (at + 3)) (parts_named Plain s states f at (not-false _ g.names)).operation in
         subst (Stands f at) (λ i. 3 ∷ byte f (at + 1) ∷ byte f (at + 2) ∷ sym o.operation i ∷ sym o.variable i ∷ sym o.value i ∷ sym o.new_value i ∷ byte f (at + 7) ∷ []) S
 
-    pub target_stands : checked (target_number Plain s states f at n) at ≡ Fine → Stands f at (target_bytes (state_at f at))
+    pub target_stands : checked (target_number Plain s states f at n) at ≡ Ok tt → Stands f at (target_bytes (state_at f at))
     target_stands e =
         let g = target_fine f at Plain s states n e in
         stands_record f at 4 4 (not-false _ g.allowed) (omega (arith, cut_fits f at 4 g.whole))
 
-pub states_stand : (f : List ℕ) (at n : ℕ) → n ≤ 4 → states_from f at n ≡ Fine → (P : pws.Program) → ((p : ℕ) → p < n → P.states p ≡ get_or (of_processes f at 1 n) p 0)
+pub states_stand : (f : List ℕ) (at n : ℕ) → n ≤ 4 → states_from f at n ≡ Ok tt → (P : pws.Program) → ((p : ℕ) → p < n → P.states p ≡ get_or (of_processes f at 1 n) p 0)
     → ((p : ℕ) → p < n → P.initial p ≡ get_or (of_processes f at 2 n) p 0) → (p : ℕ) → p < n → Stands f (at + 3 * p) (states_bytes P p)
 states_stand f at n few q P a b p l =
     let g = states_fine f (at + 3 * p) (states_each f at n q p l) in
@@ -224,7 +222,7 @@ module _ (alone : Bool) (f : List ℕ) (at : ℕ) (F : ProgramFine Plain alone f
   count₁ : length P.transitions ≡ F.transitions
   count₁ = table_length (λ i. transition_at f (first + 8 * i)) 0 F.transitions
 
-  taken : (i : ℕ) → i < F.transitions → checked (transition_number Plain s states f (first + 8 * i) (0 + i)) (first + 8 * i) ≡ Fine
+  taken : (i : ℕ) → i < F.transitions → checked (transition_number Plain s states f (first + 8 * i) (0 + i)) (first + 8 * i) ≡ Ok tt
   unfolding transitions_from
   taken i l =
       let e = row_each (λ k n. not (is_kind f k 3)) (λ k n. checked (transition_number Plain s states f k n) k) (λ k. 8) 256 first 0 F.transitions F.rows i (omega arith) in
@@ -246,7 +244,7 @@ module _ (alone : Bool) (f : List ℕ) (at : ℕ) (F : ProgramFine Plain alone f
   count₂ : length ts ≡ F.targets
   count₂ = table_length (λ i. state_at f (second + 5 * i)) 0 F.targets
 
-  aimed : (i : ℕ) → i < F.targets → checked (target_number Plain s states f (second + 5 * i) (0 + i)) (second + 5 * i) ≡ Fine
+  aimed : (i : ℕ) → i < F.targets → checked (target_number Plain s states f (second + 5 * i) (0 + i)) (second + 5 * i) ≡ Ok tt
   unfolding targets_from
   aimed i l =
       let e = row_each (at_end alone f) (λ k n. unless_end f k (checked (target_number Plain s states f k n) k)) (λ k. 5) 4096 second 0 F.targets F.aims i (omega arith) in
@@ -268,7 +266,7 @@ module _ (alone : Bool) (f : List ℕ) (at : ℕ) (F : ProgramFine Plain alone f
   pub part_length : at + length (program_bytes P ts) ≡ p.claim
   part_length = omega (arith, program_length P ts, count₁, count₂)
 
-  not_full : (k : ℕ) → unless_end f k (checked (target_number Plain s states f k (0 + 4096)) k) ≡ Fine → ⊥
+  not_full : (k : ℕ) → unless_end f k (checked (target_number Plain s states f k (0 + 4096)) k) ≡ Ok tt → ⊥
   not_full k e = no_true (sym (target_fine f k Plain s states 4096 (unless_fine f k _ e).1).room)
 
   pub part_shut : cond alone (leb (length f) p.claim) (is_kind f p.claim 15) ≡ true
@@ -304,10 +302,10 @@ pub record PartRead (alone : Bool) (f : List ℕ) (p : Program) : Type 0 where
   pub size : length (program_bytes (program_of f p) (targets_of f p)) ≡ p.claim
   pub shut : cond alone (leb (length f) p.claim) (is_kind f p.claim 15) ≡ true
 
-pub part_written : (alone : Bool) (f : List ℕ) → (program_from alone f 0).answer ≡ Fine → PartRead alone f (program_from alone f 0).program
+pub part_written : (alone : Bool) (f : List ℕ) → whether (program_from alone f 0) ≡ Ok tt → PartRead alone f (program_read (program_from alone f 0))
 part_written alone f q =
     let F = program_fine Plain alone f 0 q in
-    let w : ProgramPartRead (program_of f (program_from alone f 0).program) (targets_of f (program_from alone f 0).program) = part_read alone f 0 q in
+    let w : ProgramPartRead (program_of f (program_read (program_from alone f 0))) (targets_of f (program_read (program_from alone f 0))) = part_read alone f 0 q in
     subst (PartRead alone f) (sym F.same) (record {
       contents = part_contents alone f 0 F (subst (λ (p : Program). ProgramPartRead (program_of f p) (targets_of f p)) F.same w);
       stands = part_stands alone f 0 F;
@@ -355,5 +353,5 @@ program_read_is_written f P ts = (
 )
   where
     given : {alone : Bool} → ProgramReadAs alone f P ts → (G : pws.Program → List (ℕ → ℕ) → Type 0)
-        → G (program_of f (program_from alone f 0).program) (targets_of f (program_from alone f 0).program) → G P ts
+        → G (program_of f (program_read (program_from alone f 0))) (targets_of f (program_read (program_from alone f 0))) → G P ts
     given R G x = subst (λ (Q : pws.Program). G Q ts) R.program (subst (G _) R.targets x)

@@ -1,4 +1,6 @@
 -- A written program part is read as what was written.
+use Rattle.std.specs.Prelude.{Result, Ok}
+use Rattle.file_records.specs.declared.program.Refusal.{Refusal}
 use Prim.Native.Nat.{ℕ, zero, suc, ◌+◌, ◌*◌, ◌-◌, ◌<◌, ◌≤◌}
 use mathlib.Core.Path.{◌≡◌, refl, sym, ap, ap₂, subst, ◌∙◌}
 use mathlib.Core.Bool.{Bool, true, false, cond, ◌&&◌, not}
@@ -16,12 +18,9 @@ use Rattle.machine_pws.specs.Configurations.{StatesOf}
 use Rattle.file_records.specs.declared.program.Format.TheVariants.{Plain}
 use Rattle.file_records.specs.declared.program.Shape.{Shape}
 use Rattle.file_records.specs.declared.program.Program.{Program}
-use Rattle.file_records.specs.declared.program.ProgramRead.{ProgramRead}
-use Rattle.file_records.specs.declared.program.Checked.TheVariants.{Fine}
-use Rattle.file_records.specs.declared.program.Counted.TheVariants.{Records}
 use Rattle.base.specs.Bytes.{byte}
 use Rattle.file_records.specs.Records.{checked, is_kind, in_range, shape_at, value_count, count_in_range, counts_in_range, count_if_absent, counts_if_absent, shape_number, states_number, value_exists, all_zero, names_of, operation_names, operation_of, transition_at, transition_names, transition_number, state_name, state_names, state_at, target_number}
-use Rattle.file_records.specs.ProgramPart.{unless_end, states_from, of_process, of_processes, transitions_from, at_end, targets_from, rows_from, rest_from, program_with, program_from, shape_of, table_from, program_of, targets_of}
+use Rattle.file_records.specs.ProgramPart.{unless_end, states_from, of_process, of_processes, transitions_from, at_end, targets_from, rows_from, rest_from, program_with, program_from, shape_of, table_from, program_of, targets_of, whether, program_read}
 use Rattle.file_records.proofs.RecordLaws.{unless_not}
 use Rattle.file_again.proofs.Tables.{table_length, table_number, table_of, of_four}
 use Rattle.file_again.proofs.ProgramCut.{states_all}
@@ -92,7 +91,7 @@ module _ (S : pws.Shape) (range : pws.ShapeInRange S) (absent : (v : ℕ) → S.
     none_absent : counts_if_absent (shape_at f at) ≡ true
     none_absent = rw shape_read counts_out
 
-    pub shape_passes : unless_end f at (checked (shape_number Plain f at) at) ≡ Fine
+    pub shape_passes : unless_end f at (checked (shape_number Plain f at) at) ≡ Ok tt
     unfolding shape_number
     shape_passes =
         unless_not f at _ (omega (arith, T.fits))
@@ -102,7 +101,7 @@ module _ (S : pws.Shape) (range : pws.ShapeInRange S) (absent : (v : ℕ) → S.
 -- ---- the 02s
 
 module _ (P : pws.Program) (f : List ℕ) (at p : ℕ) (T : Stands f at (states_bytes P p)) where
-  states_pass : 1 ≤ P.states p → P.states p ≤ 32 → P.initial p < P.states p → unless_end f at (checked (states_number f at) at) ≡ Fine
+  states_pass : 1 ≤ P.states p → P.states p ≤ 32 → P.initial p < P.states p → unless_end f at (checked (states_number f at) at) ≡ Ok tt
   unfolding states_number
   states_pass a b c =
       let r : in_range (byte f (at + 1)) 32 ≡ true = rw (T.same 1 (omega arith)) (range_in (P.states p) 32 a b) in
@@ -171,7 +170,7 @@ module _ (f : List ℕ) (at : ℕ) (t : Transition) (T : Stands f at (transition
         (both (lt-ltb t.from (P.states t.process) w.from)
         (both (lt-ltb t.to (P.states t.process) w.to) (operation_there s P.shape variables counts t.operation w.operation))))
 
-    pub transition_passes : (n : ℕ) → n < 256 → checked (transition_number Plain s states f at n) at ≡ Fine
+    pub transition_passes : (n : ℕ) → n < 256 → checked (transition_number Plain s states f at n) at ≡ Ok tt
     unfolding transition_number
     transition_passes n l =
         number_fine at
@@ -203,7 +202,7 @@ module _ (s : Shape) (states : List ℕ) (P : pws.Program) (processes : s.proces
   unfolding state_names
   states_there f at a b c d = rw (a, b, c, d) (both (state_there 0) (both (state_there 1) (both (state_there 2) (state_there 3))))
 
-  pub target_passes : (f : List ℕ) (at n : ℕ) → Stands f at (target_bytes t) → n < 4096 → unless_end f at (checked (target_number Plain s states f at n) at) ≡ Fine
+  pub target_passes : (f : List ℕ) (at n : ℕ) → Stands f at (target_bytes t) → n < 4096 → unless_end f at (checked (target_number Plain s states f at n) at) ≡ Ok tt
   unfolding target_number
   target_passes f at n T l =
       unless_not f at _ (omega (arith, T.fits))
@@ -291,7 +290,7 @@ module _ (P : pws.Program) (ts : List (ℕ → ℕ)) (K : ProgramContents P ts) 
   initial_each : (p : ℕ) → get_or (four P.initial) p 0 ≡ P.initial p
   initial_each = four_each P.initial (λ p l. K.initial p (omega (arith, range.processes)))
 
-  states_fine : states_from f (at + 7) n ≡ Fine
+  states_fine : states_from f (at + 7) n ≡ Ok tt
   states_fine =
       states_all f n (at + 7) (λ p l.
       let i = K.part.program.well_formed.initial p l in
@@ -309,7 +308,7 @@ module _ (P : pws.Program) (ts : List (ℕ → ℕ)) (K : ProgramContents P ts) 
       let b = stands_first 4 _ S in
       ne_eqb (byte f here) 3 (λ e. omega arith)
 
-  transitions_read : transitions_from Plain shaped (four P.states) f (at + 7 + 3 * n) ≡ Records (length P.transitions)
+  transitions_read : transitions_from Plain shaped (four P.states) f (at + 7 + 3 * n) ≡ Ok (length P.transitions)
   unfolding transitions_from
   transitions_read =
       let here = at + 7 + 3 * n in
@@ -320,7 +319,7 @@ module _ (P : pws.Program) (ts : List (ℕ → ℕ)) (K : ProgramContents P ts) 
       (λ t w k i l S. (not_so (stands_kind 3 _ S), transition_passes f k t S shaped (four P.states) P refl refl counts states_each w i l, refl))
       P.transitions K.part.program.well_formed.transitions 256 here 0 (omega arith) K.part.transitions third
       (ap (λ (k : ℕ). not (is_kind f k 3)) z ∙ ap not first_target)
-      ∙ ap Records y
+      ∙ ap Ok y
 
   goes_on : (b : Bool) (k : ℕ) (t : ℕ → ℕ) → Stands f k (target_bytes t) → cond b (leb (length f) k) (is_kind f k 15) ≡ false
   unfolding is_kind
@@ -331,7 +330,7 @@ module _ (P : pws.Program) (ts : List (ℕ → ℕ)) (K : ProgramContents P ts) 
   unfolding at_end
   ends_not k i t S = rw (goes_on alone k t S)
 
-  targets_read : targets_from Plain alone shaped (four P.states) f (at + 7 + 3 * n + 8 * length P.transitions) ≡ Records (length ts)
+  targets_read : targets_from Plain alone shaped (four P.states) f (at + 7 + 3 * n + 8 * length P.transitions) ≡ Ok (length ts)
   unfolding targets_from at_end
   targets_read =
       let here = at + 7 + 3 * n + 8 * length P.transitions in
@@ -342,13 +341,13 @@ module _ (P : pws.Program) (ts : List (ℕ → ℕ)) (K : ProgramContents P ts) 
       (λ t w k i l S. (ends_not k i t S, target_passes shaped (four P.states) P refl states_each t w f k i S l, refl))
       ts K.part.targets 4096 here 0 (omega arith) K.part.few_targets fourth
       (ap (λ (k : ℕ). at_end alone f k (0 + length ts)) z ∙ both shut (le-leb 1 (0 + length ts) (omega (arith, K.part.some_target))))
-      ∙ ap Records y
+      ∙ ap Ok y
 
-  rows_read : rows_from Plain alone f (at + 7 + 3 * n) shaped (four P.states) (four P.initial) ≡ record { answer = Fine; program = placed P ts at }
+  rows_read : rows_from Plain alone f (at + 7 + 3 * n) shaped (four P.states) (four P.initial) ≡ Ok (placed P ts at)
   unfolding rows_from
   rows_read = rw (transitions_read, targets_read)
 
-  rest_read : rest_from Plain alone f (at + 7) shaped ≡ record { answer = Fine; program = placed P ts at }
+  rest_read : rest_from Plain alone f (at + 7) shaped ≡ Ok (placed P ts at)
   unfolding rest_from
   rest_read =
       rw states_fine
@@ -356,7 +355,7 @@ module _ (P : pws.Program) (ts : List (ℕ → ℕ)) (K : ProgramContents P ts) 
       (ofs_written P f (at + 7) n second 1 P.states (omega arith) (λ p. refl) K.states) (ofs_written P f (at + 7) n second 2 P.initial (omega arith) (λ p. refl) K.initial)
       ∙ rows_read)
 
-  pub part_placed : program_from alone f at ≡ record { answer = Fine; program = placed P ts at }
+  pub part_placed : program_from alone f at ≡ Ok (placed P ts at)
   unfolding program_with
   part_placed =
       let S = stands_left (shape_bytes P.shape) (B ++ (C ++ D)) T in
@@ -393,9 +392,9 @@ module _ (P : pws.Program) (ts : List (ℕ → ℕ)) (K : ProgramContents P ts) 
       let shut' : cond alone (leb (length f) (placed P ts 0).claim) (is_kind f (placed P ts 0).claim 15) ≡ true = rw e at shut in
       let q = part_placed P ts K alone f 0 T shut' in
       record {
-        fine = ap (λ (r : ProgramRead). r.answer) q;
-        program = ap (λ (r : ProgramRead). program_of f r.program) q ∙ program_same P ts K alone f 0 T shut';
-        targets = ap (λ (r : ProgramRead). targets_of f r.program) q ∙ targets_same P ts K alone f 0 T shut';
+        fine = ap (λ (r : Result Program Refusal). whether r) q;
+        program = ap (λ (r : Result Program Refusal). program_of f (program_read r)) q ∙ program_same P ts K alone f 0 T shut';
+        targets = ap (λ (r : Result Program Refusal). targets_of f (program_read r)) q ∙ targets_same P ts K alone f 0 T shut';
       }
 
 pub program_written_is_read : ProgramWrittenIsRead

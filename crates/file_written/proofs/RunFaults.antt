@@ -1,4 +1,5 @@
 -- A refusal in the claim or in the evidence of a run, in the table's words.
+use Rattle.std.specs.Prelude.{Result, Ok, Err, ⊤}
 use Prim.Native.Nat.{ℕ, zero, suc, ◌+◌, ◌*◌, ◌-◌, ◌<◌, ◌≤◌}
 use mathlib.Core.Path.{◌≡◌, refl, sym, ap, ap₂, subst, ◌∙◌}
 use mathlib.Core.Logic.{◌⊎◌, inl, inr, ⊎_elim}
@@ -16,13 +17,9 @@ use Rattle.machine_pws.specs.Configurations.{StartingMemory}
 use Rattle.file_records.specs.declared.program.Shape.{Shape}
 use Rattle.file_records.specs.declared.program.Program.{Program}
 use Rattle.file_records.specs.declared.program.Refusal.{Refusal}
-use Rattle.file_records.specs.declared.program.Checked.{Checked}
-use Rattle.file_records.specs.declared.program.Checked.TheVariants.{Fine, Refused}
-use Rattle.file_records.specs.declared.program.Counted.{Counted}
-use Rattle.file_records.specs.declared.program.Counted.TheVariants.{Records, Stopped}
 use Rattle.base.specs.Bytes.{byte, cut}
 use Rattle.file_records.specs.Records.{transition_at, checked, is_kind, value_count, claim_number, start_names, start_number, memory_at, is_step, step_body, exists, step_names, step_number, step_at}
-use Rattle.file_records.specs.ProgramPart.{unless_end, shape_of, program_from, program_of, targets_of}
+use Rattle.file_records.specs.ProgramPart.{unless_end, shape_of, program_from, program_of, targets_of, whether, program_read}
 use Rattle.file_contents.specs.declared.evidence.Part.{Part}
 use Rattle.file_contents.specs.declared.evidence.Part.TheVariants.{InProgram, InEvidence}
 use Rattle.file_contents.specs.EvidencePart.{EntriesRead, steps_from, steps_of}
@@ -49,7 +46,7 @@ use Rattle.file_written.proofs.ProgramFaults.{program_refused}
 use Rattle.file_written.specs.Faults.{ProgramFault}
 use Rattle.file_written.proofs.Faults.{Told, fault_of, kind_told, kind_tells, false_true, unless_refused, Stop, row_stopped}
 
-claim_fault : (f : List ℕ) (at : ℕ) (r : Refusal) → checked (claim_number f at) at ≡ Refused r → (r.place ≡ at) × ClaimFault f at r.number
+claim_fault : (f : List ℕ) (at : ℕ) (r : Refusal) → checked (claim_number f at) at ≡ Err r → (r.place ≡ at) × ClaimFault f at r.number
 unfolding claim_number
 claim_fault f at r q =
     fault_of f at 1 (byte f at ≡ 15) ⊥ Unit (byte f (at + 1) ≤ 2) r
@@ -64,7 +61,7 @@ claim_fault f at r q =
     }) q
 
 memory_fault : (P : pws.Program) (s : Shape) → s.variables ≡ P.shape.variables → ((v : ℕ) → value_count s v ≡ P.shape.values v) → (f : List ℕ) (at : ℕ) (r : Refusal)
-    → checked (start_number s f at) at ≡ Refused r → (r.place ≡ at) × MemoryFault P f at r.number
+    → checked (start_number s f at) at ≡ Err r → (r.place ≡ at) × MemoryFault P f at r.number
 unfolding start_number
 memory_fault P s variables counts f at r q =
     fault_of f at 4 (byte f at ≡ 31) ⊥ Unit ((m : List ℕ) × StartingMemory P.shape m × Stands f at (memory_bytes m)) r
@@ -119,7 +116,7 @@ module _ (f : List ℕ) (at : ℕ) where
   body_is = refl
 
   step_fault : (P : pws.Program) (s : Shape) (n : ℕ) → s.processes ≡ P.shape.processes → s.variables ≡ P.shape.variables → n ≡ length P.transitions
-      → (before i : ℕ) → before ≡ i → (r : Refusal) → checked (step_number s n f at i) at ≡ Refused r → (r.place ≡ at) × StepFault P before f at r.number
+      → (before i : ℕ) → before ≡ i → (r : Refusal) → checked (step_number s n f at i) at ≡ Err r → (r.place ≡ at) × StepFault P before f at r.number
   unfolding step_number step_body is_kind
   step_fault P s n a b c before i e r q =
       fault_of f at (cond (eqb (byte f at) 33) 2 1) ((byte f at ≡ 32) ⊎ ((byte f at ≡ 33) ⊎ (byte f at ≡ 34))) (1024 ≤ before) Unit ((t : Step) × StepOf P t × Stands f at (step_bytes t)) r
@@ -138,7 +135,7 @@ module _ (s : Shape) (transitions : ℕ) (f : List ℕ) where
   abbrev size : ℕ → ℕ
   size k = 1 + step_body f k
 
-  pub steps_before : (i at n : ℕ) → ((j : ℕ) → j < i → checked (step_number s transitions f (place_of size at j) (n + j)) (place_of size at j) ≡ Fine) → at ≤ length f
+  pub steps_before : (i at n : ℕ) → ((j : ℕ) → j < i → checked (step_number s transitions f (place_of size at j) (n + j)) (place_of size at j) ≡ Ok tt) → at ≤ length f
       → Stands f at (joined step_bytes (steps_of f at i)) × (place_of size at i ≡ at + length (joined step_bytes (steps_of f at i)))
   unfolding steps_of
   steps_before zero at n h l = (record { fits = omega arith; same = λ k j. absurd (omega arith) }, omega arith)
@@ -148,7 +145,7 @@ module _ (s : Shape) (transitions : ℕ) (f : List ℕ) where
       let next = at + size at in
       let R = steps_before i next (suc n) (λ j k.
       let z : n + suc j ≡ suc n + j = omega arith in
-      subst (λ (x : ℕ). checked (step_number s transitions f (place_of size next j) x) (place_of size next j) ≡ Fine) z (h (suc j) (omega arith))) (omega (arith, B.0.fits, B.1)) in
+      subst (λ (x : ℕ). checked (step_number s transitions f (place_of size next j) x) (place_of size next j) ≡ Ok tt) z (h (suc j) (omega arith))) (omega (arith, B.0.fits, B.1)) in
       let rest = joined step_bytes (steps_of f next i) in
       let y : next ≡ at + length (step_bytes (step_at f at)) = omega (arith, B.1) in
       (stands_join (step_bytes (step_at f at)) rest B.0 (stands_moved y R.0), omega (arith, R.1, B.1, length-append (step_bytes (step_at f at)) rest))
@@ -162,12 +159,12 @@ run_refused_not : (b : Bool) (P : pws.Program) (ts : List (ℕ → ℕ)) (m : Li
 run_refused_not true P ts m ss w r e = let z : ◌≡◌ {A = ℕ} 0 1 = cc in omega arith
 run_refused_not false P ts m ss w r e = let z : ◌≡◌ {A = ℕ} 0 1 = cc in omega arith
 
-module _ (x : Input) (area : ℕ) (r : Refusal) (fine : (program_from x.alone x.code 0).answer ≡ Fine) where
+module _ (x : Input) (area : ℕ) (r : Refusal) (fine : whether (program_from x.alone x.code 0) ≡ Ok tt) where
   abbrev f : List ℕ
   f = x.file
 
   abbrev p : Program
-  p = (program_from x.alone x.code 0).program
+  p = program_read (program_from x.alone x.code 0)
 
   abbrev at : ℕ
   at = evidence_at x p
@@ -182,7 +179,7 @@ module _ (x : Input) (area : ℕ) (r : Refusal) (fine : (program_from x.alone x.
   count = sym (table_length (λ i. transition_at x.code (p.transitions.at + 8 * i)) 0 p.transitions.count)
 
   module _ (c : ℕ) (some : 1 ≤ c) (most : c ≤ 2) (C : Stands f at (claim_bytes c)) where
-    by_memory : unless_end f (at + 2) (checked (start_number p.shape f (at + 2)) (at + 2)) ≡ Refused r → Told'
+    by_memory : unless_end f (at + 2) (checked (start_number p.shape f (at + 2)) (at + 2)) ≡ Err r → Told'
     by_memory q = ⊎_elim
         (λ a. inl (ends_before_memory c some most C (omega (arith, a.0, C.fits)) a.1 a.2))
         (λ a.
@@ -190,7 +187,7 @@ module _ (x : Input) (area : ℕ) (r : Refusal) (fine : (program_from x.alone x.
         inl (in_memory c some most C w.0 (omega (arith, w.0, a.0)) (subst (λ (i : ℕ). MemoryFault P f i r.number) (sym w.0) w.1)))
         (unless_refused f (at + 2) _ r q)
 
-    by_steps : unless_end f (at + 2) (checked (start_number p.shape f (at + 2)) (at + 2)) ≡ Fine → steps_from p.shape p.transitions.count f (at + 2 + 5) ≡ Stopped r → Told'
+    by_steps : unless_end f (at + 2) (checked (start_number p.shape f (at + 2)) (at + 2)) ≡ Ok tt → steps_from p.shape p.transitions.count f (at + 2 + 5) ≡ Err r → Told'
     unfolding steps_from
     by_steps m q =
         let from = at + 2 + 5 in
@@ -219,21 +216,21 @@ module _ (x : Input) (area : ℕ) (r : Refusal) (fine : (program_from x.alone x.
         (omega arith) (omega (arith, leb-false (length f) place S.goes))
         (subst (λ (i : ℕ). StepFault P (length ss) f i r.number) (sym here) w.1))
 
-    by_count : unless_end f (at + 2) (checked (start_number p.shape f (at + 2)) (at + 2)) ≡ Fine → (n : Counted) → steps_from p.shape p.transitions.count f (at + 2 + 5) ≡ n
+    by_count : unless_end f (at + 2) (checked (start_number p.shape f (at + 2)) (at + 2)) ≡ Ok tt → (n : Result ℕ Refusal) → steps_from p.shape p.transitions.count f (at + 2 + 5) ≡ n
         → evidence_read x p (steps c (memory_at f (at + 2)) n) ≡ refused InEvidence r → Told'
-    by_count m (Records n) d h = absurd (run_refused_not (eqb c 1) _ _ _ _ InEvidence r h)
-    by_count m (Stopped q) d h = by_steps m (d ∙ ap Stopped (refused_is h))
+    by_count m (Ok n) d h = absurd (run_refused_not (eqb c 1) _ _ _ _ InEvidence r h)
+    by_count m (Err q) d h = by_steps m (d ∙ ap Err (refused_is h))
 
-    by_start : (y : Checked) → unless_end f (at + 2) (checked (start_number p.shape f (at + 2)) (at + 2)) ≡ y → evidence_read x p (run_evidence f c (at + 2) p) ≡ refused InEvidence r → Told'
-    by_start Fine d h = by_count d _ refl (ap (evidence_read x p) (sym (run_steps f c (at + 2) p d)) ∙ h)
-    by_start (Refused q) d h = by_memory (d ∙ ap Refused (refused_is (ap (evidence_read x p) (sym (start_refused f c (at + 2) p q d)) ∙ h)))
+    by_start : (y : Result ⊤ Refusal) → unless_end f (at + 2) (checked (start_number p.shape f (at + 2)) (at + 2)) ≡ y → evidence_read x p (run_evidence f c (at + 2) p) ≡ refused InEvidence r → Told'
+    by_start (Ok _) d h = by_count d _ refl (ap (evidence_read x p) (sym (run_steps f c (at + 2) p d)) ∙ h)
+    by_start (Err q) d h = by_memory (d ∙ ap Err (refused_is (ap (evidence_read x p) (sym (start_refused f c (at + 2) p q d)) ∙ h)))
 
-  by_claim : (y : Checked) → unless_end f at (checked (claim_number f at) at) ≡ y → evidence_read x p (evidence_from f at p area) ≡ refused InEvidence r → Told'
+  by_claim : (y : Result ⊤ Refusal) → unless_end f at (checked (claim_number f at) at) ≡ y → evidence_read x p (evidence_from f at p area) ≡ refused InEvidence r → Told'
   unfolding claim_number
-  by_claim (Refused q) d h =
-      let e = d ∙ ap Refused (refused_is (ap (evidence_read x p) (sym (evidence_refused f at p area q d)) ∙ h)) in
+  by_claim (Err q) d h =
+      let e = d ∙ ap Err (refused_is (ap (evidence_read x p) (sym (evidence_refused f at p area q d)) ∙ h)) in
       ⊎_elim (λ a. inl (ends_before_claim a.0 a.1 a.2)) (λ a. let w = claim_fault f at r a.1 in inl (in_claim a.0 w.0 w.1)) (unless_refused f at _ r e)
-  by_claim Fine d h =
+  by_claim (Ok _) d h =
       let g = good at (unless_fine f at _ d).1 in
       let C : Stands f at (claim_bytes (byte f (at + 1))) = stands_record f at 15 1 (not-false _ g.allowed) (omega (arith, cut_fits f at 1 g.whole)) in
       elim (ℕ_discrete (byte f (at + 1)) 0) [
@@ -247,17 +244,17 @@ module _ (x : Input) (area : ℕ) (r : Refusal) (fine : (program_from x.alone x.
 
 module _ (x : Input) (area : ℕ) (r : Refusal) where
   abbrev part : Program
-  part = (program_from x.alone x.code 0).program
+  part = program_read (program_from x.alone x.code 0)
 
   short_read : area < 65536 → read_file x area ≡ refused InProgram (record { number = 8; place = 0 })
   unfolding read_file
   short_read l = ap (parts_read x) (parts_short x area l)
 
-  part_refused : (q : Refusal) → 65536 ≤ area → (program_from x.alone x.code 0).answer ≡ Refused q → read_file x area ≡ refused InProgram q
+  part_refused : (q : Refusal) → 65536 ≤ area → whether (program_from x.alone x.code 0) ≡ Err q → read_file x area ≡ refused InProgram q
   unfolding read_file
   part_refused q l e = ap (parts_read x) (parts_refused x area q l e)
 
-  part_fine : 65536 ≤ area → (program_from x.alone x.code 0).answer ≡ Fine → read_file x area ≡ evidence_read x part (evidence_from x.file (evidence_at x part) part area)
+  part_fine : 65536 ≤ area → whether (program_from x.alone x.code 0) ≡ Ok tt → read_file x area ≡ evidence_read x part (evidence_from x.file (evidence_at x part) part area)
   unfolding read_file
   part_fine l e = ap (parts_read x) (parts_both x area l e)
 
@@ -265,9 +262,9 @@ module _ (x : Input) (area : ℕ) (r : Refusal) where
   at_place true = (λ e. refl, λ e. absurd (no_true (sym e)))
   at_place false = (λ e. absurd (no_true e), λ e. refl)
 
-  evidence_refused_so : (y : Checked) → (program_from x.alone x.code 0).answer ≡ y → 65536 ≤ area → read_file x area ≡ refused InEvidence r → EvidenceRefusal x r
-  evidence_refused_so (Refused q) d l h = absurd (let e = part_refused q l d in let z : ◌≡◌ {A = ℕ} 0 1 = cc in omega arith)
-  evidence_refused_so Fine d l h =
+  evidence_refused_so : (y : Result ⊤ Refusal) → whether (program_from x.alone x.code 0) ≡ y → 65536 ≤ area → read_file x area ≡ refused InEvidence r → EvidenceRefusal x r
+  evidence_refused_so (Err q) d l h = absurd (let e = part_refused q l d in let z : ◌≡◌ {A = ℕ} 0 1 = cc in omega arith)
+  evidence_refused_so (Ok _) d l h =
       let A = part_written x.alone x.code d in
       let place = at_place x.alone in
       record {
@@ -291,11 +288,11 @@ in_evidence : (x : Input) (p : Program) (e : Evidence) (r : Refusal) → evidenc
 in_evidence x p (refusal q) r h = let z : ◌≡◌ {A = ℕ} 0 1 = cc in omega arith
 in_evidence x p (entries l) r h = go l.answer h
   where
-    go : (y : Checked) → list_read x p y l ≡ refused InProgram r → ⊥
-    go Fine h = let z : ◌≡◌ {A = ℕ} 0 1 = cc in omega arith
-    go (Refused q) h = let z : ◌≡◌ {A = ℕ} 0 1 = cc in omega arith
-in_evidence x p (steps c m (Records n)) r h = run_refused_not (eqb c 1) _ _ _ _ InProgram r h
-in_evidence x p (steps c m (Stopped q)) r h = let z : ◌≡◌ {A = ℕ} 0 1 = cc in omega arith
+    go : (y : Result ⊤ Refusal) → list_read x p y l ≡ refused InProgram r → ⊥
+    go (Ok _) h = let z : ◌≡◌ {A = ℕ} 0 1 = cc in omega arith
+    go (Err q) h = let z : ◌≡◌ {A = ℕ} 0 1 = cc in omega arith
+in_evidence x p (steps c m (Ok n)) r h = run_refused_not (eqb c 1) _ _ _ _ InProgram r h
+in_evidence x p (steps c m (Err q)) r h = let z : ◌≡◌ {A = ℕ} 0 1 = cc in omega arith
 
 pub program_part_refused : ProgramPartRefused
 program_part_refused x area r q = elim (dec_lt area 65536) [
@@ -305,8 +302,8 @@ program_part_refused x area r q = elim (dec_lt area 65536) [
   | no l ↦ inr (omega arith, go (omega arith) _ refl)
 ]
   where
-    go : 65536 ≤ area → (y : Checked) → (program_from x.alone x.code 0).answer ≡ y → ProgramFault x.alone x.code r
-    go l (Refused p) d = program_refused x.alone x.code r (d ∙ ap Refused (refused_is (sym (part_refused x area r p l d) ∙ q)))
-    go l Fine d =
-        let p = (program_from x.alone x.code 0).program in
+    go : 65536 ≤ area → (y : Result ⊤ Refusal) → whether (program_from x.alone x.code 0) ≡ y → ProgramFault x.alone x.code r
+    go l (Err p) d = program_refused x.alone x.code r (d ∙ ap Err (refused_is (sym (part_refused x area r p l d) ∙ q)))
+    go l (Ok _) d =
+        let p = program_read (program_from x.alone x.code 0) in
         absurd (in_evidence x p (evidence_from x.file (evidence_at x p) p area) r (sym (part_fine x area r l d) ∙ q))

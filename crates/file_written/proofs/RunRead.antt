@@ -1,4 +1,6 @@
 -- A file with a run that was read is the written form of what it was read as.
+use Rattle.std.specs.Prelude.{Result, Ok, Err, ⊤}
+use Rattle.file_records.specs.declared.program.Refusal.{Refusal}
 use Prim.Native.Nat.{ℕ, zero, suc, ◌+◌, ◌*◌, ◌-◌, ◌<◌, ◌≤◌}
 use mathlib.Core.Path.{◌≡◌, refl, sym, ap, ap₂, subst, ◌∙◌}
 use mathlib.Core.Bool.{Bool, true, false, cond, ◌||◌, not}
@@ -13,13 +15,9 @@ use Rattle.machine_pws.specs.declared.Step.TheVariants.{Take, Serialise, Update}
 use Rattle.machine_pws.specs.Program as pws
 use Rattle.file_records.specs.declared.program.Shape.{Shape}
 use Rattle.file_records.specs.declared.program.Program.{Program}
-use Rattle.file_records.specs.declared.program.Checked.{Checked}
-use Rattle.file_records.specs.declared.program.Checked.TheVariants.{Fine, Refused}
-use Rattle.file_records.specs.declared.program.Counted.{Counted}
-use Rattle.file_records.specs.declared.program.Counted.TheVariants.{Records, Stopped}
 use Rattle.base.specs.Bytes.{byte, choose, cut}
 use Rattle.file_records.specs.Records.{checked, is_kind, start_number, memory_at, is_step, step_body, step_number, step_at}
-use Rattle.file_records.specs.ProgramPart.{unless_end, count_then, row_from, program_from, program_of, targets_of}
+use Rattle.file_records.specs.ProgramPart.{unless_end, row_from, program_from, program_of, targets_of, program_read, and_then}
 use Rattle.file_contents.specs.declared.evidence.Part.{Part}
 use Rattle.file_contents.specs.EvidencePart.{steps_from, steps_of}
 use Rattle.file_contents.specs.Reading.{Input, combined, pair, evidence_at, FileRead, refused, list, run, pso_run, run_read, read_file}
@@ -57,14 +55,14 @@ step_back f at e c = go (is_kind f at 32) refl (is_kind f at 33) refl e (cut_fit
 
 -- ---- steps
 
-records_same : {m n : ℕ} → ◌≡◌ {A = Counted} (Records m) (Records n) → m ≡ n
+records_same : {m n : ℕ} → ◌≡◌ {A = Result ℕ Refusal} (Ok m) (Ok n) → m ≡ n
 records_same e = cc
 
 module _ (s : Shape) (transitions : ℕ) (f : List ℕ) where
-  abbrev check : ℕ → ℕ → Checked
+  abbrev check : ℕ → ℕ → Result ⊤ Refusal
   check k n = checked (step_number s transitions f k n) k
 
-  abbrev row : ℕ → ℕ → ℕ → Counted
+  abbrev row : ℕ → ℕ → ℕ → Result ℕ Refusal
   row left at n = row_from (λ k n. leb (length f) k) check (λ k. 1 + step_body f k) left at n
 
   -- the steps from `at` on stand there, up to the file's end
@@ -78,7 +76,7 @@ module _ (s : Shape) (transitions : ℕ) (f : List ℕ) where
       let y = leb-true (length f) at e in
       (omega arith, rw z (record { fits = omega arith; same = λ k i. absurd (omega arith) }), rw z (omega arith))
 
-  whole_more : (at n m : ℕ) → (at + (1 + step_body f at) ≤ length f → Whole (at + (1 + step_body f at)) (suc n) m) → check at n ≡ Fine → Whole at n m
+  whole_more : (at n m : ℕ) → (at + (1 + step_body f at) ≤ length f → Whole (at + (1 + step_body f at)) (suc n) m) → check at n ≡ Ok tt → Whole at n m
   unfolding steps_of
   whole_more at n m ih c =
       let g = step_fine f at s transitions n c in
@@ -91,27 +89,27 @@ module _ (s : Shape) (transitions : ℕ) (f : List ℕ) where
       let T = stands_join (step_bytes (step_at f at)) rest B.0 (stands_moved y h.1) in
       (omega (arith, h.0), rw z T, rw z (omega (arith, h.2, B.1, length-append (step_bytes (step_at f at)) rest)))
 
-  by_more : (left at n m : ℕ) → at ≤ length f → (row left (at + (1 + step_body f at)) (suc n) ≡ Records m → at + (1 + step_body f at) ≤ length f → Whole (at + (1 + step_body f at)) (suc n) m)
-      → (b : Bool) → leb (length f) at ≡ b → (x : Checked) → check at n ≡ x
-      → choose b (λ _. Records n) (λ _. count_then x (λ _. row left (at + (1 + step_body f at)) (suc n))) ≡ Records m → Whole at n m
+  by_more : (left at n m : ℕ) → at ≤ length f → (row left (at + (1 + step_body f at)) (suc n) ≡ Ok m → at + (1 + step_body f at) ≤ length f → Whole (at + (1 + step_body f at)) (suc n) m)
+      → (b : Bool) → leb (length f) at ≡ b → (x : Result ⊤ Refusal) → check at n ≡ x
+      → choose b (λ _. Ok n) (λ _. and_then x (λ _. row left (at + (1 + step_body f at)) (suc n))) ≡ Ok m → Whole at n m
   by_more left at n m l ih true d x c q = whole_here at n m l d (records_same q)
-  by_more left at n m l ih false d (Refused r) c q = absurd (stopped_records q)
-  by_more left at n m l ih false d Fine c q = whole_more at n m (ih q) c
+  by_more left at n m l ih false d (Err r) c q = absurd (stopped_records q)
+  by_more left at n m l ih false d (Ok _) c q = whole_more at n m (ih q) c
 
-  by_last : (at n m : ℕ) → at ≤ length f → (check at n ≡ Fine → ⊥) → (b : Bool) → leb (length f) at ≡ b → (x : Checked) → check at n ≡ x
-      → choose b (λ _. Records n) (λ _. count_then x (λ _. Records n)) ≡ Records m → Whole at n m
+  by_last : (at n m : ℕ) → at ≤ length f → (check at n ≡ Ok tt → ⊥) → (b : Bool) → leb (length f) at ≡ b → (x : Result ⊤ Refusal) → check at n ≡ x
+      → choose b (λ _. Ok n) (λ _. and_then x (λ _. Ok n)) ≡ Ok m → Whole at n m
   by_last at n m l full true d x c q = whole_here at n m l d (records_same q)
-  by_last at n m l full false d (Refused r) c q = absurd (stopped_records q)
-  by_last at n m l full false d Fine c q = absurd (full c)
+  by_last at n m l full false d (Err r) c q = absurd (stopped_records q)
+  by_last at n m l full false d (Ok _) c q = absurd (full c)
 
-  row_back : (left at n m : ℕ) → ((k : ℕ) → check k (n + left) ≡ Fine → ⊥) → row left at n ≡ Records m → at ≤ length f → Whole at n m
+  row_back : (left at n m : ℕ) → ((k : ℕ) → check k (n + left) ≡ Ok tt → ⊥) → row left at n ≡ Ok m → at ≤ length f → Whole at n m
   unfolding row_from
   row_back zero at n m full q l = let z : n + 0 ≡ n = omega arith in by_last at n m l (λ c. full at (ap (check at) z ∙ c)) (leb (length f) at) refl (check at n) refl q
   row_back (suc left) at n m full q l =
       let z : suc n + left ≡ n + suc left = omega arith in
       by_more left at n m l (row_back left (at + (1 + step_body f at)) (suc n) m (λ k c. full k (ap (check k) (sym z) ∙ c))) (leb (length f) at) refl (check at n) refl q
 
-  steps_back : (at m : ℕ) → steps_from s transitions f at ≡ Records m → at ≤ length f
+  steps_back : (at m : ℕ) → steps_from s transitions f at ≡ Ok m → at ≤ length f
       → Stands f at (joined step_bytes (steps_of f at m)) × (length f ≡ at + length (joined step_bytes (steps_of f at m)))
   unfolding steps_from
   steps_back at m q l =
@@ -121,7 +119,7 @@ module _ (s : Shape) (transitions : ℕ) (f : List ℕ) where
 
 -- ---- the evidence
 
-pub start_stands : (s : Shape) (f : List ℕ) (at : ℕ) → unless_end f at (checked (start_number s f at) at) ≡ Fine → Stands f at (memory_bytes (memory_at f at))
+pub start_stands : (s : Shape) (f : List ℕ) (at : ℕ) → unless_end f at (checked (start_number s f at) at) ≡ Ok tt → Stands f at (memory_bytes (memory_at f at))
 unfolding start_number
 start_stands s f at e =
     let g = good at (unless_fine f at _ e).1 in
@@ -132,7 +130,7 @@ module _ (x : Input) (area : ℕ) (R : RunParts x area) where
   f = x.file
 
   abbrev p : Program
-  p = (program_from x.alone x.code 0).program
+  p = program_read (program_from x.alone x.code 0)
 
   abbrev at : ℕ
   at = evidence_at x p
@@ -147,7 +145,7 @@ module _ (x : Input) (area : ℕ) (R : RunParts x area) where
   taken = steps_of f (at + 2 + 5) R.count
 
   claimed : Claimed f at p area
-  claimed = claimed_steps f at p area claim memory (Records R.count) (parts_evidence x area R.fine p _ R.parts).1
+  claimed = claimed_steps f at p area claim memory (Ok R.count) (parts_evidence x area R.fine p _ R.parts).1
 
   pub run_stands : EvidenceStands x p (run_bytes claim memory taken)
   run_stands =

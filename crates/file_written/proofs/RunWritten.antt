@@ -1,4 +1,5 @@
 -- A written run is read as what was written.
+use Rattle.std.specs.Prelude.{Ok}
 use Prim.Native.Nat.{ℕ, zero, suc, ◌+◌, ◌*◌, ◌<◌, ◌≤◌}
 use mathlib.Core.Path.{◌≡◌, refl, sym, ap, ap₂, subst, ◌∙◌}
 use mathlib.Core.Bool.{Bool, true, false, cond, ◌||◌, not}
@@ -14,8 +15,6 @@ use Rattle.machine_pws.specs.declared.Step.TheVariants.{Take, Serialise, Update}
 use Rattle.machine_pws.specs.Program as pws
 use Rattle.machine_pws.specs.Configurations.{StartingMemory}
 use Rattle.file_records.specs.declared.program.Shape.{Shape}
-use Rattle.file_records.specs.declared.program.Checked.TheVariants.{Fine}
-use Rattle.file_records.specs.declared.program.Counted.TheVariants.{Records}
 use Rattle.base.specs.Bytes.{byte, cut}
 use Rattle.file_records.specs.Records.{checked, is_kind, value_count, claim_number, start_name, start_names, start_number, memory_at, is_step, step_body, exists, step_names, step_number, step_at}
 use Rattle.file_records.specs.ProgramPart.{unless_end}
@@ -38,7 +37,7 @@ use Rattle.file_written.proofs.Placed.{Placed, placed_one, placed_two, placed_re
 -- ---- the claim
 
 module _ (f : List ℕ) (at claim : ℕ) (T : Stands f at (claim_bytes claim)) where
-  pub claim_passes : claim ≤ 2 → unless_end f at (checked (claim_number f at) at) ≡ Fine
+  pub claim_passes : claim ≤ 2 → unless_end f at (checked (claim_number f at) at) ≡ Ok tt
   unfolding claim_number
   claim_passes l =
       let n : leb (byte f (at + 1)) 2 ≡ true = rw (T.same 1 (omega arith)) (le-leb claim 2 l) in
@@ -62,7 +61,7 @@ module _ (s : Shape) (S : pws.Shape) (variables : s.variables ≡ S.variables) (
         rw (T.same 1 (omega arith), T.same 2 (omega arith), T.same 3 (omega arith), T.same 4 (omega arith))
         (both (start_there 0) (both (start_there 1) (both (start_there 2) (start_there 3))))
 
-    pub start_passes : unless_end f at (checked (start_number s f at) at) ≡ Fine
+    pub start_passes : unless_end f at (checked (start_number s f at) at) ≡ Ok tt
     unfolding start_number
     start_passes =
         unless_not f at _ (omega (arith, T.fits))
@@ -109,7 +108,7 @@ module _ (f : List ℕ) (at : ℕ) where
       rw (kind_is 34 32 k, kind_is 34 33 k, T.same 1 (omega arith)) (lt-ltb p P.shape.processes w)
 
   step_passes : (P : pws.Program) (t : Step) → StepOf P t → Stands f at (step_bytes t) → (n : ℕ) → n < 1024
-      → checked (step_number (shape_for P.shape) (length P.transitions) f at n) at ≡ Fine
+      → checked (step_number (shape_for P.shape) (length P.transitions) f at n) at ≡ Ok tt
   unfolding step_number
   step_passes P t w T n l =
       let b = body_read t T in
@@ -137,14 +136,14 @@ steps_read f at (t ∷ ss) T =
 
 module _ (P : pws.Program) (f : List ℕ) (at : ℕ) (ss : List Step) (T : Stands f at (joined step_bytes ss)) where
   pub steps_pass : ((k : ℕ) → k < length ss → StepOf P (get_or ss k (Update 0))) → length ss ≤ 1024 → length f ≡ at + length (joined step_bytes ss)
-      → steps_from (shape_for P.shape) (length P.transitions) f at ≡ Records (length ss)
+      → steps_from (shape_for P.shape) (length P.transitions) f at ≡ Ok (length ss)
   unfolding steps_from
   steps_pass w few end =
       let y : 0 + length ss ≡ length ss = omega arith in
       row_written step_bytes (StepOf P) (Update 0) f (λ k n. leb (length f) k) (λ k n. checked (step_number (shape_for P.shape) (length P.transitions) f k n) k) (λ k. 1 + step_body f k) 1024
       (λ t w k i l S. (lt-leb (length f) k (omega (arith, S.fits, some_bytes f k t)), step_passes f k P t w S i l, body_read f k t S))
       ss w 1024 at 0 (omega arith) few T (le-leb (length f) (at + length (joined step_bytes ss)) (omega arith))
-      ∙ ap Records y
+      ∙ ap Ok y
 
 -- ---- the whole
 
@@ -177,7 +176,7 @@ module _ (P : pws.Program) (ts : List (ℕ → ℕ)) (m : List ℕ) (ss : List S
   counts : (v : ℕ) → value_count (shape_for P.shape) v ≡ P.shape.values v
   counts = value_same P.shape K.part.program.shape K.values
 
-  evidence : evidence_from f at (placed P ts 0) area ≡ steps claim m (Records (length ss))
+  evidence : evidence_from f at (placed P ts 0) area ≡ steps claim m (Ok (length ss))
   evidence =
       let c : byte f (at + 1) ≡ claim = C.same 1 (omega arith) in
       evidence_run f at (placed P ts 0) area (claim_passes f at claim C most) (λ z. omega arith)

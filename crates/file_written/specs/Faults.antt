@@ -1,12 +1,11 @@
 -- The refusal table in its own words (document 01, "Verdicts and refusal table"; document 02, N5, N6, N8), for the program part: everything before the place is the
 -- written form of a beginning, and the record there has this fault and no earlier one of 2, 1, 5, 3, 4; or the file ends there.
-use Rattle.std.specs.Prelude.{ℕ, ◌+◌, ◌<◌, ◌≤◌, ◌≡◌, Bool, true, false, List, [], ◌++◌, length, get_or}
+use Rattle.std.specs.Prelude.{ℕ, ◌+◌, ◌<◌, ◌≤◌, ◌≡◌, Bool, true, false, List, [], ◌++◌, length, get_or, Err}
 use Rattle.machine_pws.specs.declared.Transition.{Transition}
 use Rattle.machine_pws.specs.Program.{Shape, ShapeInRange, Program, TransitionOf, transition}
 use Rattle.machine_pws.specs.Configurations.{StatesOf}
 use Rattle.file_records.specs.declared.program.Refusal.{Refusal}
-use Rattle.file_records.specs.declared.program.Checked.TheVariants.{Refused}
-use Rattle.file_records.specs.ProgramPart.{program_from}
+use Rattle.file_records.specs.ProgramPart.{program_from, whether}
 use Rattle.base.specs.Bytes.{byte}
 use Rattle.file_written.specs.Standing.{Stands}
 use Rattle.file_written.specs.Written.{joined, numbers, shape_bytes, states_bytes, transition_bytes, target_bytes, program_bytes}
@@ -88,4 +87,4 @@ pub data ProgramFault (alone : Bool) (f : List ℕ) (r : Refusal) : Type 0 where
   ends_in_rows : (P : Program) (ts : List (ℕ → ℕ)) → RowsBegun P ts → (alone ≡ true → length ts ≡ 0) → r.number ≡ 6 → r.place ≡ length f → f ≡ program_bytes P ts → ProgramFault alone f r
 
 abbrev pub ProgramRefused : Type 0
-ProgramRefused = (alone : Bool) (f : List ℕ) (r : Refusal) → (program_from alone f 0).answer ≡ Refused r → ProgramFault alone f r
+ProgramRefused = (alone : Bool) (f : List ℕ) (r : Refusal) → whether (program_from alone f 0) ≡ Err r → ProgramFault alone f r

@@ -1,9 +1,8 @@
 -- The program part both ways: what is written is read, and what is read is what is written.
-use Rattle.std.specs.Prelude.{ℕ, ◌≤◌, ◌≡◌, Bool, true, false, List, [], ◌∷◌, ◌++◌, length}
+use Rattle.std.specs.Prelude.{ℕ, ◌≤◌, ◌≡◌, Bool, true, false, List, [], ◌∷◌, ◌++◌, length, Ok}
 use Rattle.machine_pws.specs.Program.{Shape, Program}
 use Rattle.file_records.specs.declared.program.Shape as declared
-use Rattle.file_records.specs.declared.program.Checked.TheVariants.{Fine}
-use Rattle.file_records.specs.ProgramPart.{program_from, program_of, targets_of}
+use Rattle.file_records.specs.ProgramPart.{program_from, program_of, targets_of, whether, program_read}
 use Rattle.file_again.specs.Contents.{ProgramPartRead}
 use Rattle.file_written.specs.Written.{program_bytes}
 
@@ -21,9 +20,9 @@ pub record ProgramContents (P : Program) (ts : List (ℕ → ℕ)) : Type 0 wher
 
 -- the program part of f is read as this program and these targets; `alone`: f is a program file
 pub record ProgramReadAs (alone : Bool) (f : List ℕ) (P : Program) (ts : List (ℕ → ℕ)) : Type 0 where
-  pub fine : (program_from alone f 0).answer ≡ Fine
-  pub program : program_of f (program_from alone f 0).program ≡ P
-  pub targets : targets_of f (program_from alone f 0).program ≡ ts
+  pub fine : whether (program_from alone f 0) ≡ Ok tt
+  pub program : program_of f (program_read (program_from alone f 0)) ≡ P
+  pub targets : targets_of f (program_read (program_from alone f 0)) ≡ ts
 
 -- as a program file, and before the claim of a combined file, whatever follows it
 abbrev pub ProgramWrittenIsRead : Type 0

@@ -6,9 +6,9 @@ use mathlib.Core.List.{List, [], ◌∷◌, ◌++◌, append_assoc}
 use native.Mathlib.Omega.{arith}
 use native.Mathlib.Decide.{dec_lt}
 use native.Mathlib.Numerals.{unary_clauses}
-use lib.ListN.{length, get_or, set, take, drop, replicate, length-append, length-set}
+use lib.ListN.{length, take, drop, replicate, length-append}
 use lib.Dec.{leb}
-use lib.Seq.{paste, paste-zero, paste-suc, take-paste, take_at, take_all, length-take-le}
+use lib.Seq.{take_at, length-take-le}
 use borrow.Author.Tests.{eq-eqb, ne_eqb, lt-ltb, le-ltb, le-leb, leb-true}
 use Rattle.io.specs.Counts.{IsPrefixLen}
 use Rattle.io.specs.Digits.{last_digits, IsDigitCount}
@@ -19,6 +19,7 @@ use Rattle.file_again.specs.Contents.{StepOf}
 use Rattle.drawing.specs.Text.{letters}
 use Rattle.drawing.specs.Runs.{StepInRange, step_in_range}
 use Rattle.drawing.specs.Writing.{shown}
+use Rattle.drawing.specs.Parts.{placed, Put}
 use Rattle.drawing.proofs.LineLaws.{letters_short}
 use Rattle.file_contents.specs.Reading.{Input, combined}
 use Rattle.verdict.specs.declared.answer.Verdict as declared
@@ -29,36 +30,12 @@ use Rattle.hrafnolt.specs.Line.{Numbered, TwoNumbers, LineOf, word_safe, word_re
 
 -- ---- a text put in place
 
-pub record Pasted (old : List ℕ) (at : ℕ) (text : List ℕ) (new : List ℕ) (i : ℕ) : Type 0 where
-  pub fits : at + length text ≤ length old
-  pub same : length new ≡ length old
-  pub most : i ≤ length text
-  pub is : new ≡ paste old at text i
-
-pub pasted_begin : (old : List ℕ) (at : ℕ) (text : List ℕ) → at + length text ≤ length old → Pasted old at text old 0
-pasted_begin old at text l = record { fits = l; same = refl; most = omega arith; is = paste-zero old at text }
-
-pub pasted_next : {old : List ℕ} {at : ℕ} {text new : List ℕ} {i : ℕ} → Pasted old at text new i → i < length text
-    → Pasted old at text (set new (at + i) (get_or text i 0)) (i + 1)
-pasted_next {old} {at} {text} {new} {i} p l =
-    let q : suc i ≡ i + 1 = omega arith in
-    record {
-      fits = p.fits;
-      same = length-set new (at + i) (get_or text i 0) ∙ p.same;
-      most = omega arith;
-      is =
-          ap (λ (x : List ℕ). set x (at + i) (get_or text i 0)) p.is
-          ∙ paste-suc old at text i 0 (omega (arith, p.fits)) l
-          ∙ ap (paste old at text) q;
-    }
-
-pub pasted_all : {old : List ℕ} {at : ℕ} {text new : List ℕ} {i : ℕ} → Pasted old at text new i → length text ≤ i
-    → take (at + length text) new ≡ take at old ++ text
-pasted_all {old} {at} {text} {new} {i} p l =
-    let q : i ≡ length text = omega (arith, p.most) in
-    ap (take (at + length text)) (p.is ∙ ap (paste old at text) q)
-    ∙ take-paste old at text (length text) (omega (arith, p.fits)) (omega arith)
-    ∙ ap (λ (x : List ℕ). take at old ++ x) (take_all (length text) text (omega arith))
+pub taken : {old new : List ℕ} {at next : ℕ} {text : List ℕ} → Put old new at next text → take next new ≡ take at old ++ text
+unfolding placed
+taken {old} {new} {at} {next} {text} p =
+    let front : List ℕ = take at old ++ text in
+    let n : length front ≡ next = omega (arith, p.after, p.room, length-append (take at old) text, length-take-le at old (omega (arith, p.room))) in
+    ap (take next) (p.is ∙ sym (append_assoc (take at old) text (drop (at + length text) old))) ∙ take_at front (drop (at + length text) old) next n
 
 -- ---- words
 

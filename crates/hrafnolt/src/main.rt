@@ -9,6 +9,7 @@ ghost use Rattle.drawing.specs.Text.{letters};
 ghost use Rattle.drawing.specs.Runs.{StepInRange};
 ghost use Rattle.hrafnolt.specs.Line.{Numbered, LineOf, word_of, step_in, StepKnown, said};
 
+use drawing::put::put;
 use drawing::step_letters;
 use judge::judge;
 use machine_pws::Step;
@@ -33,68 +34,46 @@ fn work_area() -> [u8; 65536]
 
 // ---- the line
 
-// The text goes to a place in the line, and the place after it is handed back.
-fn put(line: &mut [u8], at: usize, text: &[u8]) -> usize
-    requires { at + length text.now ≤ length line.old }
-    ensures value { result ≡ at + length text.now }
-    ensures line_after { take result line.new ≡ take at line.old ++ text.now }
-{
-    let n = text.len();
-    for i in 0..n {
-        line[at + i] = text[i];
-    }
-    at + n
-}
-
 // A space, and n in decimal.
 fn put_number(line: &mut [u8], at: usize, n: u64) -> usize
     requires { at + 21 ≤ length line.old }
     ensures upper_bound { result ≤ at + 21 }
     ensures numbered { Numbered (take at line.old) n (take result line.new) }
 {
-    let digits_at = put(line, at, &[b' ']);
+    let digits_at = put(line, at, b" ");
     let mut text = [0u8; 20];
     let k = io::decimal(n, &mut text);
     put(line, digits_at, &text[..k])
 }
 
+// (a) the kinds are numbers of C's struct.
 fn put_word(line: &mut [u8], kind: u64) -> usize
     requires { 64 ≤ length line.old }
     ensures upper_bound { result ≤ 9 }
     ensures line_after { take result line.new ≡ word_of kind }
 {
-    if kind == 0 {
-        return put(line, 0, &[b's', b'a', b'f', b'e']);
+    match kind {
+        0 => put(line, 0, b"safe"),
+        1 => put(line, 0, b"reachable"),
+        3 => put(line, 0, b"pso"),
+        _ => put(line, 0, b"refused"),
     }
-    if kind == 1 {
-        return put(
-            line,
-            0,
-            &[b'r', b'e', b'a', b'c', b'h', b'a', b'b', b'l', b'e'],
-        );
-    }
-    if kind == 3 {
-        return put(line, 0, &[b'p', b's', b'o']);
-    }
-    put(line, 0, &[b'r', b'e', b'f', b'u', b's', b'e', b'd'])
 }
 
 fn step_of(verdict: Verdict) -> Step
     ensures { result ≡ step_in verdict }
 {
-    if verdict.step_kind == 0x20 {
-        return Step::Take {
+    match verdict.step_kind {
+        0x20 => Step::Take {
             transition: verdict.step_first as usize,
-        };
-    }
-    if verdict.step_kind == 0x21 {
-        return Step::Serialise {
+        },
+        0x21 => Step::Serialise {
             process: verdict.step_first as usize,
             variable: verdict.step_second as usize,
-        };
-    }
-    Step::Update {
-        process: verdict.step_first as usize,
+        },
+        _ => Step::Update {
+            process: verdict.step_first as usize,
+        },
     }
 }
 
@@ -104,7 +83,7 @@ fn put_step(line: &mut [u8], at: usize, step: Step) -> usize
     ensures upper_bound { result ≤ at + 6 }
     ensures line_after { StepInRange step → take result line.new ≡ take at line.old ++ (32 ∷ letters step) }
 {
-    let letters_at = put(line, at, &[b' ']);
+    let letters_at = put(line, at, b" ");
     let mut text = [0u8; 5];
     let k = step_letters(step, &mut text);
     put(line, letters_at, &text[..k])
@@ -119,14 +98,14 @@ fn put_line(line: &mut [u8], verdict: Verdict) -> usize
     let word = put_word(line, verdict.kind);
     let first = put_number(line, word, verdict.first);
     if verdict.kind == 0 {
-        return put(line, first, &[b'\n']);
+        return put(line, first, b"\n");
     }
     let second = put_number(line, first, verdict.second);
     if verdict.step_kind == 0 {
-        return put(line, second, &[b'\n']);
+        return put(line, second, b"\n");
     }
     let third = put_step(line, second, step_of(verdict));
-    put(line, third, &[b'\n'])
+    put(line, third, b"\n")
 }
 
 // The line for an input, of which there may be any number of bytes.
@@ -135,8 +114,7 @@ fn line_for(input: &[u8], line: &mut [u8]) -> usize
     ensures prefix_len { IsPrefixLen result line.new }
     ensures line_of { LineOf (said input.now) (take result line.new) }
 {
-    let is_long = input.len() > 65536;
-    if is_long {
+    if input.len() > 65536 {
         return put_line(
             line,
             Verdict {
@@ -166,6 +144,7 @@ fn has_argument(rt: &impl Env) -> bool {
 }
 
 // Reads until the buffer is full or the input ends. A read that fails is not the input's end.
+// (d) std's read_exact would say less: how much was read is lost where the input ends early.
 fn read_full<R: Read>(reader: &mut R, buf: &mut [u8]) -> Result<usize>
     ensures { IfOk result (λ n. IsPrefixLen n buf.new) }
 {

@@ -1,4 +1,5 @@
 -- From what the reading hands on to the verdict of the file.
+use Rattle.std.specs.Prelude.{Result, Ok, Err}
 use Prim.Native.Nat.{ℕ, ◌*◌, ◌-◌, ◌<◌, ◌≤◌}
 use mathlib.Core.Path.{◌≡◌, refl, sym, ap, ap₂, ◌∙◌}
 use mathlib.Core.Bool.{Bool, true, false, cond, ◌&&◌, not}
@@ -10,14 +11,13 @@ use lib.Dec.{eqb, leb}
 use borrow.Author.Tests.{eq-eqb, ne_eqb, lt-leb}
 use Rattle.machine_pws.specs.declared.Step.{Step}
 use Rattle.machine_pws.specs.Program as pws
-use Rattle.file_records.specs.declared.program.Refusal.{Refusal}
-use Rattle.file_records.specs.declared.program.Checked.TheVariants.{Fine, Refused}
 use Rattle.file_records.specs.declared.program.Program.{Program}
 use Rattle.file_contents.specs.declared.evidence.Part.TheVariants.{InProgram, InEvidence}
-use Rattle.file_contents.specs.declared.evidence.Reading.{Reading}
+use Rattle.file_contents.specs.declared.evidence.Contents.{Contents}
+use Rattle.file_contents.specs.declared.evidence.Unread as why
 use Rattle.machine_pws.specs.Machine.{Configuration}
 use Rattle.list_theory.specs.Decision as decision
-use Rattle.file_records.specs.ProgramPart.{refusal_of, program_of, targets_of}
+use Rattle.file_records.specs.ProgramPart.{program_of, targets_of}
 use Rattle.file_contents.specs.EvidencePart.{steps_of, entries_allowed}
 use Rattle.file_contents.specs.Cube.{configuration_of}
 use Rattle.file_contents.specs.Reading as reading
@@ -53,16 +53,12 @@ answered x area r e = record { verdict = judged x area; judged = (judged_one x a
 
 -- ---- the record that is handed back
 
-none_found : (x : Input) → offending_by x.code x.file InEvidence 0 0 ≡ end_of_file x.code x.file InEvidence
-unfolding is_of_record
-none_found x = of_other x.code x.file InEvidence 0 0 refl (λ e. omega (arith, e))
-
 -- an answer that is not of the reading hands back the empty end of the evidence
 ends : (x : Input) (a : Answer) → 9 ≤ code (verdict_in a) → offending_in x a ≡ end_of_file x.code x.file InEvidence
 unfolding is_of_record
-ends x (Safe n) l = none_found x
-ends x (Reachable n k) l = none_found x
-ends x (Pso n k) l = none_found x
+ends x (Safe n) l = refl
+ends x (Reachable n k) l = refl
+ends x (Pso n k) l = refl
 ends x (Unread w r) l =
     let past : 8 ≤ r.number = omega (arith, l) in
     let e : (leb 1 r.number && (leb r.number 7 && not (eqb r.number 6))) ≡ false =
@@ -72,11 +68,11 @@ ends x (Unread w r) l =
     and_false : (b : Bool) → (b && false) ≡ false
     and_false true = refl
     and_false false = refl
-ends x (Unheld k) l = none_found x
-ends x (Started k) l = none_found x
-ends x (Entered k s) l = none_found x
-ends x (Stopped k cause) l = none_found x
-ends x (Missed n) l = none_found x
+ends x (Unheld k) l = refl
+ends x (Started k) l = refl
+ends x (Entered k s) l = refl
+ends x (Stopped k cause) l = refl
+ends x (Missed n) l = refl
 
 -- in an area that is too short
 pub short_offending : (x : Input) (area : ℕ) → area < 65536
@@ -124,18 +120,12 @@ either_read : (x : Input) (area : ℕ) (b : Bool) {P : pws.Program} {ts : List (
 either_read x area true e = run_read_lem x area e
 either_read x area false e = pso_run_read x area e
 
-module _ (x : Input) (w : List ℕ) (R : Reading) (r : R ≡ reading.reading_of x (reading.parts_of x (length w))) where
+module _ (x : Input) (w : List ℕ) (R : Result Contents why.Unread) (r : R ≡ reading.reading_of x (reading.parts_of x (length w))) where
   abbrev g : List ℕ
   g = x.code
 
   abbrev f : List ℕ
   f = x.file
-
-  abbrev p : Program
-  p = R.contents.program
-
-  abbrev n : ℕ
-  n = R.contents.evidence.count
 
   -- the answer a is the judgement, the record is handed back, and past the bytes that belong to the judgement the area is as it was lent
   abbrev Said : Answer → List ℕ → Type 0
@@ -151,41 +141,43 @@ module _ (x : Input) (w : List ℕ) (R : Reading) (r : R ≡ reading.reading_of 
   judged_of y e = sym (ap of_file e)
 
   -- the reading was refused: so the judgement is, and this record is handed back
-  module _ (y z : Refusal) (q : R.answer ≡ Refused y) (e : z ≡ refusal_of R.answer) where
-    same : z ≡ y
-    same = e ∙ ap refusal_of q
+  module _ (u : why.Unread) (q : R ≡ Err u) where
+    pub unread_said : verdict_in (Unread u.part u.refusal) ≡ judged x (length w)
+    unread_said = judged_of (reading.refused u.part u.refusal) (reading_refused_lem x w R r u q)
 
-    pub unread_said : verdict_in (Unread R.part z) ≡ judged x (length w)
-    unread_said = ap (λ (z : Refusal). refused z.number z.place) same ∙ judged_of (reading.refused R.part y) (reading_refused_lem x w R r y q)
-
-    pub unread_offending : offending_in x (Unread R.part z) ≡ offending x (reading.read_file x (length w))
-    unread_offending =
-        ap (λ (z : Refusal). offending_by x.code x.file R.part z.number z.place) same ∙ sym (ap (offending x) (reading_refused_lem x w R r y q))
+    pub unread_offending : offending_in x (Unread u.part u.refusal) ≡ offending x (reading.read_file x (length w))
+    unread_offending = sym (ap (offending x) (reading_refused_lem x w R r u q))
 
     -- what is returned then, and what the reading left in the area
-    pub unread_returned : (work : List ℕ) → work ≡ reading.area_read (reading.parts_of x (length w)) w → 65536 ≤ length w → Said (Unread R.part z) work
+    pub unread_returned : (work : List ℕ) → work ≡ reading.area_read (reading.parts_of x (length w)) w → 65536 ≤ length w → Said (Unread u.part u.refusal) work
     unread_returned work e l = (unread_said, (unread_offending, left work e l))
 
-  module _ (q : R.answer ≡ Fine) where
-    module _ (work : List ℕ) (e : work ≡ reading.area_read (reading.parts_of x (length w)) w) (c : R.contents.claim ≡ 0) where
+  module _ (C : Contents) (q : R ≡ Ok C) where
+    abbrev p : Program
+    p = C.program
+
+    abbrev n : ℕ
+    n = C.evidence.count
+
+    module _ (work : List ℕ) (e : work ≡ reading.area_read (reading.parts_of x (length w)) w) (c : C.claim ≡ 0) where
       entries_length : length (entries_of f (drop 16384 work) n) ≡ n
       entries_length = table_length (λ i. configuration_of (cube_at f (drop 16384 work) i)) 0 n
 
       listed : Listed g f (drop 16384 work) n p
       listed =
-          let L = list_read x (length w) (reading_list x w R r q work e c) in
+          let L = list_read x (length w) (reading_list x w R r C q work e c) in
           record {
-            sizes = reading_sizes x w R r q;
+            sizes = reading_sizes x w R r C q;
             part = L.part;
-            count = omega (arith, reading_count x w R r q work e c, few (entries_allowed (length w)) (length w) refl);
+            count = omega (arith, reading_count x w R r C q work e c, few (entries_allowed (length w)) (length w) refl);
             entries = λ k l. L.entries k (omega (arith, entries_length));
-            cubes = reading_cube x w R r q work e c;
+            cubes = reading_cube x w R r C q work e c;
           }
 
       -- there is room for the offsets of the entries allowed, and for their slots behind them
       module _ (list : List ℕ) (d : list ≡ drop 16384 work) (at : ℕ) (a : at ≡ 4 * entries_allowed (length w)) (large : 65536 ≤ length w) (same : length work ≡ length w) where
         many : n ≤ entries_allowed (length w)
-        many = reading_count x w R r q work e c
+        many = reading_count x w R r C q work e c
 
         pub ready : ListReady g f list at n p
         unfolding entries_allowed
@@ -203,11 +195,11 @@ module _ (x : Input) (w : List ℕ) (R : Reading) (r : R ≡ reading.reading_of 
         es = entries_of f (drop 16384 work) n
 
         pub list_handed : (a : Answer) → verdict_in a ≡ judged x (length w) → offending_in x a ≡ offending x (reading.read_file x (length w))
-        list_handed a h = list_offending x (length w) a (program_of g p) (targets_of g p) es (reading_list x w R r q work e c) h
+        list_handed a h = list_offending x (length w) a (program_of g p) (targets_of g p) es (reading_list x w R r C q work e c) h
 
         pub list_said_lem : (v : Verdict) → v ≡ list_said g f (take at list) n p → v ≡ judged x (length w)
         list_said_lem v h =
-            h ∙ ap (λ (l : List ℕ). list_said g f (take at l) n p) d ∙ said_taken g f (drop 16384 work) at n p (omega (arith, many)) ∙ judged_of _ (reading_list x w R r q work e c)
+            h ∙ ap (λ (l : List ℕ). list_said g f (take at l) n p) d ∙ said_taken g f (drop 16384 work) at n p (omega (arith, many)) ∙ judged_of _ (reading_list x w R r C q work e c)
 
         -- past the bytes that belong to the judgement all is as the reading left it
         pub list_area : {last : List ℕ} → last ≡ summarised f p.shape at n (slots_cleared list at n) → drop (used_of (length w)) work ≡ drop (used_of (length w)) w
@@ -237,25 +229,25 @@ module _ (x : Input) (w : List ℕ) (R : Reading) (r : R ≡ reading.reading_of 
             let said : verdict_in v ≡ judged x (length w) = list_said_lem upper d at placed large kept (verdict_in v) h in
             (said, (list_handed upper d at placed large kept v said, list_area upper d at placed large kept y (left work e large)))
 
-    pub run_said : (R.contents.claim ≡ 0 → ⊥) → (v : Verdict) (lower : ℕ) → lower ≡ 16384
+    pub run_said : (C.claim ≡ 0 → ⊥) → (v : Verdict) (lower : ℕ) → lower ≡ 16384
         → (pws.ProgramInRange (program_of g p) → n ≤ 1024 → lower ≡ 16384
-        → v ≡ of_file (reading.run_read R.contents.claim (program_of g p) (targets_of g p) R.contents.memory (steps_of f R.contents.evidence.at n)))
+        → v ≡ of_file (reading.run_read C.claim (program_of g p) (targets_of g p) C.memory (steps_of f C.evidence.at n)))
         → v ≡ judged x (length w)
     run_said c v lower l h =
-        let s = reading_run x w R r q c in
-        let L : RunRead (program_of g p) (targets_of g p) R.contents.memory (steps_of f R.contents.evidence.at n) =
-        either_read x (length w) (eqb R.contents.claim 1) s in
-        h L.part.program (omega (arith, L.count, steps_length f R.contents.evidence.at n)) l ∙ judged_of _ s
+        let s = reading_run x w R r C q c in
+        let L : RunRead (program_of g p) (targets_of g p) C.memory (steps_of f C.evidence.at n) =
+        either_read x (length w) (eqb C.claim 1) s in
+        h L.part.program (omega (arith, L.count, steps_length f C.evidence.at n)) l ∙ judged_of _ s
 
-    pub run_handed : (R.contents.claim ≡ 0 → ⊥) → (a : Answer) → verdict_in a ≡ judged x (length w) → offending_in x a ≡ offending x (reading.read_file x (length w))
+    pub run_handed : (C.claim ≡ 0 → ⊥) → (a : Answer) → verdict_in a ≡ judged x (length w) → offending_in x a ≡ offending x (reading.read_file x (length w))
     run_handed c a h =
-        run_offending x (length w) a R.contents.claim (program_of g p) (targets_of g p) R.contents.memory (steps_of f R.contents.evidence.at n)
-        (reading_run x w R r q c) h
+        run_offending x (length w) a C.claim (program_of g p) (targets_of g p) C.memory (steps_of f C.evidence.at n)
+        (reading_run x w R r C q c) h
 
-    pub run_returned : (R.contents.claim ≡ 0 → ⊥) → (work : List ℕ) → work ≡ reading.area_read (reading.parts_of x (length w)) w → 65536 ≤ length w → length work ≡ length w
+    pub run_returned : (C.claim ≡ 0 → ⊥) → (work : List ℕ) → work ≡ reading.area_read (reading.parts_of x (length w)) w → 65536 ≤ length w → length work ≡ length w
         → (v : Answer) (last : List ℕ) → last ≡ replicate (length (take 16384 work)) 0
         → (pws.ProgramInRange (program_of g p) → n ≤ 1024 → length (take 16384 work) ≡ 16384
-        → verdict_in v ≡ of_file (reading.run_read R.contents.claim (program_of g p) (targets_of g p) R.contents.memory (steps_of f R.contents.evidence.at n)))
+        → verdict_in v ≡ of_file (reading.run_read C.claim (program_of g p) (targets_of g p) C.memory (steps_of f C.evidence.at n)))
         → Said v (last ++ drop 16384 work)
     run_returned c work e large kept v last y h =
         let said : verdict_in v ≡ judged x (length w) = run_said c (verdict_in v) (length (take 16384 work)) (length-take-le 16384 work (omega arith)) h in

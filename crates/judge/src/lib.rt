@@ -16,7 +16,7 @@ ghost use Rattle.list_judge.specs.Ready.{Ready, ListReady, slots_cleared, list_s
 use base::places::{slot_place, word_place};
 use file_contents::evidence::{Contents, Part, entries_allowed};
 use file_reading::evidence::read;
-use file_records::program::{Checked, Program, Refusal, refusal_of};
+use file_records::program::{Program, Refusal};
 use list_judge::list_answer;
 use list_summary::summarise;
 use pso_replay::run::replay_steps;
@@ -147,21 +147,19 @@ fn judge_file(alone: bool, code: &[u8], file: &[u8], work: &mut [u8]) -> Answer
     ensures result_value_2 { offending_in (input alone code.now file.now) result ≡ offending (input alone code.now file.now) (read_file (input alone code.now file.now) (length work.old)) }
     ensures work_unchanged { drop (used_of (length work.old)) work.new ≡ drop (used_of (length work.old)) work.old }
 {
-    let reading = read(alone, code, file, work);
-    let answer = reading.answer;
-    let Checked::Fine = answer else {
-        let part = reading.part;
-        return Answer::Unread {
-            part: part,
-            refusal: refusal_of(answer),
-        };
+    let contents = match read(alone, code, file, work) {
+        Ok(contents) => contents,
+        Err(unread) => {
+            return Answer::Unread {
+                part: unread.part,
+                refusal: unread.refusal,
+            };
+        }
     };
-    let contents = reading.contents;
     if contents.claim == 0 {
-        let program = contents.program;
-        let entries = contents.evidence;
         let at = summary_place(work.len());
-        return list_judged(code, file, &mut work[16384..], at, entries.count, program);
+        let count = contents.evidence.count;
+        return list_judged(code, file, &mut work[16384..], at, count, contents.program);
     }
     replay_answer(code, file, contents, &mut work[..16384])
 }

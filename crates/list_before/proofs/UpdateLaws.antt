@@ -1,16 +1,17 @@
 -- The label that a pointer repeats.
-use Prim.Native.Nat.{ℕ, suc, ◌+◌, ◌-◌, ◌/◌, ◌%◌, ◌<◌, min}
+use Prim.Native.Nat.{ℕ, suc, ◌-◌, ◌/◌, ◌%◌, ◌<◌, min}
 use mathlib.Core.Path.{◌≡◌, sym, ap, ap₂, ◌∙◌}
-use mathlib.Core.Bool.{Bool, false, ◌&&◌, not}
+use mathlib.Core.Bool.{Bool, true, ◌||◌, not}
 use mathlib.Core.List.{List, [], ◌∷◌}
 use native.Mathlib.Omega.{arith}
-use native.Mathlib.Decide.{ℕ_discrete}
 use lib.ListN.{length, get_or}
 use lib.Dec.{eqb}
 use borrow.Author.Tests.{eq-eqb, ne_eqb}
 use Rattle.machine_pws.specs.declared.Message.{Message}
 use Rattle.machine_pws.specs.Program as pws
-use Rattle.machine_pws.specs.Machine.{no_message, message, last_write}
+use Rattle.std.specs.Prelude.{Some}
+use Rattle.base.proofs.Tests.{all_false}
+use Rattle.machine_pws.specs.Machine.{all_below, no_message, message, last_write}
 use Rattle.list_theory.specs.Cubes.{message_of, any_message}
 use Rattle.file_records.specs.declared.program.Shape.{Shape}
 use Rattle.file_records.specs.ProgramPart.{shape_of}
@@ -23,21 +24,10 @@ use Rattle.list_before.specs.Before.{Repeats}
 use Rattle.list_cube.proofs.QueueLaws.{no_both}
 use Rattle.list_cube.proofs.WriteLaws.{four_list}
 
--- of the first i processes none but p points at z
-pub record Apart (zs : List ℕ) (z p i : ℕ) : Type 0 where
-  pub each : (q : ℕ) → q < i → (q ≡ p → ⊥) → get_or zs q 0 ≡ z → ⊥
-
-pub apart_begin : (zs : List ℕ) (z p : ℕ) → Apart zs z p 0
-apart_begin zs z p = record { each = λ q l. absurd (omega arith) }
-
-pub apart_next : {zs : List ℕ} {z p i : ℕ} → Apart zs z p i → not (eqb i p) && eqb (get_or zs i 0) z ≡ false → Apart zs z p (i + 1)
-apart_next {zs} {z} {p} {i} A e =
-    record {
-      each = λ q l n d. elim (ℕ_discrete q i) [
-        | yes k ↦ no_both (sym (ap₂ (λ (a b : Bool). not a && b) (ne_eqb i p (λ m. n (k ∙ m))) (eq-eqb (get_or zs i 0) z (ap (λ (j : ℕ). get_or zs j 0) (sym k) ∙ d))) ∙ e)
-        | no k ↦ A.each q (omega arith) n d
-      ];
-    }
+-- of the first n processes none but p points at z
+pub none_at : (zs : List ℕ) (z p n : ℕ) → all_below n (λ q. eqb q p || not (eqb (get_or zs q 0) z)) ≡ true → (q : ℕ) → q < n → (q ≡ p → ⊥) → get_or zs q 0 ≡ z → ⊥
+none_at zs z p n e q l d f =
+    no_both (sym e ∙ all_false n (λ q. eqb q p || not (eqb (get_or zs q 0) z)) q l (ap₂ (λ (a b : Bool). a || not b) (ne_eqb q p d) (eq-eqb (get_or zs q 0) z f)))
 
 -- values that are free are those of a message of the label
 pub free_message : (S : pws.Shape) (m k : Message) → k ≡ any_message S m.process m.variable → length m.snapshot ≡ 4 → length k.snapshot ≡ 4
@@ -49,14 +39,13 @@ free_message S m k e a b w =
     ∙ ap₂ (λ (x : ℕ) (xs : List ℕ). x ∷ xs) w.first (ap₂ (λ (x : ℕ) (xs : List ℕ). x ∷ xs) w.second (ap₂ (λ (x : ℕ) (xs : List ℕ). x ∷ xs) w.third (ap (λ (x : ℕ). x ∷ []) w.fourth)))
     ∙ four_list k.snapshot b ∙ ap (λ (x : Message). x.snapshot) e)
 
-pub repeats : (s : Shape) (c : Cube) (writes : List ℕ) (p i z : ℕ) → z ≡ get_or c.pointers p 0 → (z ≡ 0 → ⊥) → i < 16
-    → WritePlace (get_or c.messages (z - 1) no_message) i → z < get_or writes i 0
+pub repeats : (s : Shape) (c : Cube) (writes : List ℕ) (p i z : ℕ) → z ≡ get_or c.pointers p 0 → (z ≡ 0 → ⊥)
+    → WritePlace (get_or c.messages (z - 1) no_message) (Some i) → z < get_or writes i 0
     → get_or c.messages (z - 1) no_message ≡ any_message (shape_of s) (get_or c.messages (z - 1) no_message).process (get_or c.messages (z - 1) no_message).variable
     → ((q : ℕ) → q < min s.processes 4 → (q ≡ p → ⊥) → get_or c.pointers q 0 ≡ get_or c.pointers p 0 → ⊥)
     → Sound s c → LastWrites writes (configuration_of c).memory → p < s.processes → Repeats (shape_of s) (configuration_of c).memory p (i / 4) (i % 4)
-repeats s c writes p i z is some l W past free alone S ws pe =
+repeats s c writes p i z is some w past free alone S ws pe =
     let m = get_or c.messages (z - 1) no_message in
-    let w = W.label l in
     let a : m.process ≡ i / 4 = omega (arith, w.0, w.1, w.2) in
     let b : m.variable ≡ i % 4 = omega (arith, w.0, w.1, w.2) in
     let e : suc (z - 1) ≡ z = omega (arith, some) in

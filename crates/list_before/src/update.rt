@@ -1,5 +1,5 @@
 // The cubes before an update of p.
-ghost use Rattle.std.specs.Prelude.{◌≡◌, true, ℕ, ◌-◌, ◌/◌, ◌%◌, ◌≤◌, ◌<◌, min, get_or};
+ghost use Rattle.std.specs.Prelude.{◌≡◌, true, ℕ, ◌-◌, ◌/◌, ◌%◌, ◌<◌, min, get_or};
 ghost use Rattle.list_theory.specs.Cubes.{any_message};
 ghost use Rattle.list_theory.specs.Predecessors.{undone, pointed};
 ghost use Rattle.file_records.specs.ProgramPart.{shape_of};
@@ -8,9 +8,10 @@ ghost use Rattle.file_contents.specs.Cube.{configuration_of};
 ghost use Rattle.list_cube.specs.Editing.{Sound, CubeFor, LastWrites};
 ghost use Rattle.list_before.specs.Before.{Repeats, update_before};
 
-use base::bytes::{both, least};
+use base::arrays::{at_or, with_at};
+use base::below::all_below;
 use file_contents::entry::Cube;
-use file_records::program::{Shape, of_four};
+use file_records::program::Shape;
 use list_cube::messages::{inserted, raised, write_place};
 use list_key::{any_message, word};
 use machine_pws::Message;
@@ -22,14 +23,10 @@ pub fn before_update(cube: Cube, p: usize) -> Cube
     if 4 <= p {
         return cube;
     }
-    let pointers = cube.pointers;
-    let z = pointers[p];
-    if z == 0 {
-        return cube;
+    Cube {
+        pointers: with_at(cube.pointers, p, cube.pointers[p].saturating_sub(1)),
+        ..cube
     }
-    let mut next = cube;
-    next.pointers[p] = z - 1;
-    next
 }
 
 // p points at a message put in, of this label.
@@ -39,9 +36,8 @@ pub fn before_update_pointed(shape: Shape, cube: Cube, p: usize, r: u8, u: u8) -
     if 4 <= p {
         return cube;
     }
-    let pointers = cube.pointers;
-    let z = pointers[p];
-    let mut moved = raised(pointers, z);
+    let z = cube.pointers[p];
+    let mut moved = raised(cube.pointers, z);
     moved[p] = z;
     inserted(cube, z, any_message(shape, r, u), moved)
 }
@@ -50,14 +46,8 @@ pub fn before_update_pointed(shape: Shape, cube: Cube, p: usize, r: u8, u: u8) -
 fn points_alone(shape: Shape, pointers: [u8; 4], p: usize) -> bool
     ensures { result ≡ true → (q : ℕ) → q < min shape.processes 4 → (q ≡ p → ⊥) → get_or pointers q 0 ≡ get_or pointers p 0 → ⊥ }
 {
-    let n = least(shape.processes, 4);
-    let z = of_four(pointers, p);
-    for q in 0..n {
-        if both(q != p, pointers[q] == z) {
-            return false;
-        }
-    }
-    true
+    let z = at_or(pointers, p, 0);
+    all_below(shape.processes.min(4), |q| q == p || pointers[q] != z)
 }
 
 // All values of the message are free.
@@ -74,27 +64,18 @@ fn is_free(shape: Shape, message: Message) -> bool
 pub fn repeated_label(shape: Shape, cube: Cube, writes: [u8; 16], p: usize) -> usize
     ensures { result < 16 → Sound shape cube → LastWrites writes (configuration_of cube).memory → p < shape.processes → Repeats (shape_of shape) (configuration_of cube).memory p (result / 4) (result % 4) }
 {
-    let pointers = cube.pointers;
-    let z = of_four(pointers, p);
-    if z == 0 {
+    let z = at_or(cube.pointers, p, 0);
+    if z == 0 || 20 < z {
         return 16;
     }
-    if 20 < z {
+    let message = cube.messages[usize::from(z) - 1];
+    let Some(i) = write_place(message) else {
         return 16;
-    }
-    let messages = cube.messages;
-    let message = messages[(z as usize) - 1];
-    let i = write_place(message);
-    if 16 <= i {
-        return 16;
-    }
+    };
     if writes[i] <= z {
         return 16;
     }
-    if !is_free(shape, message) {
-        return 16;
-    }
-    if !points_alone(shape, pointers, p) {
+    if !is_free(shape, message) || !points_alone(shape, cube.pointers, p) {
         return 16;
     }
     i

@@ -10,7 +10,7 @@ use lib.Seq.{get_or-set_same, get_or-set_other}
 use lib.Dec.{eqb, ltb, leb}
 use borrow.Author.Tests.{eqb-true, eqb-false, ltb-true, leb-true, eq-eqb, ne_eqb}
 use Rattle.machine_pws.specs.declared.Message.{Message}
-use Rattle.machine_pws.specs.Machine.{no_message}
+use Rattle.machine_pws.specs.Machine.{all_below, no_message}
 use Rattle.file_records.specs.declared.program.Shape.{Shape}
 use Rattle.base.specs.Bytes.{byte}
 use Rattle.file_records.specs.Records.{message_at}
@@ -21,24 +21,18 @@ use Rattle.list_theory.specs.Matching.{message_matches}
 use Rattle.list_key.specs.Relation.{relation}
 use Rattle.list_key.specs.Tags.{label_number, tags_of, lowest_below, lowest_pointer}
 use Rattle.list_key.specs.Word.{Word}
-use Rattle.list_key.proofs.ValueLaws.{same_bytes, same_four}
+use Rattle.list_key.proofs.ValueLaws.{same_bytes}
 use Rattle.list_key.specs.Match.{channel_matches}
-use Rattle.list_key.proofs.Below.{and_false}
+use Rattle.base.proofs.Tests.{and_false}
 use Rattle.list_key.proofs.TagLaws.{tag_is}
 use Rattle.list_key.proofs.MarkLaws.{tags_at}
 use Rattle.list_key.specs.Cue.{Cue}
-use Rattle.list_bytes.specs.Same.{Kinds, Stands, PointsWithin, one_of, pointed_by, Pointing}
+use Rattle.list_bytes.specs.Same.{Stands, PointsWithin, one_of, pointed_by, Pointing}
 use Rattle.list_bytes.specs.Against.{Against}
 use Rattle.list_bytes.proofs.TracedLaws.{mask_in, Traced, traced_matches}
 use Rattle.list_bytes.proofs.LeftLaws.{PointsOther, cannot_stand, Left, left_begin, left_keep, left_skip, left_over}
 
 -- ---- tests
-
-pub kinds_next : (f : List ℕ) (back : ℕ) {m k : ℕ} → Kinds f back m → k ≡ back + 7 + 7 * m → byte f k ≡ 17 → Kinds f back (m + 1)
-kinds_next f back {m} {k} h d b i l = elim (ℕ_discrete i m) [
-  | yes e ↦ let z : back + 7 + 7 * i ≡ k = omega arith in ap (byte f) z ∙ b
-  | no e ↦ h i (omega arith)
-]
 
 module _ (r : ℕ → ℕ → Bool) (a b : Message) where
   pub process_other : (a.process ≡ b.process → ⊥) → false ≡ message_matches r a b
@@ -76,21 +70,6 @@ module _ (exact : Bool) (f : List ℕ) (k : ℕ) {cue label rest : ℕ} (m : Mes
 
     their_low : K.label < 65536
     their_low = omega (arith, K.labels.is, K.labels.first, K.labels.second)
-
-    pub cue_same : label + 65536 * rest ≡ cue / 2 → true ≡ message_matches (relation exact) (message_at f k) m
-    cue_same e =
-        let a = same_bytes lw K.labels (omega (arith, half, low, their_low)) in
-        let b = same_bytes rw K.snapshot (omega (arith, half, low, their_low)) in
-        label_same (relation exact) (message_at f k) m a.first a.second (same_four exact (message_at f k).snapshot m.snapshot refl K.four b)
-
-    pub cue_other : (label ≡ cue / 2 % 65536 → ⊥) → false ≡ message_matches (relation exact) (message_at f k) m
-    cue_other e = at (message_matches (relation exact) (message_at f k) m) refl
-      where
-        at : (b : Bool) → message_matches (relation exact) (message_at f k) m ≡ b → false ≡ b
-        at false q = refl
-        at true q =
-            let M = met (relation exact) (message_at f k) m q in
-            absurd (e (omega (arith, half, lw.is, K.labels.is, M.process, M.variable, their_low, low)))
 
     pub cue_values : {own : List ℕ} {r : Bool} → label ≡ cue / 2 % 65536 → own ≡ cue / 2 / 65536 % 256 ∷ cue / 2 / 65536 / 256 % 256 ∷ cue / 2 / 65536 / 65536 % 256 ∷ cue / 2 / 65536 / 16777216 % 256 ∷ []
         → r ≡ pairwise (relation exact) (message_at f k).snapshot own → r ≡ message_matches (relation exact) (message_at f k) m
@@ -147,21 +126,6 @@ pub record Table (zs who : List ℕ) (n one p : ℕ) : Type 0 where
   pub next : one ≡ one_of p
   pub small : (i : ℕ) → get_or who i 0 < one
   pub each : Pointing p zs who
-
-pub table_begin : (zs : List ℕ) {who : List ℕ} (n : ℕ) → who ≡ replicate 22 0 → Table zs who n 1 0
-table_begin zs {who} n e =
-    record {
-      most = omega arith;
-      room = ap length e;
-      next = refl;
-      small = λ i. omega (arith, ap (λ (ws : List ℕ). get_or ws i 0) e, none_at 22 i);
-      each = λ i l. ap (λ (ws : List ℕ). get_or ws i 0) e ∙ none_at 22 i;
-    }
-  where
-    none_at : (k i : ℕ) → ◌≡◌ {A = ℕ} (get_or (replicate k 0) i 0) 0
-    none_at zero i = refl
-    none_at (suc k) zero = refl
-    none_at (suc k) (suc i) = none_at k i
 
 -- a pointer behind the last message counts there
 pub table_next : {zs who : List ℕ} {n one p z k : ℕ} → Table zs who n one p → p < n → z ≡ get_or zs p 0 → k ≡ min z 21 → Table zs (set who k (get_or who k 0 + one)) n (one + one) (p + 1)
@@ -231,26 +195,16 @@ one_points (suc n) zs i h = elim (ℕ_discrete (get_or zs n 0) i) [
 
 -- ---- pointers
 
--- the first p of n pointers
-pub record Points (zs : List ℕ) (m n p : ℕ) : Type 0 where
-  pub most : p ≤ n
-  pub each : (i : ℕ) → i < p → (1 ≤ get_or zs i 0) × (get_or zs i 0 ≤ m)
-
-pub points_begin : (zs : List ℕ) (m n : ℕ) → Points zs m n 0
-points_begin zs m n = record { most = omega arith; each = λ i l. absurd (omega arith) }
-
-pub points_next : {zs : List ℕ} {m n p z : ℕ} {x : Bool} → Points zs m n p → p < n → z ≡ get_or zs p 0 → x ≡ ltb 0 z && leb z m → x ≡ true → Points zs m n (p + 1)
-points_next {zs} {m} {n} {p} {z} {x} w l e g h =
-    let y = and_true (ltb 0 z) (leb z m) (sym g ∙ h) in
-    let c = ltb-true 0 z y.0 in
-    let d = leb-true z m y.1 in
-    record {
-      most = omega arith;
-      each = λ i r. elim (ℕ_discrete i p) [
-        | yes f ↦ subst (λ (j : ℕ). (1 ≤ get_or zs j 0) × (get_or zs j 0 ≤ m)) (sym f) (omega arith, omega arith)
-        | no f ↦ w.each i (omega arith)
-      ];
-    }
+-- those that were all tested
+pub points_all : (n m : ℕ) (zs : List ℕ) → all_below n (λ p. ltb 0 (get_or zs p 0) && leb (get_or zs p 0) m) ≡ true → (p : ℕ) → p < n → (1 ≤ get_or zs p 0) × (get_or zs p 0 ≤ m)
+points_all zero m zs e p l = absurd (omega arith)
+points_all (suc n) m zs e p l =
+    let x = and_true (all_below n (λ p. ltb 0 (get_or zs p 0) && leb (get_or zs p 0) m)) (ltb 0 (get_or zs n 0) && leb (get_or zs n 0) m) e in
+    let y = and_true (ltb 0 (get_or zs n 0)) (leb (get_or zs n 0) m) x.1 in
+    elim (ℕ_discrete p n) [
+      | yes d ↦ subst (λ (k : ℕ). (1 ≤ get_or zs k 0) × (get_or zs k 0 ≤ m)) (sym d) (omega (arith, ltb-true 0 (get_or zs n 0) y.0), leb-true (get_or zs n 0) m y.1)
+      | no d ↦ points_all n m zs x.0 p (omega arith)
+    ]
 
 low_at : (n : ℕ) (zs : List ℕ) (p : ℕ) → p < n → lowest_below n zs ≤ get_or zs p 0
 low_at zero zs p l = absurd (omega arith)

@@ -25,7 +25,7 @@ use Rattle.list_theory.specs.Matching.{subsequence, queue_matches}
 use Rattle.list_key.specs.Relation.{relation}
 use Rattle.list_key.specs.Word.{Word}
 use Rattle.list_key.specs.Match.{queue_row}
-use Rattle.list_key.proofs.Below.{or_true, and_false, all_equal}
+use Rattle.base.proofs.Tests.{or_true, and_false, all_equal}
 use Rattle.list_key.proofs.ValueLaws.{newest_at, same_bytes}
 use Rattle.list_bytes.specs.Same.{Leads, leads_none, leads_more, Kinds, Stands, WaitsAt, HeldFrom, none, more, Took, took_none, took_more, Within}
 
@@ -34,14 +34,6 @@ use Rattle.list_bytes.specs.Same.{Leads, leads_none, leads_more, Kinds, Stands, 
 and_right : (x : Bool) → x && true ≡ x
 and_right true = refl
 and_right false = refl
-
-pub never : (x : Bool) → not x ≡ true → x ≡ true → ⊥
-never true e f = false≢true e
-never false e f = false≢true f
-
-pub nothing_last : (xs : List ℕ) → length xs ≡ 0 → 0 ≡ get_or xs (length xs - 1) 0
-nothing_last [] e = refl
-nothing_last (x ∷ xs) e = absurd (omega arith)
 
 pub not_cut : (f : List ℕ) (k n : ℕ) {x : Bool} → x ≡ cut f k n → x ≡ false → k + n < length f
 unfolding cut
@@ -356,10 +348,6 @@ module _ {f : List ℕ} {at : ℕ} (back : ℕ) {m : ℕ} {qs : List Queue} {x :
       let B : Loaded = record { queues = qs; messages = nothing_loaded.messages; count = 0 } in
       let E = loads_no_more (sent_on B f back m) (sent_loading B f back refl (subst (Loading f at B) d (took_loading nothing_loaded refl (loading_begin f at inside) t)) m few kinds) over ends in
       (ap (λ (l : Loaded). l.count) E ∙ sent_count B f back refl m, ap (λ (l : Loaded). l.queues) E ∙ sent_queues B f back m)
-
-pub queues_same : (s : Shape) (exact : Bool) {qs rs : List Queue} (queues : List Queue) {x y : Bool} → x ≡ y → y ≡ all_below (min s.processes 4) (queue_row s.variables exact qs queues) → rs ≡ qs
-    → x ≡ all_below (min s.processes 4) (queue_row s.variables exact rs queues)
-queues_same s exact queues e d z = e ∙ d ∙ ap (λ (qs : List Queue). all_below (min s.processes 4) (queue_row s.variables exact qs queues)) (sym z)
 
 -- ---- whatever follows the 11s, they are the oldest messages
 

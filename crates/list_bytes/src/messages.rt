@@ -1,5 +1,5 @@
 // The 11s of an entry against the messages of a cube.
-ghost use Rattle.std.specs.Prelude.{◌≡◌, true, false, [], ◌∷◌, ℕ, ◌+◌, ◌*◌, ◌/◌, ◌%◌, ◌≤◌, ◌<◌, min, length, replicate};
+ghost use Rattle.std.specs.Prelude.{◌≡◌, true, false, [], ◌∷◌, ℕ, ◌+◌, ◌*◌, ◌/◌, ◌%◌, ◌≤◌, ◌<◌, min, length, replicate, IfSome};
 ghost use Rattle.base.specs.Bytes.{byte};
 ghost use Rattle.file_records.specs.Records.{message_at};
 ghost use Rattle.machine_pws.specs.declared.Message.{Message as Messages};
@@ -12,20 +12,21 @@ ghost use Rattle.list_key.specs.Cue.{Cue};
 ghost use Rattle.list_bytes.specs.Same.{Leads, Kinds, Stands, PointsWithin, Pointing};
 ghost use Rattle.list_bytes.specs.Against.{Against};
 
-use crate::{Compared, not_same, told};
-use base::bytes::{both, cut, least, wide};
+use base::below::all_below;
+use base::bytes::cut;
 use file_contents::entry::Cube;
 use file_records::program::Shape;
 use list_key::{values_related, word};
 
 // A 12 of the entry stands there.
+#[tactic(auto, using(crate::proofs::SameLaws::not_cut))]
 fn waits_on(file: &[u8], k: usize) -> bool
     ensures { result ≡ true → (loads_waiting file.now k ≡ true) × (k + 4 ≤ length file.now) }
 {
     if cut(file, k, 3) {
         return false;
     }
-    both(file[k] == 18, both(file[k + 1] < 4, file[k + 2] < 4))
+    file[k] == 18 && (file[k + 1] < 4 && file[k + 2] < 4)
 }
 
 // Seven bytes before the first 11 of the entry whose 10 stands at a place: behind its 12s, if these stand first.
@@ -47,7 +48,7 @@ pub(crate) fn messages_at(file: &[u8], back: usize, n: usize) -> usize
 {
     let mut m = 0;
     let mut k = back + 7;
-    while both(m < n, file[k] == 17) {
+    while m < n && file[k] == 17 {
         m += 1;
         k += 7;
     }
@@ -65,14 +66,9 @@ fn pointers_at(file: &[u8], at: usize) -> [u8; 4]
 fn points_within(processes: usize, pointers: [u8; 4], m: usize) -> bool
     ensures { result ≡ true → PointsWithin processes pointers m }
 {
-    let n = least(processes, 4);
-    for p in 0..n {
-        let z = wide(pointers[p]);
-        if !both(0 < z, z <= m) {
-            return false;
-        }
-    }
-    true
+    all_below(processes.min(4), |p| {
+        0 < pointers[p] && usize::from(pointers[p]) <= m
+    })
 }
 
 // Who points at each message: 1 for the first process, 2 for the next, then 4 and 8, added up. A pointer past 20 counts at 21. The table is filled where it
@@ -81,10 +77,9 @@ fn pointing(processes: usize, pointers: [u8; 4], who: &mut [u8])
     requires { who.old ≡ replicate 22 0 }
     ensures { Pointing (min processes 4) pointers who.new }
 {
-    let n = least(processes, 4);
     let mut one = 1;
-    for p in 0..n {
-        let z = least(wide(pointers[p]), 21);
+    for p in 0..processes.min(4) {
+        let z = usize::from(pointers[p]).min(21);
         who[z] += one;
         one += one;
     }
@@ -133,10 +128,7 @@ fn stands_for(exact: bool, file: &[u8], back: usize, i: usize, cue: usize, point
     if i == 0 {
         return false;
     }
-    if !meets(exact, file, back + 7 * i, cue) {
-        return false;
-    }
-    pointed
+    meets(exact, file, back + 7 * i, cue) && pointed
 }
 
 // The m 11s behind a place, of the entry whose 10 stands at another, newest first: each stands for the newest message of the cube that is left and that it can stand for. If one
@@ -150,46 +142,41 @@ pub(crate) fn channel_at(
     shape: Shape,
     cube: Cube,
     cues: &[usize; 20],
-) -> Compared
+) -> Option<bool>
     requires at_in_bounds { at + 9 ≤ length file.now }
     requires m_in_bounds { back + 7 + 7 * m ≤ length file.now }
     requires m_bound { m ≤ 20 }
-    ensures { result.same ≡ true → (e : Cubes) → Stands file.now at back m e → Against shape cube cues.now → (result.related ≡ true → e.count ≡ m → channel_matches shape exact e cube ≡ true) × (result.related ≡ false → channel_matches shape exact e cube ≡ false) }
+    ensures { IfSome result (λ related. (e : Cubes) → Stands file.now at back m e → Against shape cube cues.now → (related ≡ true → e.count ≡ m → channel_matches shape exact e cube ≡ true) × (related ≡ false → channel_matches shape exact e cube ≡ false)) }
 {
     let pointers = pointers_at(file, at);
-    let own = cube.pointers;
     let mut theirs = [0u8; 22];
     pointing(shape.processes, pointers, &mut theirs);
     let mut ours = [0u8; 22];
-    pointing(shape.processes, own, &mut ours);
+    pointing(shape.processes, cube.pointers, &mut ours);
     // every message counts if a process is at the first
     if theirs[1] == 0 {
-        return not_same();
+        return None;
     }
     let mut all = true;
     let mut i = m;
-    let mut j = least(cube.count, 20);
+    let mut j = cube.count.min(20);
     loop {
         if j < i {
-            return told(false);
+            return Some(false);
         }
         if j == 0 {
             break;
         }
         let cue = cues[j - 1];
         if stands_for(exact, file, back, i, cue, theirs[i] == ours[j]) {
-            j -= 1;
             i -= 1;
         } else {
-            j -= 1;
-            all = both(all, cue % 2 == 0);
+            all &= cue % 2 == 0;
         }
+        j -= 1;
     }
-    if !all {
-        return not_same();
+    if !all || !points_within(shape.processes, pointers, m) {
+        return None;
     }
-    if !points_within(shape.processes, pointers, m) {
-        return not_same();
-    }
-    told(true)
+    Some(true)
 }

@@ -1,14 +1,12 @@
 -- Steps from local states that are known to be full: they are held, and nothing is searched for.
 use Prim.Native.Nat.{ℕ, ◌+◌, ◌/◌, ◌%◌, ◌<◌, ◌≤◌, min}
-use mathlib.Core.Path.{◌≡◌, refl, sym, ap, subst, ◌∙◌}
-use mathlib.Core.Bool.{Bool, true, cond}
+use mathlib.Core.Path.{◌≡◌, refl, sym, subst, ◌∙◌}
+use mathlib.Core.Bool.{true}
 use mathlib.Core.List.{List}
 use native.Mathlib.Omega.{arith}
 use native.Mathlib.Decide.{ℕ_discrete}
 use lib.ListN.{get_or}
-use borrow.Author.Tests.{le-ltb}
-use Rattle.machine_pws.specs.declared.Step.{Step}
-use Rattle.machine_pws.specs.declared.Step.TheVariants.{Take, Serialise, Update}
+use Rattle.machine_pws.specs.declared.Step.TheVariants.{Take}
 use Rattle.machine_pws.specs.declared.Transition.{Transition}
 use Rattle.file_records.specs.declared.program.Program.{Program}
 use Rattle.file_contents.specs.declared.entry.Cube.{Cube}
@@ -18,10 +16,9 @@ use Rattle.file_again.specs.Again.{transition_of, entries_of}
 use Rattle.file_again.proofs.Again.{transition_again}
 use Rattle.list_known.specs.FullStates.{Full, is_full, states_from}
 use Rattle.list_known.proofs.FullTable.{full_take, full_serialise, full_update}
-use Rattle.list_closing.specs.Walk.{step_held, walk_step, opening_at, opening_of, LowestFailing, Walkable, Surrounded}
-use Rattle.list_closing.specs.declared.Opening.{Opening}
-use Rattle.list_closing.specs.declared.Opening.TheVariants.{Shut, Through}
-use Rattle.list_closing.proofs.WalkLaws.{lowest_end, walk_update, opening_is}
+use Rattle.std.specs.Prelude.{None}
+use Rattle.list_closing.specs.Walk.{step_held, walk_step, opening_of, Walkable, Surrounded}
+use Rattle.list_closing.proofs.WalkLaws.{walk_all, shut_is}
 use Rattle.list_closing.proofs.TakeLaws.{state_differs}
 
 module _ (g f list sum : List ℕ) (n : ℕ) (p : Program) (c : Cube) (full : List ℕ) (W : Walkable g f list sum n p c) (F : Full (program_of g p) (entries_of f list n) full) where
@@ -34,26 +31,21 @@ module _ (g f list sum : List ℕ) (n : ℕ) (p : Program) (c : Cube) (full : Li
       (subst (λ (u : Transition). is_full full p.shape (states_from c.states u.process u.from) ≡ true) (e ∙ sym (transition_again g p j l)) i))
 
   -- every other step, if the entry itself is there
-  pub walk_full : is_full full p.shape c.states ≡ true → (m t : ℕ)
-      → LowestFailing (λ j. step_held (program_of g p) (entries_of f list n) (configuration_of c) (Take j)) m t → m ≤ t
-      → LowestFailing (λ j. step_held (program_of g p) (entries_of f list n) (configuration_of c) (walk_step m j)) (m + 20) (m + 20)
+  pub walk_full : is_full full p.shape c.states ≡ true → (m : ℕ)
+      → ((j : ℕ) → j < m → step_held (program_of g p) (entries_of f list n) (configuration_of c) (Take j) ≡ true)
+      → (j : ℕ) → j < m + 20 → step_held (program_of g p) (entries_of f list n) (configuration_of c) (walk_step m j) ≡ true
   unfolding step_held
-  walk_full i m t w l =
-      let e : m + 16 + 4 ≡ m + 20 = omega arith in
-      subst (λ (r : ℕ). LowestFailing (λ j. step_held (program_of g p) (entries_of f list n) (configuration_of c) (walk_step m j)) (m + 20) r) e
-      (walk_update (step_held (program_of g p) (entries_of f list n) (configuration_of c)) m w l
-      (lowest_end {r = 16} refl (λ k b. full_serialise (program_of g p) W.stepping.program (entries_of f list n) full c.states p.shape refl F (configuration_of c) W.own refl i (k / 4) (k % 4)))
-      (omega arith)
-      (lowest_end {r = 4} refl (λ q b. full_update (program_of g p) W.stepping.program (entries_of f list n) full c.states p.shape refl F (configuration_of c) W.own refl i q)))
+  walk_full i m w =
+      walk_all (step_held (program_of g p) (entries_of f list n) (configuration_of c)) m w
+      (λ k b. full_serialise (program_of g p) W.stepping.program (entries_of f list n) full c.states p.shape refl F (configuration_of c) W.own refl i (k / 4) (k % 4))
+      (λ q b. full_update (program_of g p) W.stepping.program (entries_of f list n) full c.states p.shape refl F (configuration_of c) W.own refl i q)
 
   -- and nothing leads in, if the entry's local states are full and all those from which a transition leads there
-  pub surrounded_shut : Surrounded full g p c.states → Shut ≡ opening_of (program_of g p) (entries_of f list n) (configuration_of c)
-  unfolding opening_at
+  pub surrounded_shut : Surrounded full g p c.states → None ≡ opening_of (program_of g p) (entries_of f list n) (configuration_of c)
   surrounded_shut s =
-      let m : ℕ = min p.transitions.count 256 in
-      let e : opening_at m (m + 20) ≡ Shut = ap (λ (b : Bool). cond b (Through (walk_step m (m + 20))) Shut) (le-ltb (m + 20) (m + 20) (omega arith)) in
-      sym e
-      ∙ opening_is g f list sum n p c W (walk_full s.own m m (lowest_end {r = m} refl (λ j l. held_so j (omega arith) (ℕ_discrete (get_or c.states (transition_of g p j).process 0) (transition_of g p j).to) (s.before j l))) (omega arith))
+      shut_is g f list sum n p c W
+      (walk_full s.own (min p.transitions.count 256)
+      (λ j l. held_so j (omega arith) (ℕ_discrete (get_or c.states (transition_of g p j).process 0) (transition_of g p j).to) (s.before j l)))
     where
       held_so : (j : ℕ) → j < p.transitions.count → Dec (get_or c.states (transition_of g p j).process 0 ≡ (transition_of g p j).to)
           → (get_or c.states (transition_of g p j).process 0 ≡ (transition_of g p j).to → is_full full p.shape (states_from c.states (transition_of g p j).process (transition_of g p j).from) ≡ true)

@@ -12,7 +12,7 @@ use Rattle.machine_pws.specs.declared.Step.TheVariants.{Serialise}
 use Rattle.machine_pws.specs.Machine.{all_below, at_newest, labelled, last_write, is_empty}
 use Rattle.machine_pws.specs.Entries.{FF}
 use Rattle.machine_pws.proofs.Cases.{all_yes}
-use Rattle.list_theory.specs.Cubes.{topmost, older, alike_newest}
+use Rattle.list_theory.specs.Cubes.{topmost, older}
 use Rattle.list_theory.specs.Predecessors as lists
 use Rattle.list_theory.specs.Predecessors.{has, cube, before, without_newest, serialised, serialise_kind, undone, waited, inside, on_top, pointed}
 use Rattle.list_theory.specs.Decision.{held}
@@ -27,8 +27,7 @@ use Rattle.list_cube.specs.Editing.{CubeFor}
 use Rattle.list_before.specs.Before.{serialise_before}
 use Rattle.list_cube.proofs.NewestLaws.{older_length}
 use Rattle.list_cover.specs.Search.{Searchable}
-use Rattle.list_closing.specs.Walk.{step_held, LowestFailing, Walkable, Serialising}
-use Rattle.list_closing.proofs.WalkLaws.{lowest_at}
+use Rattle.list_closing.specs.Walk.{step_held, FailsFirst, Walkable, Serialising}
 use Rattle.list_closing.proofs.OwnLaws.{top_above, own_held}
 use Rattle.list_closing.proofs.StepLaws.{truth, is_yes, not_both, decided, cond_same, step_true, step_false, searched}
 
@@ -91,7 +90,7 @@ module _ (g f list sum : List ℕ) (n : ℕ) (s : Program) (c : Cube) where
 
   -- if its own label's step is open, it is the lowest of these
   pub serialise_lowest : Walkable g f list sum n s c → (μ : Message) → μ ≡ topmost (configuration_of c).memory.channel
-      → ((p v : ℕ) → step_of p v ≡ cond (labelled (topmost (configuration_of c).memory.channel) p v) false true) → LowestFailing (λ i. step_of (i / 4) (i % 4)) 16 (4 * μ.process + μ.variable)
+      → ((p v : ℕ) → step_of p v ≡ cond (labelled (topmost (configuration_of c).memory.channel) p v) false true) → FailsFirst (λ i. step_of (i / 4) (i % 4)) 16 (4 * μ.process + μ.variable)
   serialise_lowest W μ i d = at (ltb μ.process s.shape.processes && ltb μ.variable s.shape.variables) refl
     where
       open_step : step_of μ.process μ.variable ≡ false
@@ -110,14 +109,14 @@ module _ (g f list sum : List ℕ) (n : ℕ) (s : Program) (c : Cube) where
               (sym (ap (λ (m : Message). m.variable) i ∙ eqb-true (topmost (configuration_of c).memory.channel).variable v a.1)))
           case false e = serialise_other p v e
 
-      at : (b : Bool) → ltb μ.process s.shape.processes && ltb μ.variable s.shape.variables ≡ b → LowestFailing (λ i. step_of (i / 4) (i % 4)) 16 (4 * μ.process + μ.variable)
+      at : (b : Bool) → ltb μ.process s.shape.processes && ltb μ.variable s.shape.variables ≡ b → FailsFirst (λ i. step_of (i / 4) (i % 4)) 16 (4 * μ.process + μ.variable)
       at true e =
           let a = and_true (ltb μ.process s.shape.processes) (ltb μ.variable s.shape.variables) e in
           let x : μ.process < 4 = omega (arith, ltb-true μ.process s.shape.processes a.0, W.stepping.sound.processes) in
           let y : μ.variable < 4 = omega (arith, ltb-true μ.variable s.shape.variables a.1, W.stepping.sound.variables) in
           let u : μ.process ≡ (4 * μ.process + μ.variable) / 4 = omega arith in
           let w : μ.variable ≡ (4 * μ.process + μ.variable) % 4 = omega arith in
-          lowest_at (omega arith) (λ j l. other (j / 4) (j % 4) (λ c d. omega arith)) (sym (ap₂ step_of u w) ∙ open_step)
+          record { exists = omega arith; each = λ j l. other (j / 4) (j % 4) (λ c d. omega arith); fails = sym (ap₂ step_of u w) ∙ open_step }
       at false e = absurd (not_both (serialise_absent μ.process μ.variable e) open_step)
 
   -- ---- the newest message was made so, and its label exists

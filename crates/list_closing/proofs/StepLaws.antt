@@ -4,7 +4,7 @@ use mathlib.Core.Path.{◌≡◌, refl, sym, ap, subst, ◌∙◌}
 use mathlib.Core.Bool.{Bool, true, false, cond, ◌&&◌}
 use mathlib.Core.List.{List, [], ◌∷◌, Memᴰ}
 use native.Mathlib.Omega.{arith}
-use native.Mathlib.Decide.{dec_lt, ℕ_discrete}
+use native.Mathlib.Decide.{dec_lt}
 use lib.ListN.{length, get_or, length-take}
 use lib.Dec.{T, ltb}
 use borrow.Author.Tests.{ltb-true}
@@ -63,19 +63,6 @@ yes_every f (x ∷ xs) h = go (f x) (h x (Memᴰ.head refl)) (yes_every f xs (λ
     go : (b : Bool) → T b → T (every f xs) → T (elim b [ true ↦ every f xs | false ↦ false ])
     go true t u = u
     go false t u = t
-
--- ---- a loop, so far: under the condition C each test was passed
-
-pub record Passed (C : Type 0) (g : ℕ → Bool) (m i : ℕ) : Type 0 where
-  pub most : i ≤ m
-  pub each : C → (q : ℕ) → q < i → g q ≡ true
-
-pub passed_begin : (C : Type 0) (g : ℕ → Bool) (m : ℕ) → Passed C g m 0
-passed_begin C g m = record { most = omega arith; each = λ W q l. absurd (omega arith) }
-
-pub passed_next : {C : Type 0} {g : ℕ → Bool} {m i : ℕ} → Passed C g m i → i < m → (C → g i ≡ true) → Passed C g m (i + 1)
-passed_next {C} {g} {m} {i} w l e =
-    record { most = omega arith; each = λ W q k. elim (ℕ_discrete q i) [ yes d ↦ ap g d ∙ e W | no d ↦ w.each W q (omega arith) ] }
 
 -- ---- kind by kind
 

@@ -1,22 +1,23 @@
 -- The predecessor cubes for a transition whose end is the entry's local state, by its operation.
-use Prim.Native.Nat.{ℕ, ◌<◌}
+use Prim.Native.Nat.{ℕ, ◌<◌, min}
 use mathlib.Core.Path.{◌≡◌, refl, sym, ap, ap₂, subst, ◌∙◌}
-use mathlib.Core.Bool.{Bool, true, false, cond, ◌&&◌, false≢true}
+use mathlib.Core.Bool.{Bool, true, false, cond, ◌&&◌, not, false≢true}
 use mathlib.Core.List.{List}
 use native.Mathlib.Omega.{arith}
 use lib.ListN.{length, get_or}
-use lib.Dec.{eqb, ltb}
+use lib.Dec.{T, eqb, ltb}
 use borrow.Author.Tests.{lt-ltb, ltb-true, eqb-true, eq-eqb}
 use Rattle.machine_pws.specs.declared.Operation.{Operation}
 use Rattle.machine_pws.specs.declared.Operation.TheVariants.{Write, Arw}
 use Rattle.machine_pws.specs.declared.Step.TheVariants.{Take}
 use Rattle.machine_pws.specs.declared.Transition.{Transition}
-use Rattle.machine_pws.specs.Program as pws
 use Rattle.machine_pws.specs.Program.{OperationOf, transition}
-use Rattle.machine_pws.specs.Machine.{is_empty, newest_waiting}
+use Rattle.machine_pws.specs.Machine.{all_below, is_empty, newest_waiting}
 use Rattle.list_theory.specs.Predecessors as lists
 use Rattle.list_theory.specs.Predecessors.{has, cube, has_operation, is_undone, write_kind, ends_alike, swapped, arw_kind, undone, waited, inside, on_top, pointed}
 use Rattle.list_theory.specs.Decision.{held}
+use Rattle.machine_pws.proofs.Cases.{all_yes}
+use Rattle.list_theory.proofs.Lists.{T_false, all_no}
 use Rattle.file_records.specs.declared.program.Program.{Program}
 use Rattle.file_contents.specs.declared.entry.Cube.{Cube}
 use Rattle.file_records.specs.ProgramPart.{shape_of, program_of}
@@ -30,7 +31,7 @@ use Rattle.list_before.proofs.CubeLaws.{cube_is}
 use Rattle.list_cover.specs.Search.{Searchable}
 use Rattle.list_closing.specs.Walk.{step_held, Walkable, Acting}
 use Rattle.list_closing.proofs.WalkLaws.{count_is}
-use Rattle.list_closing.proofs.StepLaws.{not_both, decided, step_true, step_false, searched}
+use Rattle.list_closing.proofs.StepLaws.{truth, is_yes, not_both, decided, step_true, step_false, searched}
 
 pub and_right : (a : Bool) → a && true ≡ a
 and_right true = refl
@@ -184,13 +185,15 @@ module _ (g f list sum : List ℕ) (n : ℕ) (p : Program) (c : Cube) (W : Walka
       at (on_top u) e = t u (ltb-true u p.shape.variables e)
       at (pointed r u) e = absurd (not_both e refl)
 
--- what the loop over the variables rests on
-pub record Swapping (f list sum : List ℕ) (n : ℕ) (p : Program) (c : Cube) (q x v old new : ℕ) : Type 0 where
-  pub code : List ℕ
-  pub walkable : Walkable code f list sum n p c
-  pub number : ℕ
-  pub acting : Acting (program_of code p) (configuration_of c) number q x (Arw v old new)
-  pub made : is_empty ((configuration_of c).queue q v) && swapped (shape_of p.shape) (configuration_of c).memory q v new ≡ true
+  -- and the messages on top decide
+  pub arw_tops : made ≡ true → undone_held ≡ true → {h : Bool} → h ≡ all_below (min p.shape.variables 4) (λ u. heldArw (on_top u))
+      → h ≡ step_held (program_of g p) (entries_of f list n) (configuration_of c) (Take j)
+  arw_tops z d {h} e =
+      let tops : ℕ → Bool = λ u. heldArw (on_top u) in
+      decided h (step_held (program_of g p) (entries_of f list n) (configuration_of c) (Take j))
+      (λ t. sym (arw_all d (λ u l. truth (all_yes (min p.shape.variables 4) tops (is_yes (sym e ∙ t)) u (omega (arith, l, W.stepping.sound.variables))))))
+      (λ t. let w = all_no (min p.shape.variables 4) tops (subst (λ (b : Bool). T (not b)) (sym (sym e ∙ t)) tt) in
+      sym (take_false g f list sum n p c W j q x (Arw v old new) A (on_top w.0) (top_has z w.0 (omega (arith, w.1))) (T_false (tops w.0) w.2)))
 
 -- ---- the transition of a number
 

@@ -1,17 +1,19 @@
 -- The predecessor cubes for an update.
 use Prim.Native.Nat.{ℕ, ◌+◌, ◌*◌, ◌/◌, ◌%◌, ◌<◌, ◌≤◌}
-use mathlib.Core.Path.{◌≡◌, refl, sym, ap, ap₂, ◌∙◌}
-use mathlib.Core.Bool.{Bool, true, false, cond, ◌&&◌}
+use mathlib.Core.Path.{◌≡◌, refl, sym, ap, ap₂, subst, ◌∙◌}
+use mathlib.Core.Bool.{Bool, true, false, cond, ◌&&◌, not}
 use mathlib.Core.List.{List}
 use native.Mathlib.Omega.{arith}
 use lib.ListN.{get_or}
-use lib.Dec.{leb, ltb}
-use borrow.Author.Tests.{lt-ltb, le-leb, le-ltb, ltb-true, leb-true}
+use lib.Dec.{T, leb, ltb}
+use borrow.Author.Tests.{lt-ltb, le-ltb, ltb-true, leb-true}
 use Rattle.machine_pws.specs.declared.Step.TheVariants.{Update}
-use Rattle.machine_pws.specs.Machine.{last_write}
+use Rattle.machine_pws.specs.Machine.{all_below, last_write}
 use Rattle.list_theory.specs.Predecessors as lists
 use Rattle.list_theory.specs.Predecessors.{has, update_kind, undone, waited, inside, on_top, pointed}
 use Rattle.list_theory.specs.Decision.{held}
+use Rattle.machine_pws.proofs.Cases.{all_yes}
+use Rattle.list_theory.proofs.Lists.{T_false, all_no}
 use Rattle.file_records.specs.declared.program.Program.{Program}
 use Rattle.file_contents.specs.declared.entry.Cube.{Cube}
 use Rattle.file_records.specs.ProgramPart.{shape_of, program_of}
@@ -22,7 +24,7 @@ use Rattle.list_cube.specs.Editing.{CubeFor, LastWrites}
 use Rattle.list_before.specs.Before.{Repeats, update_before}
 use Rattle.list_cover.specs.Search.{Searchable}
 use Rattle.list_closing.specs.Walk.{step_held, Walkable}
-use Rattle.list_closing.proofs.StepLaws.{not_both, step_true, step_false, searched}
+use Rattle.list_closing.proofs.StepLaws.{truth, is_yes, not_both, decided, step_true, step_false, searched}
 use Rattle.list_closing.proofs.OwnLaws.{repeated_above, own_held}
 
 -- that process p does not exist
@@ -105,6 +107,14 @@ module _ (g f list sum : List ℕ) (n : ℕ) (s : Program) (c : Cube) (W : Walka
       pointed_there i e (sym (own_held g f list sum n s c W (Update p) (pointed (i / 4) (i % 4)) (update_has (pointed (i / 4) (i % 4)) e)
       (repeated_above (shape_of s.shape) W.stepping.program.shape (configuration_of c) W.own.fits p (i / 4) (i % 4) exists w.0 w.1 A)))
 
+  -- so it is with the label that p's pointer repeats
+  pub own_label : (own : ℕ) → (own < 16 → Repeats (shape_of s.shape) (configuration_of c).memory p (own / 4) (own % 4)) → (i : ℕ) → i < 16 → i ≡ own → pointed_held i ≡ true
+  own_label own A i l e = at (kind_of (pointed (i / 4) (i % 4))) refl
+    where
+      at : (b : Bool) → kind_of (pointed (i / 4) (i % 4)) ≡ b → pointed_held i ≡ true
+      at true k = own_pointed i k (subst (λ (j : ℕ). Repeats (shape_of s.shape) (configuration_of c).memory p (j / 4) (j % 4)) (sym e) (A (omega (arith, l, e))))
+      at false k = pointed_absent i k
+
   pub pointed_fails : (i : ℕ) → pointed_held i ≡ false → false ≡ step_held (program_of g s) (entries_of f list n) (configuration_of c) (Update p)
   pointed_fails i z = at (kind_of (pointed (i / 4) (i % 4))) refl z
     where
@@ -129,3 +139,10 @@ module _ (g f list sum : List ℕ) (n : ℕ) (s : Program) (c : Cube) (W : Walka
           let y : (4 * r + u) / 4 ≡ r = omega arith in
           let z : (4 * r + u) % 4 ≡ u = omega arith in
           sym (ap (λ (b : Bool). cond b (held_update (pointed r u)) true) e) ∙ ap₂ (λ (r u : ℕ). cond (kind_of (pointed r u)) (held_update (pointed r u)) true) (sym y) (sym z) ∙ t (4 * r + u) (omega arith)
+
+  -- and the labels decide
+  pub update_labels : undone_held ≡ true → {h : Bool} → h ≡ all_below 16 pointed_held → h ≡ step_held (program_of g s) (entries_of f list n) (configuration_of c) (Update p)
+  update_labels d {h} e =
+      decided h (step_held (program_of g s) (entries_of f list n) (configuration_of c) (Update p))
+      (λ t. sym (update_all d (λ i l. truth (all_yes 16 pointed_held (is_yes (sym e ∙ t)) i l))))
+      (λ t. let x = all_no 16 pointed_held (subst (λ (b : Bool). T (not b)) (sym (sym e ∙ t)) tt) in sym (pointed_fails x.0 (T_false (pointed_held x.0) x.2)))

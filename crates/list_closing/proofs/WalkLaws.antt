@@ -7,8 +7,8 @@ use mathlib.Core.List.{List}
 use native.Mathlib.Omega.{arith}
 use native.Mathlib.Decide.{dec_lt, ℕ_discrete}
 use lib.ListN.{length}
-use lib.Dec.{T, eqb, ltb}
-use borrow.Author.Tests.{lt-ltb, le-ltb, eq-eqb, ne_eqb, eqb-true, ltb-true}
+use lib.Dec.{T, ltb}
+use borrow.Author.Tests.{lt-ltb, le-ltb, ltb-true}
 use mir.Facts.{and_yes}
 use Rattle.machine_pws.specs.declared.Step.{Step}
 use Rattle.machine_pws.specs.declared.Step.TheVariants.{Take, Serialise, Update}
@@ -30,9 +30,8 @@ use Rattle.file_contents.specs.Cube.{configuration_of}
 use Rattle.file_again.specs.Again.{entries_of}
 use Rattle.file_records.specs.Records.{transition_at}
 use Rattle.file_again.proofs.Tables.{table_length}
-use Rattle.list_closing.specs.declared.Opening.{Opening}
-use Rattle.list_closing.specs.declared.Opening.TheVariants.{Shut, Through}
-use Rattle.list_closing.specs.Walk.{step_held, walk_step, opening_at, opening_of, LowestFailing, Walkable}
+use Rattle.std.specs.Prelude.{Option, Some, None, is_some, unwrap_or}
+use Rattle.list_closing.specs.Walk.{step_held, walk_step, opening_at, opening_of, FailsFirst, LowestFailing, Walkable}
 use Rattle.list_closing.proofs.StepLaws.{same_truth, truth, is_yes, not_both, yes_every, held_kind, step_true}
 
 pub count_is : (g : List ℕ) (p : Program) → length (program_of g p).transitions ≡ p.transitions.count
@@ -40,29 +39,37 @@ count_is g p = table_length (λ i. transition_at g (p.transitions.at + 8 * i)) 0
 
 -- ---- the lowest that fails
 
-pub lowest_at : {g : ℕ → Bool} {n r : ℕ} → r < n → ((j : ℕ) → j < r → g j ≡ true) → g r ≡ false → LowestFailing g n r
-lowest_at l a b = record { most = omega arith; each = a; fails = λ _. b }
+lowest_first : {g : ℕ → Bool} {m n r : ℕ} → FailsFirst g m r → m ≤ n → FailsFirst g n r
+lowest_first w k = record { exists = omega (arith, w.exists); each = w.each; fails = w.fails }
 
-pub lowest_end : {g : ℕ → Bool} {n r : ℕ} → r ≡ n → ((j : ℕ) → j < n → g j ≡ true) → LowestFailing g n r
-lowest_end e a = record { most = omega arith; each = λ j l. a j (omega arith); fails = λ l. absurd (omega arith) }
-
-lowest_first : {g : ℕ → Bool} {m n r : ℕ} → LowestFailing g m r → r < m → m ≤ n → LowestFailing g n r
-lowest_first w l k = record { most = omega arith; each = w.each; fails = λ _. w.fails l }
-
-lowest_then : {g : ℕ → Bool} {m n r b : ℕ} → LowestFailing g m r → m ≤ r → LowestFailing (λ i. g (m + i)) n b → LowestFailing g (m + n) (m + b)
-lowest_then {g} {m} {n} {r} {b} w l v =
+lowest_then : {g : ℕ → Bool} {m n b : ℕ} → ((j : ℕ) → j < m → g j ≡ true) → FailsFirst (λ i. g (m + i)) n b → FailsFirst g (m + n) (m + b)
+lowest_then {g} {m} {n} {b} a v =
     record {
-      most = omega (arith, v.most);
+      exists = omega (arith, v.exists);
       each = λ j k. elim (dec_lt j m) [
-        | yes d ↦ w.each j (omega arith)
+        | yes d ↦ a j d
         | no d ↦ let e : m + (j - m) ≡ j = omega arith in ap g (sym e) ∙ v.each (j - m) (omega arith)
       ];
-      fails = λ k. v.fails (omega arith);
+      fails = v.fails;
     }
 
-lowest_same : {g h : ℕ → Bool} {n r : ℕ} → ((j : ℕ) → j < n → g j ≡ h j) → LowestFailing g n r → LowestFailing h n r
+all_then : {g : ℕ → Bool} {m n : ℕ} → ((j : ℕ) → j < m → g j ≡ true) → ((i : ℕ) → i < n → g (m + i) ≡ true) → (j : ℕ) → j < m + n → g j ≡ true
+all_then {g} {m} {n} a b j l = elim (dec_lt j m) [
+  | yes d ↦ a j d
+  | no d ↦ let e : m + (j - m) ≡ j = omega arith in ap g (sym e) ∙ b (j - m) (omega arith)
+]
+
+lowest_same : {g h : ℕ → Bool} {n r : ℕ} → ((j : ℕ) → j < n → g j ≡ h j) → FailsFirst g n r → FailsFirst h n r
 lowest_same {g} {h} {n} {r} s w =
-    record { most = w.most; each = λ j l. sym (s j (omega (arith, w.most))) ∙ w.each j l; fails = λ l. sym (s r l) ∙ w.fails l }
+    record { exists = w.exists; each = λ j l. sym (s j (omega (arith, w.exists))) ∙ w.each j l; fails = sym (s r w.exists) ∙ w.fails }
+
+-- a test of the first numbers of a greater bound
+pub lowest_least : {g : ℕ → Bool} {m n : ℕ} → m ≤ n → ((j : ℕ) → m ≤ j → j < n → g j ≡ true) → (o : Option ℕ) → LowestFailing g m o → LowestFailing g n o
+lowest_least {g} {m} {n} l a o = go o
+  where
+    go : (o : Option ℕ) → LowestFailing g m o → LowestFailing g n o
+    go (Some r) w = lowest_first w l
+    go None w = λ j k. elim (dec_lt j m) [ yes d ↦ w j d | no d ↦ a j (omega arith) k ]
 
 -- ---- steps by number
 
@@ -113,43 +120,52 @@ walk_order m i j l = elim (dec_lt i m) [
     both {s} {t} {x} {y} p q b = subst (λ (z : Step). StepBefore z t) (sym p) (subst (StepBefore x) (sym q) b)
 
 -- the step of a number
-pub opening_take : (m j : ℕ) → j < m → Through (Take j) ≡ opening_at m j
+pub opening_take : (m j : ℕ) → j < m → Some (Take j) ≡ opening_at m j
 unfolding opening_at
-opening_take m j l = sym (ap (λ (b : Bool). cond b (Through (walk_step m j)) Shut) (lt-ltb j (m + 20) (omega arith)) ∙ ap Through (step_take m j l))
+opening_take m j l = sym (ap (λ (b : Bool). cond b (Some (walk_step m j)) None) (lt-ltb j (m + 20) (omega arith)) ∙ ap Some (step_take m j l))
 
-pub opening_serialise : (m j : ℕ) → m ≤ j → j < m + 16 → Through (Serialise ((j - m) / 4) ((j - m) % 4)) ≡ opening_at m j
+pub opening_serialise : (m j : ℕ) → m ≤ j → j < m + 16 → Some (Serialise ((j - m) / 4) ((j - m) % 4)) ≡ opening_at m j
 unfolding opening_at
-opening_serialise m j a b = sym (ap (λ (b : Bool). cond b (Through (walk_step m j)) Shut) (lt-ltb j (m + 20) (omega arith)) ∙ ap Through (at_serialise m j a b))
+opening_serialise m j a b = sym (ap (λ (b : Bool). cond b (Some (walk_step m j)) None) (lt-ltb j (m + 20) (omega arith)) ∙ ap Some (at_serialise m j a b))
 
-pub opening_update : (m j : ℕ) → m + 16 ≤ j → j < m + 20 → Through (Update (j - m - 16)) ≡ opening_at m j
+pub opening_update : (m j : ℕ) → m + 16 ≤ j → j < m + 20 → Some (Update (j - m - 16)) ≡ opening_at m j
 unfolding opening_at
-opening_update m j a b = sym (ap (λ (b : Bool). cond b (Through (walk_step m j)) Shut) (lt-ltb j (m + 20) b) ∙ ap Through (at_update m j a))
+opening_update m j a b = sym (ap (λ (b : Bool). cond b (Some (walk_step m j)) None) (lt-ltb j (m + 20) b) ∙ ap Some (at_update m j a))
 
-pub opening_none : (m j : ℕ) → m + 20 ≤ j → Shut ≡ opening_at m j
+pub opening_none : (m j : ℕ) → m + 20 ≤ j → None ≡ opening_at m j
 unfolding opening_at
-opening_none m j a = sym (ap (λ (b : Bool). cond b (Through (walk_step m j)) Shut) (le-ltb j (m + 20) a))
+opening_none m j a = sym (ap (λ (b : Bool). cond b (Some (walk_step m j)) None) (le-ltb j (m + 20) a))
 
 -- transitions, serialises and updates together
 module _ (H : Step → Bool) (m : ℕ) where
-  takes : {t : ℕ} → LowestFailing (λ j. H (Take j)) m t → LowestFailing (λ j. H (walk_step m j)) m t
-  takes w = lowest_same (λ j l. ap H (sym (step_take m j l))) w
+  -- no transition fails
+  abbrev TakesAll : Type 0
+  TakesAll = (j : ℕ) → j < m → H (Take j) ≡ true
 
-  serialises : {s : ℕ} → LowestFailing (λ i. H (Serialise (i / 4) (i % 4))) 16 s → LowestFailing (λ i. H (walk_step m (m + i))) 16 s
-  serialises w = lowest_same (λ i l. ap H (sym (step_serialise m i l))) w
+  takes : TakesAll → (j : ℕ) → j < m → H (walk_step m j) ≡ true
+  takes a j l = ap H (step_take m j l) ∙ a j l
 
-  pub walk_take : {t : ℕ} → LowestFailing (λ j. H (Take j)) m t → t < m → LowestFailing (λ j. H (walk_step m j)) (m + 20) t
-  walk_take w l = lowest_first (takes w) l (omega arith)
+  -- no serialise
+  abbrev SerialisesAll : Type 0
+  SerialisesAll = (i : ℕ) → i < 16 → H (Serialise (i / 4) (i % 4)) ≡ true
 
-  pub walk_serialise : {t s : ℕ} → LowestFailing (λ j. H (Take j)) m t → m ≤ t → LowestFailing (λ i. H (Serialise (i / 4) (i % 4))) 16 s → s < 16
-      → LowestFailing (λ j. H (walk_step m j)) (m + 20) (m + s)
-  walk_serialise w l v k = lowest_then (takes w) l (lowest_first (serialises v) k (omega arith))
+  serialises : SerialisesAll → (i : ℕ) → i < 16 → H (walk_step m (m + i)) ≡ true
+  serialises a i l = ap H (step_serialise m i l) ∙ a i l
 
-  pub walk_update : {t s u : ℕ} → LowestFailing (λ j. H (Take j)) m t → m ≤ t → LowestFailing (λ i. H (Serialise (i / 4) (i % 4))) 16 s → 16 ≤ s → LowestFailing (λ p. H (Update p)) 4 u
-      → LowestFailing (λ j. H (walk_step m j)) (m + 20) (m + 16 + u)
-  walk_update {t} {s} {u} w l v k x =
+  pub walk_take : {t : ℕ} → FailsFirst (λ j. H (Take j)) m t → FailsFirst (λ j. H (walk_step m j)) (m + 20) t
+  walk_take w = lowest_first (lowest_same (λ j l. ap H (sym (step_take m j l))) w) (omega arith)
+
+  pub walk_serialise : TakesAll → {s : ℕ} → FailsFirst (λ i. H (Serialise (i / 4) (i % 4))) 16 s → FailsFirst (λ j. H (walk_step m j)) (m + 20) (m + s)
+  walk_serialise w v = lowest_then (takes w) (lowest_first (lowest_same (λ i l. ap H (sym (step_serialise m i l))) v) (omega arith))
+
+  pub walk_update : TakesAll → SerialisesAll → {u : ℕ} → FailsFirst (λ p. H (Update p)) 4 u → FailsFirst (λ j. H (walk_step m j)) (m + 20) (m + 16 + u)
+  walk_update w v {u} x =
       let e : m + (16 + u) ≡ m + 16 + u = omega arith in
-      subst (λ (r : ℕ). LowestFailing (λ j. H (walk_step m j)) (m + 20) r) e
-      (lowest_then (takes w) l (lowest_then (serialises v) k (lowest_same (λ p i. ap H (sym (step_update m p))) x)))
+      subst (λ (r : ℕ). FailsFirst (λ j. H (walk_step m j)) (m + 20) r) e
+      (lowest_then (takes w) (lowest_then (serialises v) (lowest_same (λ p i. ap H (sym (step_update m p))) x)))
+
+  pub walk_all : TakesAll → SerialisesAll → ((p : ℕ) → p < 4 → H (Update p) ≡ true) → (j : ℕ) → j < m + 20 → H (walk_step m j) ≡ true
+  walk_all w v x = all_then (takes w) (all_then {n = 4} (serialises v) (λ p l. ap H (step_update m p) ∙ x p l))
 
 module _ (P : pws.Program) (R : pws.ShapeInRange P.shape) (es : List Configuration) (e : Configuration) where
   abbrev m : ℕ
@@ -179,13 +195,11 @@ module _ (P : pws.Program) (R : pws.ShapeInRange P.shape) (es : List Configurati
   closed_each t s = step_true P es e s (λ k h. held_kind P es e s (truth (every_yes (λ s. every (held P.shape es) (predecessors P e s)) (steps P) t s (step_in P e s k (is_yes h)))) k h)
 
   -- an entry is closed exactly when no step is open
-  lowest_closed : {r : ℕ} → LowestFailing (λ j. step_held P es e (walk_step m j)) (m + 20) r → eqb r (m + 20) ≡ closed P es e
-  lowest_closed {r} w = same_truth (eqb r (m + 20)) (closed P es e)
-      (λ t. let x : r ≡ m + 20 = eqb-true r (m + 20) (truth t) in each_closed (λ j l. w.each j (omega arith)))
-      (λ t. elim (ℕ_discrete r (m + 20)) [
-        | yes d ↦ is_yes (eq-eqb r (m + 20) d)
-        | no d ↦ absurd (not_both (closed_each t (walk_step m r)) (w.fails (omega (arith, w.most))))
-      ])
+  all_closed : ((j : ℕ) → j < m + 20 → step_held P es e (walk_step m j) ≡ true) → closed P es e ≡ true
+  all_closed a = truth (each_closed a)
+
+  fails_closed : {r : ℕ} → FailsFirst (λ j. step_held P es e (walk_step m j)) (m + 20) r → closed P es e ≡ false
+  fails_closed {r} w = same_truth (closed P es e) false (λ t. not_both (closed_each t (walk_step m r)) w.fails) (λ t. absurd t)
 
   -- a step with a predecessor that is not held is a step of the program
   failing_kind : (s : Step) → step_held P es e s ≡ false → (k : lists.Kind) × (has P e s k ≡ true)
@@ -205,7 +219,7 @@ module _ (P : pws.Program) (R : pws.ShapeInRange P.shape) (es : List Configurati
       let k = failing_kind t f in
       not_both (truth (first_lower (λ s. every (held P.shape es) (predecessors P e s)) (Update 0) (steps P) (steps_order P) y t (step_in P e t k.0 (is_yes k.1)) b)) f
 
-  walked_lower : {r : ℕ} → LowestFailing (λ j. step_held P es e (walk_step m j)) (m + 20) r → (s : Step) → step_held P es e s ≡ false → StepBefore s (walk_step m r) → ⊥
+  walked_lower : {r : ℕ} → FailsFirst (λ j. step_held P es e (walk_step m j)) (m + 20) r → (s : Step) → step_held P es e s ≡ false → StepBefore s (walk_step m r) → ⊥
   walked_lower {r} w s f b =
       let k = failing_kind s f in
       let j = step_number_lem s k.0 k.1 in
@@ -218,49 +232,59 @@ module _ (P : pws.Program) (R : pws.ShapeInRange P.shape) (es : List Configurati
       ]
 
   -- the lowest of the walk is the lowest of all steps
-  lowest_step : {r : ℕ} → LowestFailing (λ j. step_held P es e (walk_step m j)) (m + 20) r → r < m + 20 → T (not (closed P es e)) → walk_step m r ≡ open_step P es e
-  lowest_step {r} w l y = ⊎_elim (λ d. d)
-      (⊎_elim (λ b. absurd (open_lower y (walk_step m r) (w.fails l) b)) (λ b. absurd (walked_lower w (open_step P es e) (open_fails y) b)))
+  lowest_step : {r : ℕ} → FailsFirst (λ j. step_held P es e (walk_step m j)) (m + 20) r → T (not (closed P es e)) → walk_step m r ≡ open_step P es e
+  lowest_step {r} w y = ⊎_elim (λ d. d)
+      (⊎_elim (λ b. absurd (open_lower y (walk_step m r) w.fails b)) (λ b. absurd (walked_lower w (open_step P es e) (open_fails y) b)))
       (before_or (walk_step m r) (open_step P es e))
 
-  lowest_opening : {r : ℕ} → LowestFailing (λ j. step_held P es e (walk_step m j)) (m + 20) r → opening_at m r ≡ opening_of P es e
+  lowest_opening : {r : ℕ} → FailsFirst (λ j. step_held P es e (walk_step m j)) (m + 20) r → opening_at m r ≡ opening_of P es e
   unfolding opening_at opening_of
-  lowest_opening {r} w = elim (dec_lt r (m + 20)) [
-    | yes l ↦
-        let c : closed P es e ≡ false = sym (lowest_closed w) ∙ ne_eqb r (m + 20) (λ d. omega arith) in
-        ap (λ (b : Bool). cond b (Through (walk_step m r)) Shut) (lt-ltb r (m + 20) l)
-        ∙ ap Through (lowest_step w l (subst (λ (b : Bool). T (not b)) (sym c) tt))
-        ∙ sym (ap (λ (b : Bool). cond b Shut (Through (open_step P es e))) c)
-    | no l ↦
-        let c : closed P es e ≡ true = sym (lowest_closed w) ∙ eq-eqb r (m + 20) (omega (arith, w.most)) in
-        ap (λ (b : Bool). cond b (Through (walk_step m r)) Shut) (le-ltb r (m + 20) (omega arith))
-        ∙ sym (ap (λ (b : Bool). cond b Shut (Through (open_step P es e))) c)
-  ]
+  lowest_opening {r} w =
+      let c : closed P es e ≡ false = fails_closed w in
+      ap (λ (b : Bool). cond b (Some (walk_step m r)) None) (lt-ltb r (m + 20) w.exists)
+      ∙ ap Some (lowest_step w (subst (λ (b : Bool). T (not b)) (sym c) tt))
+      ∙ sym (ap (λ (b : Bool). cond b None (Some (open_step P es e))) c)
 
-pub opening_is : (g f list sum : List ℕ) (n : ℕ) (p : Program) (c : Cube) → Walkable g f list sum n p c → {r : ℕ}
-    → LowestFailing (λ j. step_held (program_of g p) (entries_of f list n) (configuration_of c) (walk_step (min p.transitions.count 256) j)) (min p.transitions.count 256 + 20) r
-    → opening_at (min p.transitions.count 256) r ≡ opening_of (program_of g p) (entries_of f list n) (configuration_of c)
-opening_is g f list sum n p c W {r} w =
-    let e : min p.transitions.count 256 ≡ length (program_of g p).transitions = omega (arith, count_is g p, W.transitions) in
-    ap (λ (m : ℕ). opening_at m r) e
-    ∙ lowest_opening (program_of g p) W.stepping.program.shape (entries_of f list n) (configuration_of c)
-    (subst (λ (m : ℕ). LowestFailing (λ j. step_held (program_of g p) (entries_of f list n) (configuration_of c) (walk_step m j)) (m + 20) r) e w)
+  no_opening : ((j : ℕ) → j < m + 20 → step_held P es e (walk_step m j) ≡ true) → None ≡ opening_of P es e
+  unfolding opening_of
+  no_opening a = sym (ap (λ (b : Bool). cond b None (Some (open_step P es e))) (all_closed a))
+
+module _ (g f list sum : List ℕ) (n : ℕ) (p : Program) (c : Cube) (W : Walkable g f list sum n p c) where
+  -- the test of the walk
+  abbrev walked : ℕ → ℕ → Bool
+  walked m j = step_held (program_of g p) (entries_of f list n) (configuration_of c) (walk_step m j)
+
+  count_least : min p.transitions.count 256 ≡ length (program_of g p).transitions
+  count_least = omega (arith, count_is g p, W.transitions)
+
+  pub opening_is : {r : ℕ} → FailsFirst (walked (min p.transitions.count 256)) (min p.transitions.count 256 + 20) r
+      → opening_at (min p.transitions.count 256) r ≡ opening_of (program_of g p) (entries_of f list n) (configuration_of c)
+  opening_is {r} w =
+      ap (λ (m : ℕ). opening_at m r) count_least
+      ∙ lowest_opening (program_of g p) W.stepping.program.shape (entries_of f list n) (configuration_of c)
+      (subst (λ (m : ℕ). FailsFirst (walked m) (m + 20) r) count_least w)
+
+  pub shut_is : ((j : ℕ) → j < min p.transitions.count 256 + 20 → walked (min p.transitions.count 256) j ≡ true)
+      → None ≡ opening_of (program_of g p) (entries_of f list n) (configuration_of c)
+  shut_is a =
+      no_opening (program_of g p) W.stepping.program.shape (entries_of f list n) (configuration_of c)
+      (subst (λ (m : ℕ). (j : ℕ) → j < m + 20 → walked m j ≡ true) count_least a)
 
 -- what an opening says
 
-through : (b : Bool) (s t : Step) → cond b Shut (Through t) ≡ Through s → (b ≡ false) × (t ≡ s)
-through true s t e = absurd (subst T (sym (ap (λ (x : Opening). elim x [ Shut ↦ false | Through z ↦ true ]) e)) tt)
-through false s t e = (refl, ap (λ (x : Opening). elim x [ Shut ↦ t | Through z ↦ z ]) e)
+through : (b : Bool) (s t : Step) → cond b None (Some t) ≡ Some s → (b ≡ false) × (t ≡ s)
+through true s t e = absurd (subst T (sym (ap is_some e)) tt)
+through false s t e = (refl, ap (λ (x : Option Step). unwrap_or x t) e)
 
-shut : (b : Bool) (t : Step) → cond b Shut (Through t) ≡ Shut → b ≡ true
+shut : (b : Bool) (t : Step) → cond b None (Some t) ≡ None → b ≡ true
 shut true t e = refl
-shut false t e = absurd (subst T (ap (λ (x : Opening). elim x [ Shut ↦ false | Through z ↦ true ]) e) tt)
+shut false t e = absurd (subst T (ap is_some e) tt)
 
-pub opening_through : (P : pws.Program) (es : List Configuration) (e : Configuration) (s : Step) → opening_of P es e ≡ Through s
+pub opening_through : (P : pws.Program) (es : List Configuration) (e : Configuration) (s : Step) → opening_of P es e ≡ Some s
     → (closed P es e ≡ false) × (open_step P es e ≡ s)
 unfolding opening_of
 opening_through P es e s h = through (closed P es e) s (open_step P es e) h
 
-pub opening_shut : (P : pws.Program) (es : List Configuration) (e : Configuration) → opening_of P es e ≡ Shut → closed P es e ≡ true
+pub opening_shut : (P : pws.Program) (es : List Configuration) (e : Configuration) → opening_of P es e ≡ None → closed P es e ≡ true
 unfolding opening_of
 opening_shut P es e h = shut (closed P es e) (open_step P es e) h

@@ -1,6 +1,7 @@
 -- The walk over the predecessors of an entry, in the order of `steps`.
-use Rattle.std.specs.Prelude.{ℕ, ◌+◌, ◌-◌, ◌/◌, ◌%◌, ◌<◌, ◌≤◌, min, ◌≡◌, Bool, true, false, cond, List, length, get_or, ltb}
+use Rattle.std.specs.Prelude.{ℕ, ◌+◌, ◌-◌, ◌/◌, ◌%◌, ◌<◌, ◌≤◌, min, ◌≡◌, Bool, true, false, cond, ◌&&◌, List, length, get_or, ltb, Option, Some, None, MatchOption}
 use Rattle.machine_pws.specs.declared.Operation.{Operation}
+use Rattle.machine_pws.specs.declared.Operation.TheVariants.{Nop}
 use Rattle.machine_pws.specs.declared.Step.{Step}
 use Rattle.machine_pws.specs.declared.Step.TheVariants.{Take, Serialise, Update}
 use Rattle.machine_pws.specs.Program as pws
@@ -9,19 +10,21 @@ use Rattle.machine_pws.specs.Machine.{Configuration}
 use Rattle.machine_pws.specs.Configurations.{Fits}
 use Rattle.machine_pws.specs.Entries.{ValueOrFF, EntryOf}
 use Rattle.list_theory.specs.Lists.{every}
-use Rattle.list_theory.specs.Predecessors.{predecessors, serialised}
+use Rattle.list_theory.specs.Predecessors as lists
+use Rattle.list_theory.specs.Predecessors.{predecessors, serialised, has_operation, is_undone, undone}
 use Rattle.list_theory.specs.Decision.{held, closed, open_step}
 use Rattle.file_records.specs.declared.program.Program.{Program}
 use Rattle.file_contents.specs.declared.entry.Cube.{Cube}
 use Rattle.file_records.specs.ProgramPart.{shape_of, program_of}
 use Rattle.file_contents.specs.Cube.{configuration_of}
-use Rattle.file_again.specs.Again.{cube_at, entries_of, transition_of}
-use Rattle.list_known.specs.FullStates.{is_full, states_from}
+use Rattle.file_again.specs.Again.{cube_at, transition_of}
+use Rattle.list_known.specs.FullStates.{Full, is_full, states_from}
 use Rattle.list_known.specs.FamilyTable.{Families}
 use Rattle.list_summary.specs.Summary.{Summed}
 use Rattle.list_cube.specs.Editing.{Sound}
-use Rattle.list_closing.specs.declared.Opening.{Opening}
-use Rattle.list_closing.specs.declared.Opening.TheVariants.{Shut, Through}
+use Rattle.list_before.specs.Before.{take_before}
+use Rattle.list_closing.specs.declared.closing.Closing.{Closing}
+use Rattle.list_closing.specs.Closing.{program_in, entries_in}
 
 -- every predecessor cube of e for the step s is held: `closed` asks it of each step
 unfoldable pub step_held : pws.Program → List Configuration → Configuration → Step → Bool
@@ -37,18 +40,22 @@ walk_step transitions j =
     (cond (ltb (j - transitions) 16) (Serialise ((j - transitions) / 4) ((j - transitions) % 4)) (Update (j - transitions - 16)))
 
 -- there are 20 after the transitions
-unfoldable pub opening_at : ℕ → ℕ → Opening
-opening_at transitions j = cond (ltb j (transitions + 20)) (Through (walk_step transitions j)) Shut
+unfoldable pub opening_at : ℕ → ℕ → Option Step
+opening_at transitions j = cond (ltb j (transitions + 20)) (Some (walk_step transitions j)) None
 
 -- what `closed` and `open_step` say of an entry
-unfoldable pub opening_of : pws.Program → List Configuration → Configuration → Opening
-opening_of P es e = cond (closed P es e) Shut (Through (open_step P es e))
+unfoldable pub opening_of : pws.Program → List Configuration → Configuration → Option Step
+opening_of P es e = cond (closed P es e) None (Some (open_step P es e))
 
--- r is the lowest number below n that fails the test, or n if none does
-pub record LowestFailing (g : ℕ → Bool) (n r : ℕ) : Type 0 where
-  pub most : r ≤ n
+-- r is the lowest number below n that fails the test
+pub record FailsFirst (g : ℕ → Bool) (n r : ℕ) : Type 0 where
+  pub exists : r < n
   pub each : (j : ℕ) → j < r → g j ≡ true
-  pub fails : r < n → g r ≡ false
+  pub fails : g r ≡ false
+
+-- the lowest number below n that fails the test, or none if none does
+abbrev pub LowestFailing : (ℕ → Bool) → ℕ → Option ℕ → Type 0
+LowestFailing g n o = MatchOption o ((j : ℕ) → j < n → g j ≡ true) (FailsFirst g n)
 
 -- ---- what the walk goes over: the program is read from the bytes g, the entries from the bytes f
 
@@ -57,8 +64,7 @@ pub record Stepping (g : List ℕ) (p : Program) (c : Cube) : Type 0 where
   pub program : pws.ProgramInRange (program_of g p)
   pub sound : Sound p.shape c
 
--- And the entries with it, of which it is one. It is the condition of this crate's contracts, beside `Full` of a table of full local states and `Families` of one of full families where such are lent; on
--- other bytes its functions end, and nothing is said of what they give.
+-- and the entries with it, of which it is one
 pub record Walkable (g f list sum : List ℕ) (n : ℕ) (p : Program) (c : Cube) : Type 0 where
   pub count : n ≤ 524288
   pub transitions : p.transitions.count ≤ 256
@@ -81,10 +87,25 @@ pub record Acting (P : pws.Program) (e : Configuration) (j p x : ℕ) (o : Opera
   pub exists : j < length P.transitions
   pub is : transition P j ≡ record { process = p; from = x; operation = o; to = e.state p }
 
--- r says whether all predecessor cubes for such a transition are held, whatever bytes the program is read from
-abbrev pub TakenHeld : List ℕ → List ℕ → List ℕ → List ℕ → ℕ → Program → Cube → ℕ → ℕ → Operation → Bool → Type 0
-TakenHeld families f list sum n p c q x o r =
-    Families (shape_of p.shape) (entries_of f list n) families → (g : List ℕ) → Walkable g f list sum n p c → (j : ℕ) → Acting (program_of g p) (configuration_of c) j q x o → r ≡ step_held (program_of g p) (entries_of f list n) (configuration_of c) (Take j)
+-- The condition of this crate's contracts: the cube is one of the entries, and the tables have full local states and full families. On other bytes its
+-- functions end, and nothing is said of what they give.
+pub record Searching (w : Closing) (c : Cube) : Type 0 where
+  pub walkable : Walkable w.code.now w.listing.file.now w.listing.offsets.now w.listing.summary.now w.listing.count w.program c
+  pub full : Full (program_in w) (entries_in w) w.full.now
+  pub families : Families (shape_of w.program.shape) (entries_in w) w.families.now
+
+-- r says whether all predecessor cubes of the cube for the step are held
+abbrev pub StepHeld : Closing → Cube → Step → Bool → Type 0
+StepHeld w c s r = r ≡ step_held (program_in w) (entries_in w) (configuration_of c) s
+
+-- r says whether all predecessor cubes for such a transition are held
+abbrev pub TakenHeld : Closing → Cube → ℕ → ℕ → Operation → Bool → Type 0
+TakenHeld w c q x o r = Searching w c → (j : ℕ) → Acting (program_in w) (configuration_of c) j q x o → StepHeld w c (Take j) r
+
+-- before the operation o there is nothing but another local state, where `may` says so, and else there is nothing
+pub record LikeNop (s : pws.Shape) (e : Configuration) (q x : ℕ) (o : Operation) (may : Bool) : Type 0 where
+  pub kinds : (k : lists.Kind) → has_operation s e q o k ≡ is_undone k && may
+  pub before : take_before e q x o undone ≡ take_before e q x Nop undone
 
 -- the newest message is one that a serialise of p and v made
 pub record Serialising (g f list sum : List ℕ) (n : ℕ) (s : Program) (c : Cube) (p v : ℕ) : Type 0 where
@@ -92,3 +113,6 @@ pub record Serialising (g f list sum : List ℕ) (n : ℕ) (s : Program) (c : Cu
   pub process : p < s.shape.processes
   pub variable : v < s.shape.variables
   pub made : serialised (shape_of s.shape) (configuration_of c).memory p v ≡ true
+
+abbrev pub SerialisingIn : Closing → Cube → ℕ → ℕ → Type 0
+SerialisingIn w c p v = Serialising w.code.now w.listing.file.now w.listing.offsets.now w.listing.summary.now w.listing.count w.program c p v

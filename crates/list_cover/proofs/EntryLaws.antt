@@ -48,10 +48,6 @@ module _ (exact : Bool) (s : Shape) (f : List ℕ) (at : ℕ) (c : Cube) where
   rest entry = all_below (min s.processes 4) (queue_row s.variables exact entry.queues c.queues) && channel_matches s exact entry c
 
   -- an entry that was built
-  pub queues_differ : {entry : Cube} {x : Bool} → entry ≡ load_entry f at → x ≡ all_below (min s.processes 4) (queue_row s.variables exact entry.queues c.queues) → x ≡ false
-      → false ≡ rest (load_entry f at)
-  queues_differ {entry} z g h = sym (ap (λ (y : Bool). y && channel_matches s exact entry c) (sym g ∙ h)) ∙ ap rest z
-
   pub channel_decides : {entry : Cube} {left right : List ℕ} {x r : Bool} → Sized s c → entry ≡ load_entry f at
       → x ≡ all_below (min s.processes 4) (queue_row s.variables exact entry.queues c.queues) → x ≡ true → left ≡ tags_of s entry → right ≡ tags_of s c
       → (Suits s entry left c right → r ≡ channel_matches s exact entry c) → r ≡ rest (load_entry f at)

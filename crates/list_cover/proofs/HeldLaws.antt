@@ -1,15 +1,15 @@
 -- What entries and parts say of a cube: is it held?
-use Prim.Native.Nat.{ℕ, zero, suc, ◌+◌, ◌*◌, ◌-◌, ◌<◌, ◌≤◌, min}
+use Prim.Native.Nat.{ℕ, zero, suc, ◌+◌, ◌*◌, ◌<◌, ◌≤◌, min}
 use mathlib.Core.Path.{◌≡◌, refl, sym, ap, subst, ◌∙◌}
-use mathlib.Core.Logic.{◌⊎◌, inl, inr, ⊎_elim, ◌≢◌}
-use mathlib.Core.Bool.{Bool, true, false, cond, ◌&&◌, not}
+use mathlib.Core.Logic.{◌⊎◌, inl, inr, ◌≢◌}
+use mathlib.Core.Bool.{Bool, true, false, not}
 use mathlib.Core.List.{List, [], ◌∷◌, Memᴰ}
 use native.Mathlib.Omega.{arith}
 use lib.ListN.{length, get_or, set, length-set}
-use lib.Dec.{T, eqb, ltb}
+use lib.Dec.{T, eqb}
 use borrow.Author.Tests.{eq-eqb, ne_eqb, lt-ltb}
 use Rattle.machine_pws.specs.Program as pws
-use Rattle.machine_pws.specs.Machine.{Configuration, all_below, message, no_message}
+use Rattle.machine_pws.specs.Machine.{Configuration, all_below, no_message}
 use Rattle.machine_pws.specs.declared.Message.{Message}
 use Rattle.machine_pws.specs.Configurations.{Fits}
 use Rattle.machine_pws.specs.Entries.{FF, ValueOrFF, entry, no_entry}
@@ -25,15 +25,15 @@ use Rattle.list_theory.proofs.Splitting.{Valid, valid_place, Decided, held_decid
 use Rattle.file_records.specs.declared.program.Shape.{Shape}
 use Rattle.file_contents.specs.declared.entry.Cube.{Cube}
 use Rattle.file_records.specs.Records.{value_count}
-use Rattle.file_records.specs.ProgramPart.{shape_of, table_from}
-use Rattle.file_contents.specs.Cube.{no_queue, waiting_of, channel_of, queue_of, configuration_of}
+use Rattle.file_records.specs.ProgramPart.{shape_of}
+use Rattle.file_contents.specs.Cube.{no_queue, waiting_of, configuration_of}
 use Rattle.file_contents.proofs.CubeParts.{channel_length, channel_message, queue_of_lem}
 use Rattle.file_again.specs.Again.{cube_at, entries_of}
 use Rattle.file_again.proofs.Tables.{table_length, table_number}
 use Rattle.list_key.proofs.ValueLaws.{value_waits}
 use Rattle.list_cover.specs.declared.place.Place.{Place}
-use Rattle.list_cover.specs.declared.place.Place.TheVariants.{Whole, Waiting, Sent}
-use Rattle.list_cover.specs.Places.{part_of, value_free, waits_free, sent_free, is_free, place_of, proper, fillings, NoneFree}
+use Rattle.list_cover.specs.declared.place.Place.TheVariants.{Waiting, Sent}
+use Rattle.list_cover.specs.Places.{part_of, value_free, waits_free, sent_free, is_free, place_of, fillings, NoneFree}
 use Rattle.list_cover.specs.Search.{Plain, Covered, by_entry, by_parts}
 use Rattle.list_cover.proofs.PlaceLaws.{true_not_false, waits_free_lem, sent_free_lem}
 use Rattle.list_cover.proofs.PartLaws.{part_queues, part_messages, waiting_is, waiting_part, waiting_valid, waiting_at, sent_is, sent_part, sent_valid, sent_at}
@@ -177,8 +177,7 @@ module _ {f list : List ℕ} {n : ℕ} {s : Shape} {c : Cube} (Z : Plain f list 
     all_few v l x m = let k = Z.shape.values v l in omega arith
 
     -- the parts are searched for as the whole is
-    pub searchable_part : (a : Place) → proper s c a ≡ true → (x : ℕ) → x < fillings s a → Plain f list n s (part_of c a x)
-    searchable_part Whole e x l = Z
+    pub searchable_part : (a : Place) → is_free s c a ≡ true → (x : ℕ) → x < fillings s a → Plain f list n s (part_of c a x)
     searchable_part (Waiting p v j) e x l =
         let w = waits_free_lem s c p v j e in
         let E = waiting_part s c sixteen twenty p v j w x in
@@ -206,9 +205,8 @@ module _ {f list : List ℕ} {n : ℕ} {s : Shape} {c : Cube} (Z : Plain f list 
           waiting = λ q u. subst (λ (k : Configuration). length (k.queue q u) ≤ 9) (sym E) (Z.waiting q u);
         }
 
-    pub parts_all : (a : Place) → proper s c a ≡ true → ((x : ℕ) → x < fillings s a → held (shape_of s) (entries_of f list n) (configuration_of (part_of c a x)) ≡ true)
+    pub parts_all : (a : Place) → is_free s c a ≡ true → ((x : ℕ) → x < fillings s a → held (shape_of s) (entries_of f list n) (configuration_of (part_of c a x)) ≡ true)
         → held (shape_of s) (entries_of f list n) (configuration_of c) ≡ true
-    parts_all Whole e h = h 0 (omega arith)
     parts_all (Waiting p v j) e h =
         let w = waits_free_lem s c p v j e in
         all_parts (shape_of s) Z.shape (entries_of f list n) oes (configuration_of c) Z.fits (place_of (Waiting p v j)) (waiting_valid s c sixteen twenty p v j w) (waiting_at s c sixteen twenty p v j w)
@@ -218,9 +216,8 @@ module _ {f list : List ℕ} {n : ℕ} {s : Shape} {c : Cube} (Z : Plain f list 
         all_parts (shape_of s) Z.shape (entries_of f list n) oes (configuration_of c) Z.fits (place_of (Sent i v)) (sent_valid s c sixteen twenty i v w) (sent_at s c sixteen twenty i v w)
         (λ x l. ap (held (shape_of s) (entries_of f list n)) (sym (sent_part s c sixteen twenty i v w x)) ∙ h x (all_few v w.variable x l))
 
-    pub parts_one : (a : Place) → proper s c a ≡ true → (x : ℕ) → x < fillings s a → held (shape_of s) (entries_of f list n) (configuration_of (part_of c a x)) ≡ false
+    pub parts_one : (a : Place) → is_free s c a ≡ true → (x : ℕ) → x < fillings s a → held (shape_of s) (entries_of f list n) (configuration_of (part_of c a x)) ≡ false
         → held (shape_of s) (entries_of f list n) (configuration_of c) ≡ false
-    parts_one Whole e x l h = h
     parts_one (Waiting p v j) e x l h =
         let w = waits_free_lem s c p v j e in
         one_part (shape_of s) Z.shape (entries_of f list n) oes (configuration_of c) Z.fits (place_of (Waiting p v j)) (waiting_valid s c sixteen twenty p v j w) (waiting_at s c sixteen twenty p v j w)
@@ -232,13 +229,8 @@ module _ {f list : List ℕ} {n : ℕ} {s : Shape} {c : Cube} (Z : Plain f list 
 
 -- ---- what is covered is held
 
-pub free_is : (s : Shape) (c : Cube) (a : Place) → is_free s c a ≡ true → proper s c a ≡ true
-free_is s c Whole e = refl
-free_is s c (Waiting p v j) e = e
-free_is s c (Sent i v) e = e
-
 pub covered_is : {f list : List ℕ} {n : ℕ} {s : Shape} {c : Cube} → length c.queues ≡ 16 → length c.messages ≡ 20 → Plain f list n s c → Covered f list n s c
     → held (shape_of s) (entries_of f list n) (configuration_of c) ≡ true
 covered_is q m Z (by_entry k l e) = cube_covered Z k l e
 covered_is {s = s} q m Z (by_parts {c = c} a e g) =
-    parts_all Z q m a (free_is s c a e) (λ x l. covered_is (part_queues c a x ∙ q) (part_messages c a x ∙ m) (searchable_part Z q m a (free_is s c a e) x l) (g x l))
+    parts_all Z q m a e (λ x l. covered_is (part_queues c a x ∙ q) (part_messages c a x ∙ m) (searchable_part Z q m a e x l) (g x l))

@@ -1,17 +1,16 @@
 -- A part of a cube stands for the part of what the cube stands for, and has fewer free values.
-use Prim.Native.Nat.{ℕ, zero, suc, ◌+◌, ◌*◌, ◌-◌, ◌<◌, ◌≤◌, min}
+use Prim.Native.Nat.{ℕ, zero, suc, ◌+◌, ◌*◌, ◌<◌}
 use mathlib.Core.Path.{◌≡◌, refl, sym, ap, ap₂, subst, ◌∙◌}
-use mathlib.Core.Logic.{◌≢◌}
-use mathlib.Core.Bool.{Bool, true, false, cond, ◌&&◌}
+use mathlib.Core.Bool.{Bool, true, false, ◌&&◌}
 use mathlib.Core.List.{List, [], ◌∷◌}
 use native.Mathlib.Omega.{arith}
 use native.Mathlib.Decide.{ℕ_discrete}
 use lib.ListN.{length, get_or, set, take, length-set, length-take}
 use lib.Seq.{get_or-set_same, get_or-set_other}
-use lib.Dec.{eqb, ltb}
+use lib.Dec.{ltb}
 use borrow.Author.Tests.{lt-ltb, eq-eqb, ne_eqb}
 use Rattle.machine_pws.specs.declared.Message.{Message}
-use Rattle.machine_pws.specs.Machine.{Configuration, Memory, no_message, message, put_queue}
+use Rattle.machine_pws.specs.Machine.{no_message, put_queue}
 use Rattle.list_theory.specs.Cubes.{with_values, value_put}
 use Rattle.list_theory.specs.Covering.{split, at}
 use Rattle.list_theory.proofs.Splitting.{Valid}
@@ -24,9 +23,9 @@ use Rattle.file_contents.specs.Cube.{no_queue, waiting_of, channel_of, queue_of,
 use Rattle.file_contents.proofs.CubeParts.{channel_length, channel_message, channel_equal, queue_of_lem, queue_put}
 use Rattle.list_key.proofs.ValueLaws.{value_waits}
 use Rattle.list_cover.specs.declared.place.Place.{Place}
-use Rattle.list_cover.specs.declared.place.Place.TheVariants.{Whole, Waiting, Sent}
-use Rattle.list_cover.specs.Places.{is_whole, set_waiting, with_queues, with_messages, with_waiting, with_sent, part_of, is_free, place_of, proper, total, free, free_of, weight}
-use Rattle.list_cover.proofs.PlaceLaws.{WaitsFree, waits_free_lem, SentFree, sent_free_lem, true_not_false}
+use Rattle.list_cover.specs.declared.place.Place.TheVariants.{Waiting, Sent}
+use Rattle.list_cover.specs.Places.{set_waiting, with_queues, with_messages, with_waiting, with_sent, part_of, is_free, place_of, total, free, free_of}
+use Rattle.list_cover.proofs.PlaceLaws.{WaitsFree, waits_free_lem, SentFree, sent_free_lem}
 
 -- ---- a value of a queue, and one of a message
 
@@ -130,20 +129,17 @@ inside [] v e = absurd (omega arith)
 inside (x ∷ xs) zero e = omega arith
 inside (x ∷ xs) (suc v) e = let z = inside xs v e in omega arith
 
-pub part_less : (s : Shape) (c : Cube) → length c.queues ≡ 16 → length c.messages ≡ 20 → (a : Place) → proper s c a ≡ true → (x : ℕ) → x < 4 → (b : Place) → is_whole b ≡ false
-    → weight (part_of c a x) b < weight c a
-part_less s c m n Whole e x l b f = rw f (omega arith)
-part_less s c m n (Waiting p v j) e x l b f = rw f (omega (arith, waiting_less s c m n x l p v j (waits_free_lem s c p v j e)))
-part_less s c m n (Sent i v) e x l b f =
+pub part_less : (s : Shape) (c : Cube) → length c.queues ≡ 16 → length c.messages ≡ 20 → (a : Place) → is_free s c a ≡ true → (x : ℕ) → x < 4 → free_of (part_of c a x) < free_of c
+part_less s c m n (Waiting p v j) e x l = waiting_less s c m n x l p v j (waits_free_lem s c p v j e)
+part_less s c m n (Sent i v) e x l =
     let w = sent_free_lem s c i v e in
-    rw f (omega (arith, sent_less s c m n x l i v (inside (get_or c.messages i no_message).snapshot v w.free) w))
+    sent_less s c m n x l i v (inside (get_or c.messages i no_message).snapshot v w.free) w
 
 -- ---- sizes of a part
 
 module _ (c : Cube) where
   pub part_count : (a : Place) (x : ℕ) → (part_of c a x).count ≡ c.count
   unfolding with_waiting with_sent
-  part_count Whole x = refl
   part_count (Waiting p v j) x = go (ltb p 4 && (ltb v 4 && ltb j 9))
     where
       go : (b : Bool) → (choose b (λ _. with_queues c (set c.queues (4 * p + v) (set_waiting (get_or c.queues (4 * p + v) no_queue) j x))) (λ _. c)).count ≡ c.count
@@ -157,7 +153,6 @@ module _ (c : Cube) where
 
   pub part_queues : (a : Place) (x : ℕ) → length (part_of c a x).queues ≡ length c.queues
   unfolding with_waiting with_sent
-  part_queues Whole x = refl
   part_queues (Waiting p v j) x = go (ltb p 4 && (ltb v 4 && ltb j 9))
     where
       go : (b : Bool) → length (choose b (λ _. with_queues c (set c.queues (4 * p + v) (set_waiting (get_or c.queues (4 * p + v) no_queue) j x))) (λ _. c)).queues ≡ length c.queues
@@ -171,7 +166,6 @@ module _ (c : Cube) where
 
   pub part_messages : (a : Place) (x : ℕ) → length (part_of c a x).messages ≡ length c.messages
   unfolding with_waiting with_sent
-  part_messages Whole x = refl
   part_messages (Waiting p v j) x = go (ltb p 4 && (ltb v 4 && ltb j 9))
     where
       go : (b : Bool) → length (choose b (λ _. with_queues c (set c.queues (4 * p + v) (set_waiting (get_or c.queues (4 * p + v) no_queue) j x))) (λ _. c)).messages ≡ length c.messages

@@ -1,11 +1,10 @@
 -- Places: their bounds, and every place that a cube can have by number.
-use Prim.Native.Nat.{ℕ, zero, suc, ◌+◌, ◌*◌, ◌-◌, ◌/◌, ◌%◌, ◌<◌, ◌≤◌, min}
-use mathlib.Core.Path.{◌≡◌, refl, sym, ap, ap₂, ◌∙◌}
-use mathlib.Core.Bool.{Bool, true, false, cond, ◌&&◌, not}
+use Prim.Native.Nat.{ℕ, ◌+◌, ◌*◌, ◌-◌, ◌/◌, ◌%◌, ◌<◌, ◌≤◌, min}
+use mathlib.Core.Path.{◌≡◌, refl, sym, ap, ◌∙◌}
+use mathlib.Core.Bool.{Bool, true, false, cond, ◌&&◌}
 use native.Mathlib.Omega.{arith}
-use mathlib.Core.List.{List}
 use lib.ListN.{length, get_or}
-use lib.Dec.{eqb, ltb}
+use lib.Dec.{ltb}
 use borrow.Author.Tests.{ltb-true, eqb-true, lt-ltb, le-ltb}
 use Rattle.machine_pws.specs.Machine.{no_message}
 use Rattle.file_records.specs.declared.program.Shape.{Shape}
@@ -13,43 +12,14 @@ use Rattle.file_contents.specs.declared.entry.Cube.{Cube}
 use Rattle.file_contents.specs.Cube.{no_queue, waiting_of}
 use Rattle.file_records.proofs.ProgramLaws.{and_true}
 use Rattle.list_cover.specs.declared.place.Place.{Place}
-use Rattle.list_cover.specs.declared.place.Place.TheVariants.{Whole, Waiting, Sent}
-use Rattle.list_cover.specs.Places.{is_whole, value_free, waits_free, sent_free, is_free, proper, place_at, NoneFree, fillings}
+use Rattle.list_cover.specs.declared.place.Place.TheVariants.{Waiting, Sent}
+use Rattle.list_cover.specs.Places.{value_free, waits_free, sent_free, is_free, place_at, NoneFree, fillings}
 
 pub two_below : (a b m n : ℕ) → ltb a m && ltb b n ≡ true → (a < m) × (b < n)
 two_below a b m n e = let w = and_true (ltb a m) (ltb b n) e in (ltb-true a m w.0, ltb-true b n w.1)
 
-pub three_below : (a b c l m n : ℕ) → ltb a l && (ltb b m && ltb c n) ≡ true → (a < l) × (b < m) × (c < n)
-three_below a b c l m n e =
-    let w = and_true (ltb a l) (ltb b m && ltb c n) e in
-    let x = two_below b c m n w.1 in
-    (ltb-true a l w.0, x.0, x.1)
-
 pub true_not_false : true ≡ false → ⊥
 true_not_false e = let z : ◌≡◌ {A = ℕ} 1 0 = ap (λ (b : Bool). cond b 1 0) e in omega arith
-
-pub free_not_whole : (s : Shape) (c : Cube) (a : Place) → is_free s c a ≡ true → is_whole a ≡ true → ⊥
-free_not_whole s c Whole e f = true_not_false (sym e)
-free_not_whole s c (Waiting p v j) e f = true_not_false (sym f)
-free_not_whole s c (Sent i v) e f = true_not_false (sym f)
-
-pub free_proper : (s : Shape) (c : Cube) (a : Place) → is_free s c a ≡ true → proper s c a ≡ true
-free_proper s c Whole e = refl
-free_proper s c (Waiting p v j) e = e
-free_proper s c (Sent i v) e = e
-
-pub proper_free : (s : Shape) (c : Cube) (a : Place) → proper s c a ≡ true → is_whole a ≡ false → is_free s c a ≡ true
-proper_free s c Whole e f = absurd (true_not_false f)
-proper_free s c (Waiting p v j) e f = e
-proper_free s c (Sent i v) e f = e
-
-pub first_proper : (s : Shape) (c : Cube) (a : Place) → (is_whole a ≡ false → is_free s c a ≡ true) → proper s c a ≡ true
-first_proper s c Whole f = refl
-first_proper s c (Waiting p v j) f = f refl
-first_proper s c (Sent i v) f = f refl
-
-pub whole_twice : {x y : Bool} → x ≡ y → not x ≡ true → y ≡ true → ⊥
-whole_twice {x} {y} e f g = true_not_false (sym f ∙ ap not (e ∙ g))
 
 -- ---- what is known of a place that is free
 
@@ -125,11 +95,9 @@ module _ (s : Shape) (c : Cube) (h : (k : ℕ) → k < 224 → is_free s c (plac
   none_sent i v false e = refl
 
   pub none_free : NoneFree s c
-  none_free Whole = refl
   none_free (Waiting p v j) = none_waits p v j (waits_free s c p v j) refl
   none_free (Sent i v) = none_sent i v (sent_free s c i v) refl
 
 pub fillings_few : (s : Shape) (a : Place) → fillings s a ≤ 4
-fillings_few s Whole = omega arith
 fillings_few s (Waiting p v j) = omega arith
 fillings_few s (Sent i v) = omega arith

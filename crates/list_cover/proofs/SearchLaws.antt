@@ -1,15 +1,15 @@
 -- The search: the walk over what may match, where to split, and what the parts say of the whole.
-use Prim.Native.Nat.{ℕ, zero, suc, ◌+◌, ◌*◌, ◌-◌, ◌<◌, ◌≤◌, min}
+use Prim.Native.Nat.{ℕ, ◌+◌, ◌<◌, ◌≤◌, min}
 use mathlib.Core.Path.{◌≡◌, refl, sym, ap, subst, subst₂, ◌∙◌}
-use mathlib.Core.Logic.{◌⊎◌, inl, inr, ⊎_elim, ◌≢◌}
+use mathlib.Core.Logic.{◌⊎◌, inl, inr, ⊎_elim}
 use mathlib.Core.Bool.{Bool, true, false, cond, ◌&&◌}
-use mathlib.Core.List.{List, [], ◌∷◌}
+use mathlib.Core.List.{List}
 use native.Mathlib.Omega.{arith}
+use Rattle.std.specs.Prelude.{Option, Some, None}
 use native.Mathlib.Decide.{ℕ_discrete}
 use lib.ListN.{length, get_or}
-use lib.Dec.{T, eqb}
-use borrow.Author.Tests.{eq-eqb, ne_eqb, eqb-true}
-use Rattle.machine_pws.specs.Machine.{Configuration, all_below}
+use lib.Dec.{eqb}
+use borrow.Author.Tests.{eqb-true}
 use Rattle.list_theory.specs.Values.{fills, alike}
 use Rattle.list_theory.specs.Decision.{held}
 use Rattle.list_theory.specs.Matching.{matches}
@@ -25,78 +25,63 @@ use Rattle.list_key.specs.Number.{widened, Agrees, number_of}
 use Rattle.list_key.proofs.NumberLaws.{match_number, match_signature, number_signature, agrees_widened, signature_any}
 use Rattle.list_summary.specs.declared.walking.Walk.{Walk}
 use Rattle.list_summary.specs.Slots.{head_link, home_of}
-use Rattle.list_summary.specs.Groups.{same_states, states_at}
-use Rattle.list_summary.specs.Walks.{Left, ahead, Onward}
+use Rattle.list_summary.specs.Groups.{same_states}
+use Rattle.list_summary.specs.Walks.{Left, Onward}
 use Rattle.list_summary.proofs.GroupLaws.{all_at, at_same}
 use Rattle.list_summary.proofs.OnwardLaws.{all_walked}
 use Rattle.list_cover.specs.declared.place.Place.{Place}
-use Rattle.list_cover.specs.declared.place.Place.TheVariants.{Whole, Waiting, Sent}
-use Rattle.list_cover.specs.Places.{part_of, is_whole, is_free, proper, fillings, NoneFree}
-use Rattle.list_cover.specs.Search.{Covered, by_entry, by_parts, Plain, Searchable, Tried, Uncovered, Unmet, Stuck}
+use Rattle.list_cover.specs.declared.gaps.Gaps.{Gaps}
+use Rattle.list_cover.specs.Places.{part_of, is_free, fillings}
+use Rattle.list_cover.specs.Search.{Covered, by_parts, Plain, Searchable, splits, Tried, Uncovered, Stuck}
 use Rattle.list_bytes.specs.Against.{Sized, Against}
 use Rattle.list_key.specs.Cue.{Cues}
-use Rattle.list_cover.proofs.PlaceLaws.{true_not_false}
 use Rattle.list_cover.proofs.EntryLaws.{load_few}
 use Rattle.list_cover.proofs.PartLaws.{part_count}
 use Rattle.list_cover.proofs.HeldLaws.{cube_stuck, searchable_part, parts_one, covered_is}
 
 -- ---- a walk
 
+-- entry k is not so related to the cube
+abbrev pub Unlike : (ℕ → ℕ → Bool) → List ℕ → List ℕ → Shape → Cube → List ℕ → ℕ → Type 0
+Unlike r f list s c cues k = Against s c cues → matches (shape_of s) r (configuration_of (cube_at f list k)) (configuration_of c) ≡ false
+
 module _ (f list sum : List ℕ) (n : ℕ) (s : Shape) (states : List ℕ) (number : ℕ) where
   abbrev pub Start : ℕ → Type 0
   Start k = Left f list sum n s states number n (head_link sum (home_of number n)) false k
 
-  -- k is the entry of the walk, or still to come
-  abbrev pub Pending : Walk → ℕ → Type 0
-  Pending w k = (w.entry ≢ 0) × ((w.entry ≡ suc k) ⊎ Left f list sum n s states number w.below w.link w.led k)
+  -- entry k is still to come
+  abbrev pub Coming : Walk → ℕ → Type 0
+  Coming w k = Left f list sum n s w.states w.number w.below w.link w.led k
 
-  -- each entry that may match was seen, or is pending
+  -- each entry that may match was seen, or is still to come
   pub record Walked (Seen : ℕ → Type 0) (w : Walk) : Type 0 where
-    pub each : (k : ℕ) → Start k → Seen k ⊎ Pending w k
-
-  -- the walk is within the list
-  pub record Within (w : Walk) : Type 0 where
     pub bounded : w.below ≤ n
-    pub exists : w.entry ≤ n
+    pub each : (k : ℕ) → Start k → Seen k ⊎ Coming w k
 
-  pub within : {below link : ℕ} {led : Bool} {w : Walk} → Onward f list sum n s states number below link led w → Within w
-  within O = record { bounded = O.bounded; exists = O.exists }
+  module _ {Seen : ℕ → Type 0} {w v : Walk} {next : Option ℕ} (W : Walked Seen w) (O : Onward f list sum n s w.states w.number (min w.below n) w.link w.led next v) where
+    -- nothing is cut off from a walk within the list
+    onward_whole : Onward f list sum n s w.states w.number w.below w.link w.led next v
+    onward_whole =
+        let e : min w.below n ≡ w.below = let b = W.bounded in omega arith in
+        subst (λ (b : ℕ). Onward f list sum n s w.states w.number b w.link w.led next v) e O
 
-  onward_pending : {below link : ℕ} {led : Bool} {w : Walk} → Onward f list sum n s states number below link led w → (k : ℕ) → Left f list sum n s states number below link led k → Pending w k
-  onward_pending {w = w} O k l = elim (ℕ_discrete w.entry 0) [
-    | yes e ↦ absurd (O.none e k l)
-    | no d ↦ (d, O.rest d k l)
-  ]
+    pub walked_next : {i : ℕ} → next ≡ Some i → (v.states ≡ w.states) × (v.number ≡ w.number) → Seen i → Walked Seen v
+    walked_next {i} e same d =
+        record {
+          bounded = O.bounded;
+          each = λ k l. ⊎_elim (λ x. inl x)
+              (λ x. ⊎_elim (λ y. inl (subst Seen y d))
+              (λ y. inr (subst₂ (λ (zs : List ℕ) (m : ℕ). Left f list sum n s zs m v.below v.link v.led k) (sym same.0) (sym same.1) y))
+              (onward_whole.rest i e k x))
+              (W.each k l);
+        }
 
-  -- nothing is cut off from a walk within the list
-  pub onward_within : {link : ℕ} {led : Bool} {w v : Walk} → Within w → Onward f list sum n s states number (min w.below n) link led v → Onward f list sum n s states number w.below link led v
-  onward_within {link} {led} {w} {v} W O = let e : min w.below n ≡ w.below = let b = W.bounded in omega arith in subst (λ (b : ℕ). Onward f list sum n s states number b link led v) e O
+    pub walked_shorter : {i : ℕ} → next ≡ Some i → v.below + cond v.led 0 1 < w.below + cond w.led 0 1
+    walked_shorter {i} e = onward_whole.shorter i e
 
-  pub walked_begin : {Seen : ℕ → Type 0} {w : Walk} → Onward f list sum n s states number n (head_link sum (home_of number n)) false w → Walked Seen w
-  walked_begin O = record { each = λ k l. inr (onward_pending O k l) }
-
-  pub walked_next : {Seen : ℕ → Type 0} {w v : Walk} → Walked Seen w → Seen (w.entry - 1) → Onward f list sum n s states number w.below w.link w.led v → Walked Seen v
-  walked_next {Seen} {w} {v} W d O =
-      record {
-        each = λ k l. ⊎_elim (λ x. inl x)
-            (λ x. ⊎_elim (λ e. let u : w.entry - 1 ≡ k = omega (arith, e) in inl (subst Seen u d)) (λ y. inr (onward_pending O k y)) x.1)
-            (W.each k l);
-      }
-
-  pub walked_end : {Seen : ℕ → Type 0} {w : Walk} → Walked Seen w → w.entry ≡ 0 → (k : ℕ) → Start k → Seen k
-  walked_end W e k l = ⊎_elim (λ x. x) (λ x. absurd (x.0 e)) (W.each k l)
-
--- how far a walk can still go, its own entry counted
+-- how far a walk can still go
 abbrev pub far : Walk → ℕ
-far w = cond (eqb w.entry 0) 0 (suc (w.below + cond w.led 0 1))
-
-pub far_less : {f list sum : List ℕ} {n : ℕ} {s : Shape} {states : List ℕ} {number : ℕ} {w v : Walk} → Within f list sum n s states number w → w.entry ≢ 0
-    → Onward f list sum n s states number (min w.below n) w.link w.led v → far v < far w
-far_less {w = w} {v = v} W d O = rw (ne_eqb w.entry 0 d) (go (ℕ_discrete v.entry 0))
-  where
-    go : Dec (v.entry ≡ 0) → far v < suc (w.below + cond w.led 0 1)
-    go (yes e) = rw (eq-eqb v.entry 0 e) (omega arith)
-    go (no q) = rw (ne_eqb v.entry 0 q) (let u = O.shorter q in omega arith)
+far w = w.below + cond w.led 0 1
 
 -- ---- what was not walked over does not match
 
@@ -136,26 +121,18 @@ module _ {f list sum : List ℕ} {n : ℕ} {s : Shape} {c : Cube} (Z : Searchabl
 -- ---- a place to split at
 
 module _ (f list sum : List ℕ) (n : ℕ) (s : Shape) (c : Cube) (cues : List ℕ) (number : ℕ) where
-  pub record Choosing (a : Place) (met : Bool) (w : Walk) : Type 0 where
-    pub within : Within f list sum n s c.states number w
-    pub proper : proper s c a ≡ true
-    pub unmet : met ≡ false → Against s c cues
-        → Walked f list sum n s c.states number (λ k. matches (shape_of s) alike (configuration_of (cube_at f list k)) (configuration_of c) ≡ false) w
+  pub record Choosing (best : Option Gaps) (w : Walk) : Type 0 where
+    pub splits : splits s c best ≡ true
+    pub walked : Walked f list sum n s c.states number (λ k. best ≡ None → Unlike alike f list s c cues k) w
 
-  pub choosing_begin : {w : Walk} → Onward f list sum n s c.states number n (head_link sum (home_of number n)) false w → Choosing Whole false w
-  choosing_begin O = record { within = within f list sum n s c.states number O; proper = refl; unmet = λ e A. walked_begin f list sum n s c.states number O }
-
-  pub choosing_next : {a b : Place} {met now : Bool} {w v : Walk} → Choosing a met w → Tried f list s c cues a met (w.entry - 1) b now
-      → Onward f list sum n s c.states number (min w.below n) w.link w.led v → Choosing b now v
-  choosing_next C Y O =
-      record {
-        within = within f list sum n s c.states number O;
-        proper = Y.kept C.proper;
-        unmet = λ e A. walked_next f list sum n s c.states number (C.unmet (Y.before e) A) (Y.unmet e A) (onward_within f list sum n s c.states number C.within O);
-      }
-
-  pub choosing_end : {a : Place} {met : Bool} {w : Walk} → Choosing a met w → w.entry ≡ 0 → met ≡ false → Unmet f list sum n s c cues number
-  choosing_end C z e A = walked_end f list sum n s c.states number (C.unmet e A) z
+  module _ {best : Option Gaps} {w v : Walk} {next : Option ℕ} (C : Choosing best w) (O : Onward f list sum n s w.states w.number (min w.below n) w.link w.led next v) where
+    pub choosing_next : {now : Option Gaps} {i : ℕ} → next ≡ Some i → (v.states ≡ w.states) × (v.number ≡ w.number) → Tried f list s c cues best i now → Choosing now v
+    choosing_next {now} {i} e same Y =
+        record {
+          splits = Y.kept C.splits;
+          walked = walked_next f list sum n s c.states number
+              (record { bounded = C.walked.bounded; each = λ k l. ⊎_elim (λ x. inl (λ z. x (Y.before z))) (λ x. inr x) (C.walked.each k l) }) O e same Y.unmet;
+        }
 
 -- ---- the cues of a cube
 
@@ -165,38 +142,9 @@ cued s c cues t h = subst (λ (ts : List ℕ). Cues c ts cues) t h
 -- ---- the entries for a cube
 
 module _ (f list sum : List ℕ) (n : ℕ) (s : Shape) (c : Cube) (cues : List ℕ) (number : ℕ) where
-  -- the entries walked over do not cover it
-  pub record Scanning (w : Walk) : Type 0 where
-    pub within : Within f list sum n s c.states number w
-    pub none : Against s c cues
-        → Walked f list sum n s c.states number (λ k. matches (shape_of s) fills (configuration_of (cube_at f list k)) (configuration_of c) ≡ false) w
-
-  pub scanning_begin : {w : Walk} → Onward f list sum n s c.states number n (head_link sum (home_of number n)) false w → Scanning w
-  scanning_begin O = record { within = within f list sum n s c.states number O; none = λ A. walked_begin f list sum n s c.states number O }
-
-  module _ {w : Walk} (W : Scanning w) where
-    pub scanning_next : {v : Walk} → (Against s c cues → matches (shape_of s) fills (configuration_of (cube_at f list (w.entry - 1))) (configuration_of c) ≡ false)
-        → Onward f list sum n s c.states number (min w.below n) w.link w.led v → Scanning v
-    scanning_next d O =
-        record {
-          within = within f list sum n s c.states number O;
-          none = λ A. walked_next f list sum n s c.states number (W.none A) (d A) (onward_within f list sum n s c.states number W.within O);
-        }
-
-    -- this one does
-    pub scanning_covered : w.entry ≢ 0 → (Against s c cues → matches (shape_of s) fills (configuration_of (cube_at f list (w.entry - 1))) (configuration_of c) ≡ true)
-        → Against s c cues → Covered f list n s c
-    scanning_covered d g A = by_entry (w.entry - 1) (let u = W.within.exists in omega (arith, d)) (g A)
-
-    pub scanning_end : w.entry ≡ 0 → Uncovered f list sum n s c cues number
-    scanning_end z A = walked_end f list sum n s c.states number (W.none A) z
-
   module _ (t : Cues c (tags_of s c) cues) where
-    against : Sized s c → Against s c cues
+    pub against : Sized s c → Against s c cues
     against Z = record { sized = Z; are = t }
-
-    pub cube_covered : (Against s c cues → Covered f list n s c) → Sized s c → Covered f list n s c
-    cube_covered g Z = g (against Z)
 
     -- none covers it, and it can't be split
     pub cube_out : number ≡ number_of s c → Uncovered f list sum n s c cues number → Stuck f list sum n s c cues number → Searchable f list sum n s c
@@ -219,9 +167,6 @@ module _ (f list sum : List ℕ) (n : ℕ) (s : Shape) (c : Cube) (a : Place) wh
     pub most : x ≤ fillings s a
     pub covered : Sized s c → (k : ℕ) → k < x → Covered f list n s (part_of c a k)
 
-  pub parts_begin : Parts 0
-  parts_begin = record { most = omega arith; covered = λ Z k l. absurd (omega arith) }
-
   module _ {x : ℕ} {part : Cube} (is : part ≡ part_of c a x) (one : x < fillings s a) where
     part_sized : Sized s c → Sized s part
     part_sized Z =
@@ -241,7 +186,7 @@ module _ (f list sum : List ℕ) (n : ℕ) (s : Shape) (c : Cube) (a : Place) wh
           ];
         }
 
-    module _ (sixteen : length c.queues ≡ 16) (twenty : length c.messages ≡ 20) (ok : proper s c a ≡ true) (Z : Searchable f list sum n s c) where
+    module _ (sixteen : length c.queues ≡ 16) (twenty : length c.messages ≡ 20) (ok : is_free s c a ≡ true) (Z : Searchable f list sum n s c) where
       part_searchable : Searchable f list sum n s part
       part_searchable =
           record { plain = subst (Plain f list n s) (sym is) (searchable_part Z.plain sixteen twenty a ok x one); summed = Z.summed }
@@ -250,64 +195,8 @@ module _ (f list sum : List ℕ) (n : ℕ) (s : Shape) (c : Cube) (a : Place) wh
       pub part_out : (Searchable f list sum n s part → held (shape_of s) (entries_of f list n) (configuration_of part) ≡ false) → held (shape_of s) (entries_of f list n) (configuration_of c) ≡ false
       part_out g = parts_one Z.plain sixteen twenty a ok x one (ap (λ (k : Cube). held (shape_of s) (entries_of f list n) (configuration_of k)) (sym is) ∙ g part_searchable)
 
-  -- ---- the entries for one of them
-
-  -- the parts before it are covered, and the entries walked over do not cover this one
-  pub record Parting (part : Cube) (cues : List ℕ) (number x : ℕ) (w : Walk) : Type 0 where
-    pub parts : Parts x
-    pub one : x < fillings s a
-    pub is : part ≡ part_of c a x
-    pub cued : Cues part (tags_of s part) cues
-    pub numbered : number ≡ number_of s part
-    pub scanning : Scanning f list sum n s part cues number w
-
-  pub parting_begin : {part : Cube} {cues : List ℕ} {number x : ℕ} {w : Walk} → Parts x → x < fillings s a → part ≡ part_of c a x → Cues part (tags_of s part) cues → number ≡ number_of s part
-      → Onward f list sum n s part.states number n (head_link sum (home_of number n)) false w → Parting part cues number x w
-  parting_begin {part} {cues} {number} p l e t m O =
-      record { parts = p; one = l; is = e; cued = t; numbered = m; scanning = scanning_begin f list sum n s part cues number O }
-
-  module _ {part : Cube} {cues : List ℕ} {number x : ℕ} {w : Walk} (W : Parting part cues number x w) where
-    pub parting_next : {v : Walk} → (Against s part cues → matches (shape_of s) fills (configuration_of (cube_at f list (w.entry - 1))) (configuration_of part) ≡ false)
-        → Onward f list sum n s part.states number (min w.below n) w.link w.led v → Parting part cues number x v
-    parting_next d O =
-        record {
-          parts = W.parts;
-          one = W.one;
-          is = W.is;
-          cued = W.cued;
-          numbered = W.numbered;
-          scanning = scanning_next f list sum n s part cues number W.scanning d O;
-        }
-
-    -- an entry covers it
-    pub parting_covered : w.entry ≢ 0 → (Against s part cues → matches (shape_of s) fills (configuration_of (cube_at f list (w.entry - 1))) (configuration_of part) ≡ true) → Parts (x + 1)
-    parting_covered d g =
-        parts_next W.is W.one W.parts (λ Z. scanning_covered f list sum n s part cues number W.scanning d g (record { sized = Z; are = W.cued }))
-
-    -- its own parts cover it
-    pub parting_held : {h : Bool} → (Sized s part → h ≡ true → Covered f list n s part) → h ≡ true → Parts (x + 1)
-    parting_held g e = parts_next W.is W.one W.parts (λ Z. g Z e)
-
-    module _ (sixteen : length c.queues ≡ 16) (twenty : length c.messages ≡ 20) (ok : proper s c a ≡ true) (Z : Searchable f list sum n s c) where
-      -- none covers it, and it can't be split
-      pub parting_stuck : w.entry ≡ 0 → Stuck f list sum n s part cues number → held (shape_of s) (entries_of f list n) (configuration_of c) ≡ false
-      parting_stuck z q =
-          part_out W.is W.one sixteen twenty ok Z
-          (cube_out f list sum n s part cues number W.cued W.numbered (scanning_end f list sum n s part cues number W.scanning z) q)
-
-      pub parting_outside : {h : Bool} → (Searchable f list sum n s part → h ≡ false → held (shape_of s) (entries_of f list n) (configuration_of part) ≡ false) → h ≡ false
-          → held (shape_of s) (entries_of f list n) (configuration_of c) ≡ false
-      parting_outside g e = part_out W.is W.one sixteen twenty ok Z (λ Y. g Y e)
-
-  pub parts_done : proper s c a ≡ true → {x : ℕ} → Parts x → fillings s a ≤ x → Sized s c → Covered f list n s c
-  parts_done ok {x} w l Z = go a refl
-    where
-      go : (b : Place) → a ≡ b → Covered f list n s c
-      go Whole e = subst (λ (y : Place). Covered f list n s (part_of c y 0)) e (w.covered Z 0 (subst (λ (y : Place). fillings s y ≤ x) e l))
-      go (Waiting p v j) e = by_parts (Waiting p v j) (subst (λ (y : Place). proper s c y ≡ true) e ok)
-          (λ k m. subst (λ (y : Place). Covered f list n s (part_of c y k)) e (w.covered Z k (let u : k < fillings s a = subst (λ (y : Place). k < fillings s y) (sym e) m in omega arith)))
-      go (Sent i v) e = by_parts (Sent i v) (subst (λ (y : Place). proper s c y ≡ true) e ok)
-          (λ k m. subst (λ (y : Place). Covered f list n s (part_of c y k)) e (w.covered Z k (let u : k < fillings s a = subst (λ (y : Place). k < fillings s y) (sym e) m in omega arith)))
+  pub parts_done : is_free s c a ≡ true → {x : ℕ} → Parts x → fillings s a ≤ x → Sized s c → Covered f list n s c
+  parts_done ok {x} w l Z = by_parts a ok (λ k m. w.covered Z k (omega arith))
 
 -- what is covered is held, and what is not is not
 pub found : {f list sum : List ℕ} {n : ℕ} {s : Shape} {c : Cube} {h : Bool} → length c.queues ≡ 16 → length c.messages ≡ 20 → (Sized s c → h ≡ true → Covered f list n s c)

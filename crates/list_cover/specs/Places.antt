@@ -1,5 +1,5 @@
 -- Places of a cube as the code holds them. No statement rests on these definitions: they say how a cube's parts are those of `split`.
-use Rattle.std.specs.Prelude.{ℕ, zero, suc, ◌+◌, ◌*◌, ◌-◌, ◌/◌, ◌%◌, ◌<◌, min, ◌≡◌, Bool, true, false, cond, ◌&&◌, List, [], ◌∷◌, length, get_or, set, eqb, ltb}
+use Rattle.std.specs.Prelude.{ℕ, suc, ◌+◌, ◌*◌, ◌-◌, ◌/◌, ◌%◌, min, ◌≡◌, Bool, true, false, cond, ◌&&◌, List, Option, Some, None, [], ◌∷◌, length, get_or, set, eqb, ltb}
 use Rattle.machine_pws.specs.declared.Message.{Message}
 use Rattle.machine_pws.specs.Machine.{no_message}
 use Rattle.list_theory.specs.Covering as lists
@@ -11,12 +11,7 @@ use Rattle.base.specs.Bytes.{choose}
 use Rattle.file_records.specs.Records.{value_count}
 use Rattle.file_contents.specs.Cube.{no_queue, waiting_of}
 use Rattle.list_cover.specs.declared.place.Place.{Place}
-use Rattle.list_cover.specs.declared.place.Place.TheVariants.{Whole, Waiting, Sent}
-
-abbrev pub is_whole : Place → Bool
-is_whole Whole = true
-is_whole (Waiting p v j) = false
-is_whole (Sent i v) = false
+use Rattle.list_cover.specs.declared.place.Place.TheVariants.{Waiting, Sent}
 
 -- ---- parts
 
@@ -42,7 +37,6 @@ with_sent c i v x =
     (λ _. c)
 
 abbrev pub part_of : Cube → Place → ℕ → Cube
-part_of c Whole x = c
 part_of c (Waiting p v j) x = with_waiting c p v j x
 part_of c (Sent i v) x = with_sent c i v x
 
@@ -59,19 +53,18 @@ unfoldable pub sent_free : Shape → Cube → ℕ → ℕ → Bool
 sent_free s c i v = (ltb i (min c.count 20) && ltb v (min s.variables 4)) && eqb (get_or (get_or c.messages i no_message).snapshot v 0) 255
 
 abbrev pub is_free : Shape → Cube → Place → Bool
-is_free s c Whole = false
 is_free s c (Waiting p v j) = waits_free s c p v j
 is_free s c (Sent i v) = sent_free s c i v
 
--- it is free, or the whole
-abbrev pub proper : Shape → Cube → Place → Bool
-proper s c a = cond (is_whole a) true (is_free s c a)
+-- if there is one, it is free
+abbrev pub proper : Shape → Cube → Option Place → Bool
+proper s c None = true
+proper s c (Some a) = is_free s c a
 
 abbrev pub NoneFree : Shape → Cube → Type 0
 NoneFree s c = (a : Place) → is_free s c a ≡ false
 
 abbrev pub fillings : Shape → Place → ℕ
-fillings s Whole = 1
 fillings s (Waiting p v j) = min (value_count s v) 4
 fillings s (Sent i v) = min (value_count s v) 4
 
@@ -90,12 +83,8 @@ free x = cond (eqb x 255) 1 0
 abbrev pub free_of : Cube → ℕ
 free_of c = total (λ q. total free q.values) c.queues + total (λ m. total free m.snapshot) c.messages
 
-abbrev pub weight : Cube → Place → ℕ
-weight c a = free_of c + cond (is_whole a) 1 0
-
 -- ---- in the definitions' words
 
 abbrev pub place_of : Place → lists.Place
-place_of Whole = lists.in_message 0 0
 place_of (Waiting p v j) = lists.in_queue p v j
 place_of (Sent i v) = lists.in_message (suc i) v

@@ -4,19 +4,19 @@ use mathlib.Core.Path.{◌≡◌, refl, sym, ap, ap₂, ◌∙◌}
 use mathlib.Core.Bool.{true}
 use mathlib.Core.List.{List, [], ◌∷◌}
 use native.Mathlib.Omega.{arith}
+use native.Mathlib.Decide.{dec_le}
 use native.Mathlib.Numerals.{unary_clauses}
 use lib.ListN.{length, get_or, set, replicate}
 use lib.Seq.{get_or-set_same, get_or-set_other}
 use borrow.Author.Tests.{le-leb, lt-leb}
 use Rattle.machine_pws.specs.declared.Message.{Message}
 use Rattle.machine_pws.specs.Machine.{no_message}
-use Rattle.list_theory.specs.Values.{meet, meet_all}
+use Rattle.list_theory.specs.Values.{meet_all}
 use Rattle.list_theory.specs.Cubes.{with_values, topmost, older, alike_newest, meet_newest}
 use Rattle.file_contents.specs.declared.entry.Cube.{Cube}
 use Rattle.file_contents.specs.Cube.{channel_of, configuration_of}
 use Rattle.file_contents.proofs.CubeParts.{channel_length, channel_equal}
 use Rattle.list_cube.specs.Editing.{newest_values}
-use Rattle.list_cube.proofs.WriteLaws.{four_list}
 use Rattle.list_cube.proofs.QueueLaws.{no_both}
 
 pub newest_channel : (ms : List Message) (n : ℕ) → 1 ≤ n → get_or ms (n - 1) no_message ≡ topmost (channel_of ms n)
@@ -38,12 +38,6 @@ channel_top ms n μ l = ap₂ {A = Message} {B = List Message} (λ m ns. m ∷ n
 
 four_equal : (a b c d e f g h : ℕ) → a ≡ e → b ≡ f → c ≡ g → d ≡ h → a ∷ b ∷ c ∷ d ∷ [] ≡ e ∷ f ∷ g ∷ h ∷ []
 four_equal a b c d e f g h i j k l = cc
-
-pub met_four : (xs ys : List ℕ) (a b c d : ℕ) → length xs ≡ 4 → length ys ≡ 4 → a ≡ meet (get_or xs 0 0) (get_or ys 0 0) → b ≡ meet (get_or xs 1 0) (get_or ys 1 0)
-    → c ≡ meet (get_or xs 2 0) (get_or ys 2 0) → d ≡ meet (get_or xs 3 0) (get_or ys 3 0) → a ∷ b ∷ c ∷ d ∷ [] ≡ meet_all xs ys
-met_four xs ys a b c d m n e f g h =
-    four_equal a b c d (meet (get_or xs 0 0) (get_or ys 0 0)) (meet (get_or xs 1 0) (get_or ys 1 0)) (meet (get_or xs 2 0) (get_or ys 2 0)) (meet (get_or xs 3 0) (get_or ys 3 0)) e f g h
-    ∙ ap₂ meet_all (four_list xs m) (four_list ys n)
 
 -- ---- messages without the newest one, or with another
 
@@ -67,13 +61,15 @@ older_some ms (suc (suc n)) xs e = omega arith
 
 -- the values of the newest message, as the code finds them
 module _ (c : Cube) where
-  pub values_none : c.count ≡ 0 → replicate 4 0 ≡ newest_values c
+  pub values_none : ((1 ≤ c.count) × (c.count ≤ 20) → ⊥) → replicate 4 0 ≡ newest_values c
   unfolding newest_values
-  values_none e = sym (rw (lt-leb 1 c.count (omega arith)) refl)
-
-  pub values_many : 20 < c.count → replicate 4 0 ≡ newest_values c
-  unfolding newest_values
-  values_many e = sym (rw (le-leb 1 c.count (omega arith), lt-leb c.count 20 e) refl)
+  values_none f = elim (dec_le 1 c.count) [
+    | yes d ↦ elim (dec_le c.count 20) [
+      | yes e ↦ absurd (f (d, e))
+      | no e ↦ sym (rw (le-leb 1 c.count d, lt-leb c.count 20 (omega arith)) refl)
+    ]
+    | no d ↦ sym (rw (lt-leb 1 c.count (omega arith)) refl)
+  ]
 
   pub values_some : 1 ≤ c.count → c.count ≤ 20 → (get_or c.messages (c.count - 1) no_message).snapshot ≡ newest_values c
   unfolding newest_values

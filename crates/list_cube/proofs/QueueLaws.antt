@@ -1,23 +1,21 @@
 -- Waiting values of a cube: the newest, and those before a write.
-use Prim.Native.Nat.{ℕ, zero, suc, ◌+◌, ◌-◌, ◌<◌, ◌≤◌, min}
+use Prim.Native.Nat.{ℕ, zero, suc, ◌+◌, ◌-◌, ◌<◌, ◌≤◌}
 use mathlib.Core.Path.{◌≡◌, refl, sym, ap, ap₂, subst, ◌∙◌}
 use mathlib.Core.Logic.{◌≢◌}
 use mathlib.Core.Bool.{true, false, ◌&&◌}
 use mathlib.Core.List.{List, [], ◌∷◌}
 use native.Mathlib.Omega.{arith}
-use native.Mathlib.Decide.{dec_lt, ℕ_discrete}
+use native.Mathlib.Decide.{ℕ_discrete}
 use lib.ListN.{length, get_or, set, take}
 use lib.Seq.{get_or-set_same, get_or-set_other, take-take}
 use lib.Dec.{T, eqb, ltb}
-use borrow.Author.Tests.{ne_eqb, lt-ltb, le-ltb}
+use borrow.Author.Tests.{ne_eqb, lt-ltb}
 use Rattle.machine_pws.specs.Machine.{is_empty, newest_waiting, newest_or}
 use Rattle.list_theory.specs.Values.{alike}
 use Rattle.list_theory.specs.Cubes.{without_last, with_last}
 use Rattle.list_theory.specs.Predecessors.{ends_alike}
 use Rattle.file_contents.specs.declared.entry.Queue.{Queue}
-use Rattle.file_contents.specs.Cube.{no_queue, waiting_of, queue_of}
-use Rattle.file_contents.proofs.CubeParts.{queue_none}
-use Rattle.list_key.proofs.Below.{and_false}
+use Rattle.file_contents.specs.Cube.{no_queue, waiting_of}
 use Rattle.list_key.proofs.ValueLaws.{newest_at}
 use Rattle.list_cube.specs.Editing.{Waits}
 
@@ -81,8 +79,11 @@ module _ (q : Queue) where
         most = omega arith;
       }
 
-  pub with_none : (x : ℕ) → q.count ≡ 0 → Waits q (with_last (waiting_of q) x)
-  with_none x e = record { waiting = none_waits e ∙ sym (ap (λ (zs : List ℕ). with_last zs x) (none_waits e)); most = omega arith }
+  pub without_any : length q.values ≡ 9 → q.count ≤ 9 → Waits (record { values = q.values; count = q.count - 1 }) (without_last (waiting_of q))
+  without_any r l = elim (ℕ_discrete q.count 0) [
+    | yes e ↦ let z : q.count ≡ q.count - 1 = omega arith in subst (λ (n : ℕ). Waits (record { values = q.values; count = n }) (without_last (waiting_of q))) z (without_none e)
+    | no d ↦ without_some r d l
+  ]
 
   pub with_some : (x : ℕ) → length q.values ≡ 9 → q.count ≢ 0 → q.count ≤ 9 → Waits (record { values = set q.values (q.count - 1) x; count = q.count }) (with_last (waiting_of q) x)
   with_some x r d l =
@@ -121,11 +122,4 @@ pub put_sizes : (qs : List Queue) (at : ℕ) (q : Queue) → length qs ≡ 16 �
 put_sizes qs at q e f l i k = elim (ℕ_discrete i at) [
   | yes d ↦ subst (λ (r : Queue). r.count ≤ 9) (sym (ap (λ (j : ℕ). get_or (set qs at q) j no_queue) d ∙ get_or-set_same qs at q no_queue (omega arith))) l
   | no d ↦ subst (λ (r : Queue). r.count ≤ 9) (sym (get_or-set_other qs at i q no_queue d)) (f i k)
-]
-
--- past the variables of a cube nothing waits
-pub past_empty : (qs : List Queue) (p : ℕ) {n : ℕ} → ((v : ℕ) → v < min n 4 → is_empty (queue_of qs p v) ≡ true) → (v : ℕ) → v < n → is_empty (queue_of qs p v) ≡ true
-past_empty qs p {n} g v l = elim (dec_lt v 4) [
-  | yes d ↦ g v (omega arith)
-  | no d ↦ ap is_empty (queue_none qs p v (rw (le-ltb v 4 (omega arith)) (and_false (ltb p 4))))
 ]

@@ -1,36 +1,26 @@
 -- LastWrite of every process and variable, message by message.
-use Prim.Native.Nat.{ℕ, zero, suc, ◌+◌, ◌*◌, ◌<◌, ◌≤◌, max}
+use Prim.Native.Nat.{ℕ, suc, ◌+◌, ◌*◌, ◌<◌, ◌≤◌, max}
 use mathlib.Core.Path.{◌≡◌, refl, sym, ap, ap₂, subst, ◌∙◌}
 use mathlib.Core.Bool.{Bool, true, false, cond, ◌&&◌}
 use mathlib.Core.List.{List, [], ◌∷◌}
 use native.Mathlib.Omega.{arith}
 use native.Mathlib.Numerals.{unary_clauses}
-use native.Mathlib.Decide.{ℕ_discrete}
+use native.Mathlib.Decide.{ℕ_discrete, dec_le}
 use lib.ListN.{length, get_or, set, length-set}
-use lib.Seq.{get_or-set_same, get_or-set_other}
+use lib.Seq.{get_or-set_same, get_or-set_other, set-get_or}
 use lib.Dec.{T, eqb, ltb}
 use borrow.Author.Tests.{ltb-true, eq-eqb, ne_eqb, lt-ltb}
 use Rattle.machine_pws.specs.declared.Message.{Message}
 use Rattle.machine_pws.specs.Machine.{no_message, labelled, last_labelled}
-use Rattle.list_theory.specs.Cubes.{memory_of}
 use Rattle.file_contents.specs.Cube.{channel_of}
 use Rattle.file_records.proofs.ProgramLaws.{and_true}
 use Rattle.file_contents.proofs.CubeParts.{channel_length}
-use Rattle.list_key.proofs.Below.{and_false}
-use Rattle.list_cube.specs.Editing.{LastWrites, WritePlace, by_number}
+use Rattle.std.specs.Prelude.{None, Some}
+use Rattle.base.proofs.Tests.{and_false}
+use Rattle.list_cube.specs.Editing.{WritePlace}
 
 pub labels : (p v : ℕ) → ltb p 4 && ltb v 4 ≡ true → (p < 4) × (v < 4)
 labels p v e = let w = and_true (ltb p 4) (ltb v 4) e in (ltb-true p 4 w.0, ltb-true v 4 w.1)
-
--- the place of a LastWrite
-module _ (m : Message) {p v : ℕ} {x : Bool} (d : p ≡ m.process) (e : v ≡ m.variable) (g : x ≡ ltb p 4 && ltb v 4) where
-  pub no_place : x ≡ false → WritePlace m 16
-  no_place h = record { label = λ l. absurd (omega arith); none = λ l. sym (g ∙ ap₂ (λ (a b : ℕ). ltb a 4 && ltb b 4) d e) ∙ h }
-
-  pub own_place : x ≡ true → WritePlace m (4 * p + v)
-  own_place h =
-      let w = labels p v (sym g ∙ h) in
-      record { label = λ l. (omega (arith, w.0, d), omega (arith, w.1, e), omega (arith, d, e)); none = λ l. absurd (omega (arith, w.0, w.1)) }
 
 no_true : false ≡ true → ⊥
 no_true e = subst T (sym e) tt
@@ -60,31 +50,6 @@ last_most (m ∷ ms) p v = at (last_most ms p v) (labelled m p v)
 pub record WritesTo (z : ℕ → ℕ) (ms : List Message) (writes : List ℕ) (i : ℕ) : Type 0 where
   pub room : length writes ≡ 16
   pub written : (p v : ℕ) → p < 4 → v < 4 → get_or writes (4 * p + v) 0 ≡ max (z p) (last_labelled (channel_of ms i) p v)
-
-four : (F : ℕ → Type 0) → F 0 → F 1 → F 2 → F 3 → (p : ℕ) → p < 4 → F p
-four F a b c d zero l = a
-four F a b c d (suc zero) l = b
-four F a b c d (suc (suc zero)) l = c
-four F a b c d (suc (suc (suc zero))) l = d
-four F a b c d (suc (suc (suc (suc p)))) l = absurd (omega arith)
-
-pub writes_begin : (ms : List Message) (a b c d : ℕ)
-    → WritesTo (by_number (a ∷ b ∷ c ∷ d ∷ [])) ms (a ∷ a ∷ a ∷ a ∷ b ∷ b ∷ b ∷ b ∷ c ∷ c ∷ c ∷ c ∷ d ∷ d ∷ d ∷ d ∷ []) 0
-writes_begin ms a b c d =
-    record {
-      room = refl;
-      written = λ p v l. four (λ p. (v : ℕ) → v < 4 → get_or all (4 * p + v) 0 ≡ max (get_or (a ∷ b ∷ c ∷ d ∷ []) p 0) 0)
-          (four (λ v. get_or all (0 + v) 0 ≡ max a 0) (z a) (z a) (z a) (z a))
-          (four (λ v. get_or all (4 + v) 0 ≡ max b 0) (z b) (z b) (z b) (z b))
-          (four (λ v. get_or all (8 + v) 0 ≡ max c 0) (z c) (z c) (z c) (z c))
-          (four (λ v. get_or all (12 + v) 0 ≡ max d 0) (z d) (z d) (z d) (z d)) p l v;
-    }
-  where
-    all : List ℕ
-    all = a ∷ a ∷ a ∷ a ∷ b ∷ b ∷ b ∷ b ∷ c ∷ c ∷ c ∷ c ∷ d ∷ d ∷ d ∷ d ∷ []
-
-    z : (x : ℕ) → x ≡ max x 0
-    z x = omega arith
 
 -- the message of number i + 1
 module _ {z : ℕ → ℕ} {ms : List Message} {writes : List ℕ} {i : ℕ} (w : WritesTo z ms writes i) where
@@ -140,20 +105,14 @@ module _ {z : ℕ → ℕ} {ms : List Message} {writes : List ℕ} {i : ℕ} (w 
       }
 
   -- by the place of its LastWrite
-  module _ {q : ℕ} (W : WritePlace m q) where
-    pub writes_none : 16 ≤ q → WritesTo z ms writes (i + 1)
-    writes_none l = strange (W.none l)
+  pub writes_none : WritePlace m None → WritesTo z ms writes (i + 1)
+  writes_none = strange
 
-    pub writes_older : q < 16 → i + 1 ≤ get_or writes q 0 → WritesTo z ms writes (i + 1)
-    writes_older l h = let x = W.label l in kept x.0 x.1 (subst (λ (k : ℕ). i + 1 ≤ get_or writes k 0) x.2 h)
-
-    pub writes_newer : q < 16 → get_or writes q 0 < i + 1 → WritesTo z ms (set writes q (i + 1)) (i + 1)
-    writes_newer l h =
-        let x = W.label l in
-        subst (λ (k : ℕ). WritesTo z ms (set writes k (i + 1)) (i + 1)) (sym x.2) (moved x.0 x.1 (subst (λ (k : ℕ). get_or writes k 0 < i + 1) x.2 h))
-
-pub writes_all : (zs : List ℕ) {ms : List Message} {writes : List ℕ} {i : ℕ} → WritesTo (by_number zs) ms writes i → LastWrites writes (memory_of (channel_of ms i) (by_number zs))
-writes_all zs w = w.written
+  pub writes_next : {q x : ℕ} → WritePlace m (Some q) → x ≡ max (get_or writes q 0) (i + 1) → WritesTo z ms (set writes q x) (i + 1)
+  writes_next {q} {x} W e = elim (dec_le (i + 1) (get_or writes place 0)) [
+    | yes d ↦ subst (λ (ws : List ℕ). WritesTo z ms ws (i + 1)) (sym (ap₂ (set writes) W.2 (e ∙ ap (λ (k : ℕ). max (get_or writes k 0) (i + 1)) W.2 ∙ omega arith) ∙ set-get_or writes place 0)) (kept W.0 W.1 d)
+    | no d ↦ subst (λ (ws : List ℕ). WritesTo z ms ws (i + 1)) (sym (ap₂ (set writes) W.2 (e ∙ ap (λ (k : ℕ). max (get_or writes k 0) (i + 1)) W.2 ∙ omega arith))) (moved W.0 W.1 (omega arith))
+  ]
 
 pub four_list : (xs : List ℕ) → length xs ≡ 4 → get_or xs 0 0 ∷ get_or xs 1 0 ∷ get_or xs 2 0 ∷ get_or xs 3 0 ∷ [] ≡ xs
 four_list [] e = absurd (omega arith)

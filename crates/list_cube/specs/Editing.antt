@@ -1,5 +1,5 @@
 -- Parts of a cube, and a cube with one of them changed. No statement rests on these definitions.
-use Rattle.std.specs.Prelude.{ℕ, ◌+◌, ◌*◌, ◌-◌, ◌<◌, ◌≤◌, ◌≡◌, false, cond, ◌&&◌, List, get_or, replicate, leb, ltb}
+use Rattle.std.specs.Prelude.{ℕ, ◌+◌, ◌*◌, ◌-◌, ◌<◌, ◌≤◌, ◌≡◌, false, cond, ◌&&◌, List, get_or, replicate, leb, ltb, Option, MatchOption}
 use Rattle.machine_pws.specs.declared.Message.{Message}
 use Rattle.machine_pws.specs.Machine.{Memory, Configuration, last_write, no_message}
 use Rattle.machine_pws.specs.Insertion.{put_message}
@@ -31,10 +31,9 @@ pub record CubeFor (r : Cube) (e : Configuration) : Type 0 where
 abbrev pub LastWrites : List ℕ → Memory → Type 0
 LastWrites ws m = (p v : ℕ) → p < 4 → v < 4 → get_or ws (4 * p + v) 0 ≡ last_write m p v
 
--- where the LastWrite of a message's label stands; past the sixteen if there is no such label
-pub record WritePlace (m : Message) (r : ℕ) : Type 0 where
-  pub label : r < 16 → (m.process < 4) × (m.variable < 4) × (r ≡ 4 * m.process + m.variable)
-  pub none : 16 ≤ r → ltb m.process 4 && ltb m.variable 4 ≡ false
+-- where the LastWrite of a message's label stands; nothing if there is no such label
+abbrev pub WritePlace : Message → Option ℕ → Type 0
+WritePlace m r = MatchOption r (ltb m.process 4 && ltb m.variable 4 ≡ false) (λ q. (m.process < 4) × (m.variable < 4) × (q ≡ 4 * m.process + m.variable))
 
 -- ---- parts of a cube
 

@@ -8,35 +8,28 @@ ghost use Rattle.file_records.specs.declared.program.Shape.{Shape};
 ghost use Rattle.file_contents.specs.Cube.{channel_of, configuration_of};
 ghost use Rattle.list_cube.specs.Editing.{Sound, newest_values};
 
-use crate::messages::with_value;
-use base::bytes::either;
+use base::arrays::{at_or, with_at};
+use base::below::all_below;
 use file_contents::entry::Cube;
-use file_records::program::{Shape, of_four};
+use file_records::program::Shape;
 use list_key::values_related;
 use machine_pws::Message;
 
 pub fn newest(cube: Cube) -> Message
     ensures { (s : Shape) → Sound s cube → result ≡ topmost (configuration_of cube).memory.channel }
 {
-    let messages = cube.messages;
     let n = cube.count;
-    if n == 0 {
-        return messages[0];
+    if n == 0 || 20 < n {
+        return cube.messages[0];
     }
-    if 20 < n {
-        return messages[0];
-    }
-    let at = n - 1;
-    messages[at]
+    cube.messages[n - 1]
 }
 
 // The newest values with x in v: what the message before had.
 pub fn newest_with(cube: Cube, v: usize, x: u8) -> [u8; 4]
     ensures { (s : Shape) → Sound s cube → result ≡ before (configuration_of cube).memory v x }
 {
-    let message = newest(cube);
-    let snapshot = message.snapshot;
-    with_value(snapshot, v, x)
+    with_at(newest(cube).snapshot, v, x)
 }
 
 // There is a message before the newest, and its values are ~ these.
@@ -44,17 +37,10 @@ pub(crate) fn alike_older(cube: Cube, values: [u8; 4]) -> bool
     ensures { cube.count ≤ 20 → result ≡ alike_newest (older (configuration_of cube).memory.channel) values }
 {
     let n = cube.count;
-    if n < 2 {
+    if n < 2 || 20 < n {
         return false;
     }
-    if 20 < n {
-        return false;
-    }
-    let at = n - 2;
-    let messages = cube.messages;
-    let message = messages[at];
-    let snapshot = message.snapshot;
-    values_related(false, snapshot, values)
+    values_related(false, cube.messages[n - 2].snapshot, values)
 }
 
 // Its values are ~ the newest ones with x in v.
@@ -73,17 +59,15 @@ fn met(a: u8, b: u8) -> u8
 fn met_with(message: Message, values: [u8; 4]) -> Message
     ensures { result ≡ with_values message (meet_all message.snapshot values) }
 {
-    let snapshot = message.snapshot;
-    let next = [
-        met(snapshot[0], values[0]),
-        met(snapshot[1], values[1]),
-        met(snapshot[2], values[2]),
-        met(snapshot[3], values[3]),
-    ];
+    let [a, b, c, d] = message.snapshot;
     Message {
-        process: message.process,
-        variable: message.variable,
-        snapshot: next,
+        snapshot: [
+            met(a, values[0]),
+            met(b, values[1]),
+            met(c, values[2]),
+            met(d, values[3]),
+        ],
+        ..message
     }
 }
 
@@ -91,18 +75,11 @@ fn met_with(message: Message, values: [u8; 4]) -> Message
 pub fn met_older(cube: Cube, values: [u8; 4]) -> [Message; 20]
     ensures { 2 ≤ cube.count → cube.count ≤ 20 → channel_of result (cube.count - 1) ≡ meet_newest (older (configuration_of cube).memory.channel) values }
 {
-    let messages = cube.messages;
+    let mut next = cube.messages;
     let n = cube.count;
-    if n < 2 {
-        return messages;
+    if 2 <= n && n <= 20 {
+        next[n - 2] = met_with(next[n - 2], values);
     }
-    if 20 < n {
-        return messages;
-    }
-    let at = n - 2;
-    let message = messages[at];
-    let mut next = messages;
-    next[at] = met_with(message, values);
     next
 }
 
@@ -110,17 +87,11 @@ pub fn met_older(cube: Cube, values: [u8; 4]) -> [Message; 20]
 pub fn with_newest(cube: Cube, message: Message) -> [Message; 20]
     ensures { 1 ≤ cube.count → cube.count ≤ 20 → channel_of result cube.count ≡ message ∷ older (configuration_of cube).memory.channel }
 {
-    let messages = cube.messages;
+    let mut next = cube.messages;
     let n = cube.count;
-    if n == 0 {
-        return messages;
+    if 1 <= n && n <= 20 {
+        next[n - 1] = message;
     }
-    if 20 < n {
-        return messages;
-    }
-    let at = n - 1;
-    let mut next = messages;
-    next[at] = message;
     next
 }
 
@@ -129,35 +100,21 @@ pub fn with_newest(cube: Cube, message: Message) -> [Message; 20]
 pub fn at_newest(cube: Cube, p: usize) -> bool
     ensures { result ≡ at_newest (configuration_of cube).memory p }
 {
-    let pointers = cube.pointers;
-    let pointer = of_four(pointers, p) as usize;
-    pointer == cube.count
+    usize::from(at_or(cube.pointers, p, 0)) == cube.count
 }
 
 // No other process than p.
 pub fn no_other(shape: Shape, cube: Cube, p: usize) -> bool
     ensures { result ≡ all_below shape.processes (λ q. eqb q p || not (at_newest (configuration_of cube).memory q)) }
 {
-    let n = shape.processes;
-    for q in 0..n {
-        if !either(q == p, !at_newest(cube, q)) {
-            return false;
-        }
-    }
-    true
+    all_below(shape.processes, |q| q == p || !at_newest(cube, q))
 }
 
 // No process.
 pub fn none_at_newest(shape: Shape, cube: Cube) -> bool
     ensures { result ≡ all_below shape.processes (λ q. not (at_newest (configuration_of cube).memory q)) }
 {
-    let n = shape.processes;
-    for q in 0..n {
-        if at_newest(cube, q) {
-            return false;
-        }
-    }
-    true
+    all_below(shape.processes, |q| !at_newest(cube, q))
 }
 
 // The values of the newest message; 0 where there is none.
@@ -165,13 +122,8 @@ pub fn newest_values(cube: Cube) -> [u8; 4]
     ensures { result ≡ newest_values cube }
 {
     let n = cube.count;
-    if n == 0 {
-        return [0u8; 4];
+    if n == 0 || 20 < n {
+        return [0; 4];
     }
-    if 20 < n {
-        return [0u8; 4];
-    }
-    let messages = cube.messages;
-    let message = messages[n - 1];
-    message.snapshot
+    cube.messages[n - 1].snapshot
 }

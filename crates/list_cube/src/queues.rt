@@ -7,7 +7,7 @@ ghost use Rattle.file_records.specs.ProgramPart.{shape_of};
 ghost use Rattle.file_contents.specs.Cube.{no_queue, waiting_of, queue_of, configuration_of};
 ghost use Rattle.list_cube.specs.Editing.{Waits};
 
-use base::bytes::{both, least};
+use base::below::all_below;
 use file_contents::entry::{Cube, Queue};
 use file_records::program::Shape;
 use list_key::{related, waiting};
@@ -23,47 +23,32 @@ pub fn newest_or(queue: Queue, other: u8) -> u8
     ensures { result ≡ newest_or (newest_waiting (waiting_of queue)) other }
 {
     let n = waiting(queue);
-    if n == 0 {
-        return other;
-    }
-    queue.values[n - 1]
+    if n == 0 { other } else { queue.values[n - 1] }
 }
 
 pub fn ends_alike(queue: Queue, x: u8) -> bool
     ensures { result ≡ ends_alike (newest_waiting (waiting_of queue)) x }
 {
-    if is_empty(queue) {
-        return false;
-    }
-    related(false, newest_or(queue, 0), x)
+    !is_empty(queue) && related(false, newest_or(queue, 0), x)
 }
 
 pub fn without_last(queue: Queue) -> Queue
     ensures { queue.count ≤ 9 → Waits result (without_last (waiting_of queue)) }
 {
-    let n = queue.count;
-    if n == 0 {
-        return queue;
+    Queue {
+        count: queue.count.saturating_sub(1),
+        ..queue
     }
-    let mut next = queue;
-    next.count = n - 1;
-    next
 }
 
-pub fn with_last(queue: Queue, x: u8) -> Queue
+pub fn with_last(mut queue: Queue, x: u8) -> Queue
     ensures { queue.count ≤ 9 → Waits result (with_last (waiting_of queue) x) }
 {
-    let n = queue.count as usize;
-    if n == 0 {
-        return queue;
+    let n = usize::from(queue.count);
+    if 1 <= n && n <= 9 {
+        queue.values[n - 1] = x;
     }
-    if 9 < n {
-        return queue;
-    }
-    let at = n - 1;
-    let mut next = queue;
-    next.values[at] = x;
-    next
+    queue
 }
 
 // With one waiting value more, the oldest.
@@ -74,12 +59,9 @@ pub fn with_first(queue: Queue, x: u8) -> Queue
     if 9 <= n {
         return queue;
     }
-    let old = queue.values;
-    let values = [
-        x, old[0], old[1], old[2], old[3], old[4], old[5], old[6], old[7],
-    ];
+    let [a, b, c, d, e, f, g, h, _] = queue.values;
     Queue {
-        values: values,
+        values: [x, a, b, c, d, e, f, g, h],
         count: n + 1,
     }
 }
@@ -88,49 +70,34 @@ pub fn with_first(queue: Queue, x: u8) -> Queue
 pub fn queue_at(queues: [Queue; 16], p: usize, v: usize) -> Queue
     ensures { (waiting_of result ≡ queue_of queues p v) × (p < 4 → v < 4 → result ≡ get_or queues (4 * p + v) no_queue) }
 {
-    if !both(p < 4, v < 4) {
-        let none = [0u8; 9];
-        return Queue {
-            values: none,
-            count: 0,
-        };
+    if p < 4 && v < 4 {
+        return queues[4 * p + v];
     }
-    let at = 4 * p + v;
-    queues[at]
+    Queue {
+        values: [0; 9],
+        count: 0,
+    }
 }
 
 // The queues with this one for p and v.
-pub fn put_queue(queues: [Queue; 16], p: usize, v: usize, queue: Queue) -> [Queue; 16]
+pub fn put_queue(mut queues: [Queue; 16], p: usize, v: usize, queue: Queue) -> [Queue; 16]
     ensures { p < 4 → v < 4 → result ≡ set queues (4 * p + v) queue }
 {
-    if !both(p < 4, v < 4) {
-        return queues;
+    if p < 4 && v < 4 {
+        queues[4 * p + v] = queue;
     }
-    let at = 4 * p + v;
-    let mut next = queues;
-    next[at] = queue;
-    next
+    queues
 }
 
 pub fn queue_empty(cube: Cube, p: usize, v: usize) -> bool
     ensures { result ≡ is_empty ((configuration_of cube).queue p v) }
 {
-    let queues = cube.queues;
-    let queue = queue_at(queues, p, v);
-    is_empty(queue)
+    is_empty(queue_at(cube.queues, p, v))
 }
 
 // No value of p waits.
 pub fn none_waiting(shape: Shape, cube: Cube, p: usize) -> bool
     ensures { result ≡ none_waiting (shape_of shape) (configuration_of cube) p }
 {
-    let n = least(shape.variables, 4);
-    let queues = cube.queues;
-    for v in 0..n {
-        let queue = queue_at(queues, p, v);
-        if !is_empty(queue) {
-            return false;
-        }
-    }
-    true
+    all_below(shape.variables, |v| queue_empty(cube, p, v))
 }

@@ -1,19 +1,17 @@
 -- The table of full local states, as number 11 uses it: the targets first, and the groups that were found full.
 use Prim.Native.Nat.{ℕ, zero, suc, ◌+◌, ◌*◌, ◌<◌, ◌≤◌}
 use mathlib.Core.Path.{◌≡◌, refl, sym, ap, subst, ◌∙◌}
-use mathlib.Core.Bool.{Bool, true}
 use mathlib.Core.List.{List}
 use native.Mathlib.Omega.{arith}
 use native.Mathlib.Numerals.{add-one}
-use lib.ListN.{length, get_or, replicate, length-replicate, get_or-replicate}
+use lib.ListN.{length, replicate, length-replicate, get_or-replicate}
 use lib.Dec.{T}
 use Rattle.machine_pws.specs.Program as pws
 use Rattle.machine_pws.specs.Machine.{Configuration}
-use Rattle.machine_pws.specs.Configurations.{StatesOf}
 use Rattle.machine_pws.specs.Entries.{EntryOf, entry}
 use Rattle.list_theory.specs.Verdict.{TargetHeld, target}
-use Rattle.list_theory.specs.Decision.{target_held}
 use Rattle.list_theory.proofs.Verdict.{target_yes}
+use Rattle.file_records.specs.declared.program.Shape.{Shape}
 use Rattle.file_records.specs.declared.program.Program.{Program}
 use Rattle.file_records.specs.Records.{state_at}
 use Rattle.file_records.specs.ProgramPart.{shape_of, program_of, targets_of}
@@ -21,12 +19,14 @@ use Rattle.file_contents.specs.Cube.{configuration_of}
 use Rattle.file_again.specs.Again.{cube_at, entries_of, target_of}
 use Rattle.file_again.proofs.Tables.{table_length}
 use Rattle.file_again.proofs.Again.{target_again}
-use Rattle.list_known.specs.FullStates.{four_at, Full, with_states}
+use Rattle.list_known.specs.FullStates.{Full, with_states}
 use Rattle.list_known.proofs.FullTable.{four_is, full_put}
 use Rattle.list_known.specs.FamilyTable.{Families}
 use Rattle.list_known.proofs.FamilyTable.{families_none}
-use Rattle.list_judge.specs.Ready.{Ready, TargetsHeld, Shuts, held_test, closed_test, with_targets}
+use Rattle.list_judge.specs.Ready.{Ready, TargetsHeld, Shuts, closed_test, with_targets}
 use Rattle.list_judge.proofs.LowestLaws.{SoFar, so_far_begin}
+use Rattle.list_targets.specs.Walk.{Searches}
+use Rattle.list_judge.proofs.ListLaws.{searches}
 use Rattle.list_judge.proofs.ShutLaws.{shuts_none}
 
 -- ---- the targets in turn
@@ -112,3 +112,16 @@ module _ (g f list sum : List ℕ) (n : ℕ) (p : Program) (R : Ready g f list s
         shuts = subst (Shuts g f list n p) (sym x) (shuts_none g f list sum n p R s);
         families = subst (Families (shape_of p.shape) (entries_of f list n)) (sym z) (families_none (shape_of p.shape) (entries_of f list n) q);
       }
+
+-- the tables after what was put in them for a list with the shape of the program
+module _ (g f list sum : List ℕ) (n : ℕ) (p : Program) (R : Ready g f list sum n p) {a : Shape} (same : a ≡ p.shape) where
+  pub full_after : {old new : List ℕ}
+      → ((P : pws.Program) → P.shape ≡ shape_of a → pws.ProgramInRange P → Searches f list sum n a → Full P (entries_of f list n) old → Full P (entries_of f list n) new)
+      → Full (program_of g p) (entries_of f list n) old → Full (program_of g p) (entries_of f list n) new
+  full_after h = h (program_of g p) (ap shape_of (sym same)) R.part.program (subst (Searches f list sum n) (sym same) (searches g f list sum n p R))
+
+  pub families_after : {k : ℕ} (old new : List ℕ) → k < n
+      → (k < n → Searches f list sum n a → Families (shape_of a) (entries_of f list n) old → Families (shape_of a) (entries_of f list n) new)
+      → Families (shape_of p.shape) (entries_of f list n) old → Families (shape_of p.shape) (entries_of f list n) new
+  families_after {k} old new l h =
+      subst (λ (s : Shape). Searches f list sum n s → Families (shape_of s) (entries_of f list n) old → Families (shape_of s) (entries_of f list n) new) same (h l) (searches g f list sum n p R)

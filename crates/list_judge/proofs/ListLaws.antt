@@ -4,7 +4,6 @@ use mathlib.Core.Path.{◌≡◌, refl, sym, ap, ap₂, subst, ◌∙◌}
 use mathlib.Core.Bool.{Bool, true, not}
 use mathlib.Core.Option.{Option, none, some}
 use mathlib.Core.List.{List}
-use native.Mathlib.Omega.{arith}
 use lib.ListN.{length, get_or}
 use Rattle.machine_pws.specs.declared.Step.{Step}
 use Rattle.machine_pws.specs.Program as pws
@@ -16,7 +15,6 @@ use Rattle.list_theory.specs.Verdict as lists
 use Rattle.list_theory.specs.Verdict.{no_target}
 use Rattle.list_theory.specs.Decision.{target_held, looks_started, closed, open_step}
 use Rattle.file_records.specs.declared.program.Program.{Program}
-use Rattle.file_contents.specs.declared.entry.Cube.{Cube}
 use Rattle.file_records.specs.Records.{state_at}
 use Rattle.file_records.specs.ProgramPart.{shape_of, program_of, targets_of}
 use Rattle.file_contents.specs.Cube.{configuration_of}
@@ -25,13 +23,13 @@ use Rattle.file_again.proofs.Tables.{table_length, table_number}
 use Rattle.file_again.proofs.Again.{target_again}
 use Rattle.list_cube.specs.Sizes.{Small, starts_of}
 use Rattle.list_targets.specs.Walk.{Searches}
-use Rattle.list_closing.specs.declared.Opening.{Opening}
-use Rattle.list_closing.specs.declared.Opening.TheVariants.{Shut, Through}
-use Rattle.list_closing.specs.Walk.{LowestFailing, Walkable, opening_of}
+use Rattle.std.specs.Prelude.{Some, None}
+use Rattle.std.specs.Prelude as prelude
+use Rattle.list_closing.specs.Walk.{FailsFirst, Walkable, opening_of}
 use Rattle.list_closing.proofs.StepLaws.{walkable}
 use Rattle.list_closing.proofs.WalkLaws.{opening_through, opening_shut}
 use Rattle.verdict.specs.Judge.{Verdict, refused, safe, entered, of_list}
-use Rattle.list_judge.specs.Ready.{Ready, held_test, start_test, closed_test, entered_said, list_said}
+use Rattle.list_judge.specs.Ready.{Ready, TargetsHeld, held_test, start_test, closed_test, entered_said, list_said}
 use Rattle.list_judge.proofs.LowestLaws.{SoFar, so_far_fails, so_far_all, lowest_some, lowest_none}
 
 -- the verdict by the lowest target and the lowest started entry, and what is said if there is neither
@@ -96,7 +94,7 @@ module _ (g f list sum : List ℕ) (n : ℕ) (p : Program) where
       → not r ≡ start_test g f list n p k
   start_by R k l r h = ap not (h (small R) ∙ ap (looks_started P) (sym (entry_is k l)))
 
-  opening_by : Ready g f list sum n p → (k : ℕ) → k < n → (r : Opening)
+  opening_by : Ready g f list sum n p → (k : ℕ) → k < n → (r : prelude.Option Step)
       → (Walkable g f list sum n p (cube_at f list k) → r ≡ opening_of P es (configuration_of (cube_at f list k)))
       → opening_of P es (entry es k) ≡ r
   opening_by R k l r h =
@@ -131,37 +129,35 @@ module _ (g f list sum : List ℕ) (n : ℕ) (p : Program) where
   -- ---- the entries in turn
 
   -- entry k is closed
-  pub closed_here : Ready g f list sum n p → (k : ℕ) → k < n → (r : Opening)
+  pub closed_here : Ready g f list sum n p → (k : ℕ) → k < n → (r : prelude.Option Step)
       → (Walkable g f list sum n p (cube_at f list k) → r ≡ opening_of P es (configuration_of (cube_at f list k)))
-      → r ≡ Shut → closed_test g f list n p k ≡ true
+      → r ≡ None → closed_test g f list n p k ≡ true
   closed_here R k l r h e = opening_shut P es (entry es k) (opening_by R k l r h ∙ e)
 
   -- it is the first that is not, and s is its lowest step
-  pub entered_here : Ready g f list sum n p → (k : ℕ) → k < n → (r : Opening)
+  pub entered_here : Ready g f list sum n p → (k : ℕ) → k < n → (r : prelude.Option Step)
       → (Walkable g f list sum n p (cube_at f list k) → r ≡ opening_of P es (configuration_of (cube_at f list k)))
-      → (s : Step) → r ≡ Through s → SoFar (closed_test g f list n p) n k → entered k s ≡ entered_said g f list n p
+      → (s : Step) → r ≡ Some s → SoFar (closed_test g f list n p) n k → entered k s ≡ entered_said g f list n p
   entered_here R k l r h s e w =
       let o = opening_through P es (entry es k) s (opening_by R k l r h ∙ e) in
       sym (ap (λ (z : Option ℕ). elim z [ some k ↦ entered k (way k) | none ↦ safe n ])
-      (lowest_some (closed P es) no_entry es n k entries_length (so_far_fails w l o.0) l) ∙ ap (entered k) o.1)
+      (lowest_some (closed P es) no_entry es n entries_length (so_far_fails w l o.0)) ∙ ap (entered k) o.1)
 
   -- all are
   pub safe_here : (k : ℕ) → SoFar (closed_test g f list n p) n k → n ≤ k → safe n ≡ entered_said g f list n p
   safe_here k w l =
       sym (ap (λ (z : Option ℕ). elim z [ some k ↦ entered k (way k) | none ↦ safe n ])
-      (lowest_none (closed P es) no_entry es n n entries_length (so_far_all w l) (omega arith)))
+      (lowest_none (closed P es) no_entry es n entries_length (so_far_all w l)))
 
-  module _ (a : ℕ) (A : LowestFailing (held_test g f list n p) p.targets.count a) where
-    pub said_unheld : a < p.targets.count → refused 9 a ≡ list_said g f list n p
-    said_unheld l = sym (by_held x y last a (lowest_some (target_held P es) no_target ts p.targets.count a targets_length A l))
+  pub said_unheld : {a : ℕ} → FailsFirst (held_test g f list n p) p.targets.count a → refused 9 a ≡ list_said g f list n p
+  said_unheld {a} A = sym (by_held x y last a (lowest_some (target_held P es) no_target ts p.targets.count targets_length A))
 
-    module _ (b : ℕ) (B : LowestFailing (start_test g f list n p) n b) (l : p.targets.count ≤ a) where
-      all_held : x ≡ none
-      all_held = lowest_none (target_held P es) no_target ts p.targets.count a targets_length A l
+  module _ (H : TargetsHeld g f list n p) where
+    all_held : x ≡ none
+    all_held = lowest_none (target_held P es) no_target ts p.targets.count targets_length H
 
-      pub said_started : b < n → refused 10 b ≡ list_said g f list n p
-      said_started m = sym (by_start x y last b all_held (lowest_some (λ e. not (looks_started P e)) no_entry es n b entries_length B m))
+    pub said_started : {b : ℕ} → FailsFirst (start_test g f list n p) n b → refused 10 b ≡ list_said g f list n p
+    said_started {b} B = sym (by_start x y last b all_held (lowest_some (λ e. not (looks_started P e)) no_entry es n entries_length B))
 
-      pub said_last : n ≤ b → entered_said g f list n p ≡ list_said g f list n p
-      said_last m =
-          last_said ∙ sym (by_neither x y last all_held (lowest_none (λ e. not (looks_started P e)) no_entry es n b entries_length B m))
+    pub said_last : ((k : ℕ) → k < n → start_test g f list n p k ≡ true) → entered_said g f list n p ≡ list_said g f list n p
+    said_last B = last_said ∙ sym (by_neither x y last all_held (lowest_none (λ e. not (looks_started P e)) no_entry es n entries_length B))

@@ -1,12 +1,11 @@
 -- Tables of local states of which something is known: that targets with them are held, and that nothing leads in to entries with them.
-use Prim.Native.Nat.{ℕ, ◌+◌, ◌*◌, ◌<◌, ◌≤◌}
+use Prim.Native.Nat.{ℕ, ◌+◌, ◌*◌, ◌<◌}
 use mathlib.Core.Path.{◌≡◌, refl, sym, ap, subst, ◌∙◌}
 use mathlib.Core.Bool.{Bool, true}
 use mathlib.Core.Logic.{⊎_elim}
 use mathlib.Core.List.{List}
 use native.Mathlib.Omega.{arith}
 use lib.ListN.{length, get_or, replicate, length-replicate, get_or-replicate}
-use Rattle.machine_pws.specs.Machine.{Configuration}
 use Rattle.machine_pws.specs.Entries.{EntryOf}
 use Rattle.file_records.specs.declared.program.Program.{Program}
 use Rattle.file_records.specs.Records.{state_at}
@@ -16,9 +15,9 @@ use Rattle.file_again.specs.Again.{cube_at, entries_of, target_of}
 use Rattle.file_again.proofs.Again.{target_again}
 use Rattle.file_again.proofs.Tables.{table_length}
 use Rattle.list_theory.specs.Decision.{target_held}
-use Rattle.list_known.specs.FullStates.{four_at, Full, Among, with_states}
+use Rattle.list_known.specs.FullStates.{Full, Among, with_states}
 use Rattle.list_known.proofs.FullTable.{four_is, among_put}
-use Rattle.list_closing.specs.declared.Opening.TheVariants.{Shut}
+use Rattle.std.specs.Prelude.{None}
 use Rattle.list_closing.specs.Walk.{Surrounded}
 use Rattle.list_closing.proofs.FullLaws.{surrounded_shut}
 use Rattle.list_judge.specs.Ready.{Ready, Known, Holds, Shuts, held_test, closed_test}
@@ -68,7 +67,7 @@ module _ (g f list sum : List ℕ) (n : ℕ) (p : Program) (R : Ready g f list s
   module _ (full : List ℕ) (F : Full (program_of g p) (entries_of f list n) full) where
     pub surrounded_closed : {states : List ℕ} → Surrounded full g p states → (k : ℕ) → k < n → (cube_at f list k).states ≡ states → closed_test g f list n p k ≡ true
     surrounded_closed S k l e =
-        closed_here g f list sum n p R k l Shut (λ W. surrounded_shut g f list sum n p (cube_at f list k) full W F (subst (Surrounded full g p) (sym e) S)) refl
+        closed_here g f list sum n p R k l None (λ W. surrounded_shut g f list sum n p (cube_at f list k) full W F (subst (Surrounded full g p) (sym e) S)) refl
 
     pub shuts_put : {table states : List ℕ} → Shuts g f list n p table → Surrounded full g p states → length states ≡ 4 → Shuts g f list n p (with_states table states)
     shuts_put {table} {states} T S four =

@@ -10,6 +10,7 @@ use Rattle.file_records.specs.ProgramPart.{program_of, targets_of}
 use Rattle.file_again.specs.Again.{cube_at, entries_of, target_of}
 use Rattle.list_known.specs.FullStates.{four_at, with_states}
 use Rattle.file_again.specs.Contents.{ProgramPartRead, EntryRange, ProgramSizes, CubeRange}
+use Rattle.list_summary.specs.declared.listing.Listing.{Listing}
 use Rattle.list_summary.specs.Summary.{Summed}
 use Rattle.verdict.specs.Judge.{Verdict, safe, entered, of_list}
 
@@ -83,3 +84,30 @@ entered_said g f list n p = elim (lowest (closed (program_of g p) (entries_of f 
 -- the verdict of the list
 abbrev pub list_said : List ℕ → List ℕ → List ℕ → ℕ → Program → Verdict
 list_said g f list n p = of_list (verdict_of (program_of g p) (targets_of g p) (entries_of f list n))
+
+-- ---- the same of a list L and a program p that is read from the bytes g
+
+module _ (L : Listing) (g : List ℕ) (p : Program) where
+  abbrev pub ReadyIn : Type 0
+  ReadyIn = Ready g L.file.now L.offsets.now L.summary.now L.count p
+
+  abbrev pub held_in : ℕ → Bool
+  held_in = held_test g L.file.now L.offsets.now L.count p
+
+  abbrev pub TargetsHeldIn : Type 0
+  TargetsHeldIn = TargetsHeld g L.file.now L.offsets.now L.count p
+
+  abbrev pub start_in : ℕ → Bool
+  start_in = start_test g L.file.now L.offsets.now L.count p
+
+  abbrev pub closed_in : ℕ → Bool
+  closed_in = closed_test g L.file.now L.offsets.now L.count p
+
+  abbrev pub HoldsIn : List ℕ → Type 0
+  HoldsIn = Holds g L.file.now L.offsets.now L.count p
+
+  abbrev pub ShutsIn : List ℕ → Type 0
+  ShutsIn = Shuts g L.file.now L.offsets.now L.count p
+
+  abbrev pub entered_in : Verdict
+  entered_in = entered_said g L.file.now L.offsets.now L.count p

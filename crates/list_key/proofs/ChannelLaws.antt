@@ -1,6 +1,6 @@
 -- Messages with their roles, matched newest first by their tags.
 use Prim.Native.Nat.{ℕ, zero, suc, ◌+◌, ◌-◌, ◌*◌, ◌<◌, ◌≤◌, min}
-use mathlib.Core.Path.{◌≡◌, refl, sym, ap, ap₂, subst₂, ◌∙◌}
+use mathlib.Core.Path.{◌≡◌, refl, sym, ap, ap₂, ◌∙◌}
 use mathlib.Core.Bool.{Bool, true, false, cond, ◌&&◌, ◌||◌}
 use mathlib.Core.List.{List, [], ◌∷◌}
 use native.Mathlib.Omega.{arith}
@@ -8,7 +8,6 @@ use native.Mathlib.Decide.{dec_le}
 use lib.ListN.{length, get_or}
 use lib.Dec.{eqb, leb}
 use borrow.Author.Tests.{le-leb, lt-leb}
-use Rattle.machine_pws.specs.declared.Message.{Message}
 use Rattle.machine_pws.specs.Machine.{no_message}
 use Rattle.machine_pws.specs.Tagged.{Tagged, any_below, roles, is_live_at, tagged_from}
 use Rattle.file_records.specs.declared.program.Shape.{Shape}
@@ -104,7 +103,7 @@ module _ (exact : Bool) (s : Shape) (a : Cube) (left : List ℕ) (b : Cube) (rig
       }
 
   module _ {i j : ℕ} (w : Newest i j) where
-    newest_all : i < lowest_pointer s a.pointers → Suits s a left b right → true ≡ channel_matches s exact a b
+    pub newest_all : i < lowest_pointer s a.pointers → Suits s a left b right → true ≡ channel_matches s exact a b
     newest_all e z =
         ap (λ (xs : List Tagged). subsequence (tag_matches (relation exact)) xs (up_to s b j)) (sym (up_none s z.sizes.processes a i (omega (arith, w.first)) e)) ∙ w.same z
 
@@ -112,7 +111,7 @@ module _ (exact : Bool) (s : Shape) (a : Cube) (left : List ℕ) (b : Cube) (rig
       some_left : (z : Suits s a left b right) → up_to s a i ≡ tag s a i ∷ up_to s a (i - 1)
       some_left z = up_some s z.sizes.processes a i (omega (arith, w.first)) e
 
-      newest_none : j < lowest_pointer s b.pointers → Suits s a left b right → false ≡ channel_matches s exact a b
+      pub newest_none : j < lowest_pointer s b.pointers → Suits s a left b right → false ≡ channel_matches s exact a b
       newest_none f z =
           ap₂ (subsequence (tag_matches (relation exact))) (sym (some_left z)) (sym (up_none s z.sizes.processes b j (omega (arith, w.second)) f)) ∙ w.same z
 
@@ -146,7 +145,7 @@ module _ (exact : Bool) (s : Shape) (a : Cube) (left : List ℕ) (b : Cube) (rig
         step true x y us vs g = ap (λ (k : Bool). elim k [ true ↦ subsequence (tag_matches (relation exact)) us vs | false ↦ subsequence (tag_matches (relation exact)) (x ∷ us) vs ]) g
         step false x y us vs g = ap (λ (k : Bool). elim k [ true ↦ subsequence (tag_matches (relation exact)) us vs | false ↦ subsequence (tag_matches (relation exact)) (x ∷ us) vs ]) g
 
-        newest_match : {r : Bool} → Tested r i j → r ≡ true → Newest (i - 1) (j - 1)
+        pub newest_match : {r : Bool} → Tested r i j → r ≡ true → Newest (i - 1) (j - 1)
         newest_match {r} t g =
             record {
               first = omega (arith, w.first);
@@ -154,7 +153,7 @@ module _ (exact : Bool) (s : Shape) (a : Cube) (left : List ℕ) (b : Cube) (rig
               same = λ z. sym (step true (tag s a i) (tag s b j) (up_to s a (i - 1)) (up_to s b (j - 1)) (tested r t z ∙ g)) ∙ both_sides z;
             }
 
-        newest_skip : {r : Bool} → Tested r i j → r ≡ false → Newest i (j - 1)
+        pub newest_skip : {r : Bool} → Tested r i j → r ≡ false → Newest i (j - 1)
         newest_skip {r} t g =
             record {
               first = w.first;
@@ -163,42 +162,3 @@ module _ (exact : Bool) (s : Shape) (a : Cube) (left : List ℕ) (b : Cube) (rig
                   ap (λ (us : List Tagged). subsequence (tag_matches (relation exact)) us (up_to s b (j - 1))) (some_left z)
                   ∙ sym (step false (tag s a i) (tag s b j) (up_to s a (i - 1)) (up_to s b (j - 1)) (tested r t z ∙ g)) ∙ both_sides z;
             }
-
--- ---- the loop, over what the code reads before it
-
--- the messages of two cubes, their lowest pointers, and their numbers of messages
-pub record Reads (s : Shape) (a b : Cube) (xs ys : List Message) (f l n m : ℕ) : Type 0 where
-  pub messages : xs ≡ a.messages
-  pub others : ys ≡ b.messages
-  pub first : f ≡ lowest_pointer s a.pointers
-  pub last : l ≡ lowest_pointer s b.pointers
-  pub count : n ≡ min a.count 20
-  pub counted : m ≡ min b.count 20
-
-module _ (exact : Bool) (s : Shape) (a : Cube) (left : List ℕ) (b : Cube) (right : List ℕ) {xs ys : List Message} {first last n m : ℕ} (h : Reads s a b xs ys first last n m) where
-  abbrev pub TestedOf : Bool → List Message → List Message → ℕ → ℕ → Type 0
-  TestedOf r us vs i j =
-      (m n : ℕ) → get_or left (i - 1) 0 ≡ 65536 * m + label_number (get_or us (i - 1) no_message) → get_or right (j - 1) 0 ≡ 65536 * n + label_number (get_or vs (j - 1) no_message)
-      → r ≡ eqb m n && message_matches (relation exact) (get_or us (i - 1) no_message) (get_or vs (j - 1) no_message)
-
-  module _ {i j : ℕ} (w : Newest exact s a left b right i j) where
-    pub reads_all : i < first → Suits s a left b right → true ≡ channel_matches s exact a b
-    reads_all l = newest_all exact s a left b right w (omega (arith, h.first))
-
-    pub reads_none : first ≤ i → j < last → Suits s a left b right → false ≡ channel_matches s exact a b
-    reads_none k l = newest_none exact s a left b right w (omega (arith, h.first)) (omega (arith, h.last))
-
-    tested_of : {r : Bool} → TestedOf r xs ys i j → Tested exact s a left b right r i j
-    tested_of {r} t = subst₂ (λ (us vs : List Message). TestedOf r us vs i j) h.messages h.others t
-
-    pub reads_match : {r : Bool} → first ≤ i → last ≤ j → TestedOf r xs ys i j → r ≡ true → Newest exact s a left b right (i - 1) (j - 1)
-    reads_match k l t g = newest_match exact s a left b right w (omega (arith, h.first)) (omega (arith, h.last)) (tested_of t) g
-
-    pub reads_skip : {r : Bool} → first ≤ i → last ≤ j → TestedOf r xs ys i j → r ≡ false → Newest exact s a left b right i (j - 1)
-    reads_skip k l t g = newest_skip exact s a left b right w (omega (arith, h.first)) (omega (arith, h.last)) (tested_of t) g
-
-    pub first_room : first ≤ i → (1 ≤ i) × (i ≤ 20)
-    first_room k = (omega (arith, h.first, low_positive s a.pointers), omega (arith, w.first))
-
-    pub last_room : last ≤ j → (1 ≤ j) × (j ≤ 20)
-    last_room k = (omega (arith, h.last, low_positive s b.pointers), omega (arith, w.second))

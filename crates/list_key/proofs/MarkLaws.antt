@@ -1,20 +1,19 @@
 -- Labels and roles, written into the tags one after the other.
 use Prim.Native.Nat.{ℕ, zero, suc, ◌+◌, ◌-◌, ◌*◌, ◌/◌, ◌%◌, ◌^◌, ◌<◌, ◌≤◌, min}
-use mathlib.Core.Path.{◌≡◌, refl, sym, ap, ap₂, subst, ◌∙◌}
-use mathlib.Core.Bool.{Bool, true, false, cond, ◌&&◌, true≢false}
+use mathlib.Core.Path.{◌≡◌, refl, sym, ap, ap₂, subst, subst₂, ◌∙◌}
+use mathlib.Core.Bool.{Bool, true, false, cond}
 use mathlib.Core.List.{List}
 use native.Mathlib.Omega.{arith}
 use native.Mathlib.Numerals.{unary_clauses}
 use native.Mathlib.Decide.{dec_le, dec_lt, ℕ_discrete}
 use lib.ListN.{length, get_or, set, length-set}
 use lib.Seq.{get_or-set_same, get_or-set_other, ext_get_or}
-use lib.Dec.{eqb, ltb, leb}
+use lib.Dec.{eqb, ltb}
 use lib.Pow.{pow_mono}
-use borrow.Author.Tests.{ltb-true, leb-true, lt-ltb, le-ltb, le-leb, eq-eqb, ne_eqb}
+use borrow.Author.Tests.{lt-ltb, le-ltb, eq-eqb, ne_eqb}
 use Rattle.machine_pws.specs.declared.Message.{Message}
 use Rattle.machine_pws.specs.Machine.{Memory, no_message}
 use Rattle.file_records.specs.declared.program.Shape.{Shape}
-use Rattle.file_records.proofs.ProgramLaws.{and_true}
 use Rattle.file_contents.specs.declared.entry.Cube.{Cube}
 use Rattle.list_key.specs.Tags.{list_below, role_at, mask, label_number, cube_memory, tag_of, tags_of}
 use Rattle.list_key.proofs.SumLaws.{bits}
@@ -156,17 +155,14 @@ module _ (variables n : ℕ) (m : Memory) (ms : List Message) where
         ]
 
     -- what the code does with the role at q
-    module _ {i : ℕ} {x : Bool} (e : i ≡ get_or roles q 0) (f : x ≡ ltb 0 i && leb i n) where
-      pub hit_here : {bit : ℕ} {tags' : List ℕ} → k ≤ variables → x ≡ true → bit ≡ 65536 * 2 ^ q → tags' ≡ set tags (i - 1) (get_or tags (i - 1) 0 + bit) → Marked tags' (q + 1) ((q + 1) % 5)
-      hit_here d a b c =
-          let v = and_true (ltb 0 i) (leb i n) (sym f ∙ a) in
-          subst (λ (ts : List ℕ). Marked ts (q + 1) ((q + 1) % 5)) (sym (c ∙ ap₂ (λ (j z : ℕ). set tags (j - 1) (get_or tags (j - 1) 0 + z)) e b))
-          (marked_hit d (omega (arith, ltb-true 0 i v.0)) (omega (arith, leb-true i n v.1)) refl)
+    module _ {i q' : ℕ} {tags' : List ℕ} (e : i ≡ get_or roles q 0) (next : q' ≡ q + 1) where
+      pub hit_here : {bit : ℕ} → k ≤ variables → 0 < i → i ≤ n → bit ≡ 65536 * 2 ^ q → tags' ≡ set tags (i - 1) (get_or tags (i - 1) 0 + bit) → Marked tags' q' (q' % 5)
+      hit_here d a f b c =
+          subst₂ (λ (ts : List ℕ) (y : ℕ). Marked ts y (y % 5)) (sym (c ∙ ap₂ (λ (j z : ℕ). set tags (j - 1) (get_or tags (j - 1) 0 + z)) e b)) (sym next)
+          (marked_hit d (omega arith) (omega arith) refl)
 
-      pub miss_here : {tags' : List ℕ} → x ≡ false → tags' ≡ tags → Marked tags' (q + 1) ((q + 1) % 5)
-      miss_here a c =
-          subst (λ (ts : List ℕ). Marked ts (q + 1) ((q + 1) % 5)) (sym c)
-          (marked_miss (λ u. true≢false (sym (f ∙ ap₂ ◌&&◌ (lt-ltb 0 i (omega (arith, u.1))) (le-leb i n (omega (arith, u.2)))) ∙ a)) refl)
+      pub miss_here : ((0 < i) × (i ≤ n) → ⊥) → tags' ≡ tags → Marked tags' q' (q' % 5)
+      miss_here a c = subst₂ (λ (ts : List ℕ) (y : ℕ). Marked ts y (y % 5)) (sym c) (sym next) (marked_miss (λ u. a (omega (arith, u.1), omega (arith, u.2))) refl)
 
   module _ {tags roles : List ℕ} (R : Roles roles m) (narrow : variables ≤ 4) (few : n ≤ 20) where
     -- variables that do not exist have no roles
@@ -181,26 +177,18 @@ module _ (variables n : ℕ) (m : Memory) (ms : List Message) where
         subst (λ (z : ℕ). Marked tags z 0) y
         (skipped (suc d) (marked_miss w R narrow few (omega arith) {k' = k + 1} (λ u. let z = u.0 in omega arith) (omega arith)) (omega arith) (omega arith) (omega arith))
 
-    module _ {q k : ℕ} (t : k ≡ q % 5) (l : q < 20) (w : Marked tags (q + 1) ((q + 1) % 5)) where
-      pub go_on : k < variables → Marked tags (q + 1) (k + 1)
-      go_on a = let y : (q + 1) % 5 ≡ k + 1 = omega arith in subst (λ (z : ℕ). Marked tags (q + 1) z) y w
-
-      pub go_past : k ≡ variables → Marked tags (q + (5 - k)) 0
-      go_past a = elim (ℕ_discrete k 4) [
-        | yes d ↦
-            let x : (q + 1) % 5 ≡ 0 = omega arith in
-            let y : q + 1 ≡ q + (5 - k) = omega arith in
-            subst (λ (z : ℕ). Marked tags z 0) y (subst (λ (z : ℕ). Marked tags (q + 1) z) x w)
-        | no d ↦
-            let x : (q + 1) % 5 ≡ k + 1 = omega arith in
-            let y : q + 1 + (4 - k) ≡ q + (5 - k) = omega arith in
-            subst (λ (z : ℕ). Marked tags z 0) y (skipped (4 - k) (subst (λ (z : ℕ). Marked tags (q + 1) z) x w) (omega arith) (omega arith) (omega arith))
-      ]
-
-pub hit_room : (i n : ℕ) {x : Bool} → x ≡ ltb 0 i && leb i n → x ≡ true → (1 ≤ i) × (i ≤ n)
-hit_room i n f a =
-    let v = and_true (ltb 0 i) (leb i n) (sym f ∙ a) in
-    (omega (arith, ltb-true 0 i v.0), omega (arith, leb-true i n v.1))
+    -- all roles of process p
+    pub row_end : {p z : ℕ} → p < 4 → z ≡ 5 * p + variables + 1 → Marked tags z (z % 5) → Marked tags (5 * (p + 1)) 0
+    row_end {p} {z} l e w = elim (ℕ_discrete variables 4) [
+      | yes d ↦
+          let x : z ≡ 5 * (p + 1) = omega arith in
+          let y : z % 5 ≡ 0 = omega arith in
+          subst₂ (λ (x y : ℕ). Marked tags x y) x y w
+      | no d ↦
+          let x : z % 5 ≡ variables + 1 = omega arith in
+          let y : z + (4 - variables) ≡ 5 * (p + 1) = omega arith in
+          subst (λ (z : ℕ). Marked tags z 0) y (skipped (4 - variables) (subst (λ (k : ℕ). Marked tags z k) x w) (omega arith) (omega arith) (omega arith))
+    ]
 
 pub bit_small : (q : ℕ) → q < 20 → 2 ^ q ≤ 524288
 bit_small q l = pow_mono {i = q} {j = 19} (omega arith)

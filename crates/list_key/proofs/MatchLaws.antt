@@ -1,5 +1,5 @@
 -- A match is three tests: states, queues, messages with their roles.
-use Prim.Native.Nat.{ℕ, ◌+◌, ◌*◌, ◌<◌, ◌≤◌, min}
+use Prim.Native.Nat.{ℕ, ◌+◌, ◌*◌, ◌<◌, min}
 use mathlib.Core.Path.{◌≡◌, sym, ap, ap₂, ◌∙◌}
 use mathlib.Core.Bool.{Bool, true, false, ◌&&◌}
 use mathlib.Core.List.{List}
@@ -16,21 +16,12 @@ use Rattle.file_contents.proofs.CubeParts.{queue_of_lem}
 use Rattle.list_theory.specs.Matching.{queue_matches, matches}
 use Rattle.list_key.specs.Relation.{relation}
 use Rattle.list_key.specs.Match.{Sizes, queue_row, channel_matches}
-use Rattle.list_key.proofs.Below.{and_false, all_equal, all_false, Each, each_all}
+use Rattle.base.proofs.Tests.{and_false, all_equal}
 
 -- ---- the queues of process p
 
 abbrev pub queue_test : Bool → List Queue → List Queue → ℕ → ℕ → Bool
 queue_test exact a b p v = queue_matches (relation exact) (waiting_of (get_or a (4 * p + v) no_queue)) (waiting_of (get_or b (4 * p + v) no_queue))
-
-module _ (exact : Bool) (a b : List Queue) (p x : ℕ) {m v : ℕ} (e : m ≡ min x 4) where
-  pub row_true : Each (queue_test exact a b p) true m v → m ≤ v → queue_row x exact a b p ≡ true
-  unfolding queue_row
-  row_true w l = ap (λ (n : ℕ). all_below n (queue_test exact a b p)) (sym e) ∙ each_all w l
-
-  pub row_false : {y : Bool} → v < m → y ≡ queue_test exact a b p v → y ≡ false → queue_row x exact a b p ≡ false
-  unfolding queue_row
-  row_false l f g = ap (λ (n : ℕ). all_below n (queue_test exact a b p)) (sym e) ∙ all_false m (queue_test exact a b p) v l (sym f ∙ g)
 
 -- ---- the three tests
 

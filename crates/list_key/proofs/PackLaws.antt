@@ -28,9 +28,6 @@ pub row_next : (qs : List Queue) (p v g : ℕ) {h x : ℕ} → h ≡ packed_row 
 unfolding behind
 row_next qs p v g e f = simp unary_clauses (ap₂ (λ (h x : ℕ). bit_xor ((h * 2 ^ 1) % 2 ^ 64) x) e f)
 
-pub queues_next : (variables : ℕ) (qs : List Queue) (p v h : ℕ) {g x : ℕ} → g ≡ packed_queues variables qs p h → x ≡ packed_row qs p v g → v ≡ variables → x ≡ packed_queues variables qs (p + 1) h
-queues_next variables qs p v h e f d = simp unary_clauses (f ∙ ap₂ (λ (n k : ℕ). packed_row qs p n k) d e)
-
 pub empty_none : (xs : List ℕ) → length xs ≡ 0 → is_empty xs ≡ true
 empty_none [] e = refl
 empty_none (x ∷ xs) e = absurd (omega arith)

@@ -5,11 +5,11 @@ use mathlib.Core.Bool.{Bool, true, false, cond, ◌&&◌}
 use mathlib.Core.List.{List, [], ◌∷◌}
 use native.Mathlib.Omega.{arith}
 use native.Mathlib.Numerals.{unary_clauses}
-use native.Mathlib.Decide.{ℕ_discrete}
+use native.Mathlib.Decide.{ℕ_discrete, dec_le, dec_lt}
 use lib.ListN.{length, get_or, set, length-set}
-use lib.Seq.{get_or-set_same, get_or-set_other}
+use lib.Seq.{get_or-set_same, get_or-set_other, set-get_or}
 use lib.Dec.{T, eqb, ltb}
-use borrow.Author.Tests.{ltb-true, eq-eqb, ne_eqb, lt-ltb}
+use borrow.Author.Tests.{ltb-true, eq-eqb, ne_eqb, lt-ltb, le-ltb}
 use Rattle.machine_pws.specs.declared.Message.{Message}
 use Rattle.machine_pws.specs.Machine.{Memory, no_message, labelled, last_labelled, last_write}
 use Rattle.file_contents.specs.declared.entry.Cube.{Cube}
@@ -18,7 +18,7 @@ use Rattle.file_records.proofs.ProgramLaws.{and_true}
 use Rattle.file_contents.proofs.CubeParts.{channel_length}
 use Rattle.list_key.specs.Roles.{label_place}
 use Rattle.list_key.specs.Tags.{cube_memory}
-use Rattle.list_key.proofs.Below.{and_false}
+use Rattle.base.proofs.Tests.{and_false}
 
 pub labels : (p v : ℕ) → ltb p 4 && ltb v 4 ≡ true → (p < 4) × (v < 4)
 labels p v e = let w = and_true (ltb p 4) (ltb v 4) e in (ltb-true p 4 w.0, ltb-true v 4 w.1)
@@ -88,9 +88,18 @@ pub place_own : (m : Message) → m.process < 4 → m.variable < 4 → label_pla
 unfolding label_place
 place_own m a b = rw (lt-ltb m.process 4 a, lt-ltb m.variable 4 b) refl
 
-pub place_none : (m : Message) → ltb m.process 4 && ltb m.variable 4 ≡ false → label_place m ≡ 20
+place_none : (m : Message) → ltb m.process 4 && ltb m.variable 4 ≡ false → label_place m ≡ 20
 unfolding label_place
 place_none m e = rw e refl
+
+pub place_past : (m : Message) → ((m.process < 4) × (m.variable < 4) → ⊥) → label_place m ≡ 20
+place_past m f = place_none m (elim (dec_lt m.process 4) [
+  | no d ↦ ap (λ (b : Bool). b && ltb m.variable 4) (le-ltb m.process 4 (omega arith))
+  | yes d ↦ elim (dec_lt m.variable 4) [
+    | yes e ↦ absurd (f (d, e))
+    | no e ↦ ap₂ ◌&&◌ (lt-ltb m.process 4 d) (le-ltb m.variable 4 (omega arith))
+  ]
+])
 
 -- the message of number i + 1
 module _ {z : ℕ → ℕ} {ms : List Message} {roles : List ℕ} {i : ℕ} (w : RolesTo z ms roles i) where
@@ -168,18 +177,20 @@ module _ {z : ℕ → ℕ} {ms : List Message} {roles : List ℕ} {i : ℕ} (w :
 
 -- the same for what the code computes
 module _ {z : ℕ → ℕ} {ms : List Message} {roles roles' : List ℕ} {i q : ℕ} (w : RolesTo z ms roles i) (e : q ≡ label_place (get_or ms i no_message)) where
-  pub place_kept : i + 1 ≤ get_or roles q 0 → roles' ≡ roles → RolesTo z ms roles' (i + 1)
+  place_kept : i + 1 ≤ get_or roles q 0 → roles' ≡ roles → RolesTo z ms roles' (i + 1)
   place_kept l f = subst (λ (rs : List ℕ). RolesTo z ms rs (i + 1)) (sym f) (roles_kept w (omega (arith, l, ap (λ (k : ℕ). get_or roles k 0) e)))
 
-  pub place_moved : get_or roles q 0 < i + 1 → roles' ≡ set roles q (i + 1) → RolesTo z ms roles' (i + 1)
+  place_moved : get_or roles q 0 < i + 1 → roles' ≡ set roles q (i + 1) → RolesTo z ms roles' (i + 1)
   place_moved l f =
       subst (λ (rs : List ℕ). RolesTo z ms rs (i + 1)) (sym (f ∙ ap (λ (k : ℕ). set roles k (i + 1)) e)) (roles_moved w (omega (arith, l, ap (λ (k : ℕ). get_or roles k 0) e)))
 
-roles_all : (zs : List ℕ) {ms : List Message} {roles : List ℕ} {i : ℕ} → RolesTo (λ p. get_or zs p 0) ms roles i
-    → Roles roles (record { channel = channel_of ms i; pointer = λ p. get_or zs p 0 })
-roles_all zs w = record { pointer = w.pointer; written = w.written }
+  pub place_next : {x : ℕ} → x ≡ max (get_or roles q 0) (i + 1) → roles' ≡ set roles q x → RolesTo z ms roles' (i + 1)
+  place_next {x} f g = elim (dec_le (i + 1) (get_or roles q 0)) [
+    | yes d ↦ place_kept d (g ∙ ap (set roles q) (omega arith) ∙ set-get_or roles q 0)
+    | no d ↦ place_moved (omega arith) (g ∙ ap (set roles q) (omega arith))
+  ]
 
-pub four_list : (xs : List ℕ) → length xs ≡ 4 → get_or xs 0 0 ∷ get_or xs 1 0 ∷ get_or xs 2 0 ∷ get_or xs 3 0 ∷ [] ≡ xs
+four_list : (xs : List ℕ) → length xs ≡ 4 → get_or xs 0 0 ∷ get_or xs 1 0 ∷ get_or xs 2 0 ∷ get_or xs 3 0 ∷ [] ≡ xs
 four_list [] e = absurd (omega arith)
 four_list (a ∷ []) e = absurd (omega arith)
 four_list (a ∷ b ∷ []) e = absurd (omega arith)
@@ -187,9 +198,14 @@ four_list (a ∷ b ∷ c ∷ []) e = absurd (omega arith)
 four_list (a ∷ b ∷ c ∷ d ∷ []) e = refl
 four_list (a ∷ b ∷ c ∷ d ∷ x ∷ xs) e = absurd (omega arith)
 
-pub roles_end : (c : Cube) {roles : List ℕ} {i : ℕ} → length c.pointers ≡ 4 → i ≡ min c.count 20
-    → RolesTo (λ p. get_or (get_or c.pointers 0 0 ∷ get_or c.pointers 1 0 ∷ get_or c.pointers 2 0 ∷ get_or c.pointers 3 0 ∷ []) p 0) c.messages roles i → Roles roles (cube_memory c)
-roles_end c {roles} {i} l e w =
-    subst (λ (n : ℕ). Roles roles (record { channel = channel_of c.messages n; pointer = λ p. get_or c.pointers p 0 })) e
-    (subst (λ (zs : List ℕ). Roles roles (record { channel = channel_of c.messages i; pointer = λ p. get_or zs p 0 })) (four_list c.pointers l)
-    (roles_all (get_or c.pointers 0 0 ∷ get_or c.pointers 1 0 ∷ get_or c.pointers 2 0 ∷ get_or c.pointers 3 0 ∷ []) w))
+-- those of a cube, before any of its messages
+pub roles_first : (c : Cube) {w x y z : ℕ} → length c.pointers ≡ 4 → w ≡ get_or c.pointers 0 0 → x ≡ get_or c.pointers 1 0 → y ≡ get_or c.pointers 2 0 → z ≡ get_or c.pointers 3 0
+    → RolesTo (λ p. get_or c.pointers p 0) c.messages (w ∷ w ∷ w ∷ w ∷ w ∷ x ∷ x ∷ x ∷ x ∷ x ∷ y ∷ y ∷ y ∷ y ∷ y ∷ z ∷ z ∷ z ∷ z ∷ z ∷ 0 ∷ []) 0
+roles_first c {w} {x} {y} {z} l a b d e =
+    subst (λ (zs : List ℕ). RolesTo (λ p. get_or zs p 0) c.messages (w ∷ w ∷ w ∷ w ∷ w ∷ x ∷ x ∷ x ∷ x ∷ x ∷ y ∷ y ∷ y ∷ y ∷ y ∷ z ∷ z ∷ z ∷ z ∷ z ∷ 0 ∷ []) 0)
+    ((λ i. a i ∷ b i ∷ d i ∷ e i ∷ []) ∙ four_list c.pointers l) (roles_begin c.messages w x y z)
+
+-- and after all
+pub roles_end : (c : Cube) {roles : List ℕ} {i : ℕ} → i ≡ min c.count 20 → RolesTo (λ p. get_or c.pointers p 0) c.messages roles i → Roles roles (cube_memory c)
+roles_end c {roles} {i} e w =
+    subst (λ (n : ℕ). Roles roles (record { channel = channel_of c.messages n; pointer = λ p. get_or c.pointers p 0 })) e (record { pointer = w.pointer; written = w.written })

@@ -14,7 +14,7 @@ use lib.Bits.{bit_or, or_step, or_self, or_comm, or_lt, or_add_and, and_mask}
 use lib.Pow.{pow-lt, shl_exact}
 use lib.ListN.{length, get_or}
 use lib.Dec.{T, eqb, ltb, leb, eqb→eq}
-use borrow.Author.Tests.{eq-eqb, ne_eqb, lt-ltb, le-ltb, ltb-false, le-leb, lt-leb}
+use borrow.Author.Tests.{eq-eqb, le-ltb, ltb-false, le-leb, lt-leb}
 use Rattle.machine_pws.specs.declared.Message.{Message}
 use Rattle.machine_pws.specs.Machine.{no_message, newest_waiting}
 use Rattle.machine_pws.specs.Tagged.{Tagged}
@@ -78,25 +78,9 @@ pub bit_exact : (k : ℕ) → (1 * 2 ^ (k % 16)) % 2 ^ 64 ≡ bit_at k
 unfolding bit_at
 bit_exact k = shl_exact {a = 1} 1 (k % 16) 64 (omega arith) (omega arith) ∙ one-mul (2 ^ (k % 16))
 
-pub last_free : (x : ℕ) → x ≡ 255 → ◌≡◌ {A = ℕ} 0 (cond (eqb x 255) 0 65536)
-last_free x e = rw (eq-eqb x 255 e) refl
-
-pub last_set : (x : ℕ) → (x ≡ 255 → ⊥) → ◌≡◌ {A = ℕ} 65536 (cond (eqb x 255) 0 65536)
-last_set x n = rw (ne_eqb x 255 n) refl
-
-pub long_no : (n : ℕ) → n < 2 → ◌≡◌ {A = ℕ} 0 (cond (ltb n 2) 0 131072)
-long_no n l = rw (lt-ltb n 2 l) refl
-
-pub long_yes : (n : ℕ) → 2 ≤ n → ◌≡◌ {A = ℕ} 131072 (cond (ltb n 2) 0 131072)
-long_yes n l = rw (le-ltb n 2 l) refl
-
 pub value_free : (base x : ℕ) → x ≡ 255 → 0 ≡ value_bit base x
 unfolding value_bit
 value_free base x e = rw (eq-eqb x 255 e) refl
-
-pub value_set : (base x y : ℕ) → (x ≡ 255 → ⊥) → y ≡ bit_at (base + x) → y ≡ value_bit base x
-unfolding value_bit
-value_set base x y n e = rw (ne_eqb x 255 n) e
 
 pub values_none : (base : ℕ) (xs : List ℕ) → 0 ≡ value_bits 0 base xs
 unfolding value_bits
@@ -170,9 +154,6 @@ waits_some xs n x e z f g h =
 
 pub row_bits_next : (qs : List Queue) (p v g : ℕ) {b x : ℕ} → b ≡ row_bits qs p v g → x ≡ wait_bits (waiting_of (get_or qs (4 * p + v) no_queue)) → bit_or b x ≡ row_bits qs p (v + 1) g
 row_bits_next qs p v g e f = simp unary_clauses (ap₂ bit_or e f)
-
-pub queue_bits_next : (variables : ℕ) (qs : List Queue) (p v : ℕ) {g x : ℕ} → g ≡ queue_bits variables qs p → x ≡ row_bits qs p v g → v ≡ variables → x ≡ queue_bits variables qs (p + 1)
-queue_bits_next variables qs p v e f d = simp unary_clauses (f ∙ ap₂ (λ (n k : ℕ). row_bits qs p n k) d e)
 
 module _ (n low : ℕ) (ts : List ℕ) (ms : List Message) where
   signed_next : (i r b y : ℕ) {x : ℕ} (t : Bool) → signed n low ts ms i r b ≡ y → low ≤ i → 0 < i → t ≡ leb 65536 (get_or ts (i - 1) 0) → x ≡ message_bits n r t (get_or ms (i - 1) no_message)

@@ -19,7 +19,7 @@ use Rattle.file_records.specs.ProgramPart.{shape_of}
 use Rattle.file_contents.specs.declared.entry.Cube.{Cube}
 use Rattle.file_contents.specs.Cube.{configuration_of}
 use Rattle.list_theory.specs.Values.{pairwise}
-use Rattle.list_theory.specs.Matching.{same, message_matches}
+use Rattle.list_theory.specs.Matching.{same}
 use Rattle.file_records.proofs.ProgramLaws.{and_true}
 use Rattle.list_key.specs.Tags.{role_of, role_at, mask, label_number, tag_of}
 use Rattle.list_key.specs.Key.{some_true, some_role}
@@ -165,27 +165,6 @@ tag_parts m n x y a b e =
     let g = b.variable in (omega arith, omega arith, omega arith)
 
 -- two messages by their tags
-module _ (r : ℕ → ℕ → Bool) (x y : Message) (m n : ℕ) where
-  pub tags_differ : {s t : ℕ} → (s ≡ t → ⊥) → s ≡ 65536 * m + label_number x → t ≡ 65536 * n + label_number y → false ≡ eqb m n && message_matches r x y
-  tags_differ d e f = at (eqb m n) refl (eqb x.process y.process) refl (eqb x.variable y.variable) refl
-    where
-      at : (a : Bool) → eqb m n ≡ a → (b : Bool) → eqb x.process y.process ≡ b → (c : Bool) → eqb x.variable y.variable ≡ c
-          → false ≡ a && ((b && c) && pairwise r x.snapshot y.snapshot)
-      at true g true h true k =
-          let u = eqb-true m n g in
-          let v = eqb-true x.process y.process h in
-          let w = eqb-true x.variable y.variable k in
-          absurd (d (omega arith))
-      at true g true h false k = refl
-      at true g false h c k = refl
-      at false g b h c k = refl
-
-  pub tags_agree : {s t : ℕ} {v : Bool} → ByteLabel x → ByteLabel y → s ≡ t → v ≡ pairwise r x.snapshot y.snapshot
-      → s ≡ 65536 * m + label_number x → t ≡ 65536 * n + label_number y → v ≡ eqb m n && message_matches r x y
-  tags_agree a b g h e f =
-      let w = tag_parts m n x y a b (sym e ∙ g ∙ f) in
-      rw (eq-eqb m n w.0, eq-eqb x.process y.process w.1, eq-eqb x.variable y.variable w.2) h
-
 module _ (s : Shape) (few : s.processes ≤ 4) (narrow : s.variables ≤ 4) where
   pub tag_is : (c : Cube) → c.count ≤ 20 → (i : ℕ)
       → tag_of s c i ≡ 65536 * mask s.processes s.variables (configuration_of c).memory i + label_number (get_or c.messages (i - 1) no_message)

@@ -7,7 +7,7 @@ use mathlib.Core.Option.{some}
 use mathlib.Core.List.{List, [], ◌∷◌, map}
 use native.Mathlib.Omega.{arith}
 use native.Mathlib.Numerals.{unary_clauses}
-use lib.ListN.{length, get_or, take, drop, length-take, length-map, drop_of_length-le}
+use lib.ListN.{length, get_or, drop, length-take, length-map, drop_of_length-le}
 use lib.Seq.{drop-cons, get_or-take}
 use lib.Dec.{eqb, ltb}
 use borrow.Author.Tests.{ltb-true, ltb-false, eq-eqb, ne_eqb}
@@ -87,9 +87,6 @@ module _ {A : Type 0} (R : A → A → Bool) (d : A) (xs ys : List A) where
     pub right : j ≤ length ys
     pub same : subsequence R (drop i xs) (drop j ys) ≡ subsequence R xs ys
 
-  pub leftmost_begin : Leftmost 0 0
-  leftmost_begin = record { left = omega arith; right = omega arith; same = refl }
-
   module _ {i j : ℕ} (w : Leftmost i j) where
     step : (b : Bool) (x y : A) (us vs : List A) → R x y ≡ b → subsequence R (x ∷ us) (y ∷ vs) ≡ cond b (subsequence R us vs) (subsequence R (x ∷ us) vs)
     step true x y us vs e = ap (λ (b : Bool). elim b [ true ↦ subsequence R us vs | false ↦ subsequence R (x ∷ us) vs ]) e
@@ -112,10 +109,10 @@ module _ {A : Type 0} (R : A → A → Bool) (d : A) (xs ys : List A) where
               ∙ sym (ap₂ (subsequence R) (drop-cons xs i d a) (drop-cons ys j d b)) ∙ w.same;
         })
 
-    pub leftmost_done : length xs ≤ i → Leftmost i (length ys)
-    leftmost_done a =
+    pub leftmost_over : length xs ≤ i → j < length ys → Leftmost i (j + 1)
+    leftmost_over a b =
         let e = drop_of_length-le xs a in
-        record { left = w.left; right = omega arith; same = ap (λ (us : List A). subsequence R us (drop (length ys) ys)) e ∙ sym (ap (λ (us : List A). subsequence R us (drop j ys)) e) ∙ w.same }
+        record { left = w.left; right = omega arith; same = ap (λ (us : List A). subsequence R us (drop (j + 1) ys)) e ∙ sym (ap (λ (us : List A). subsequence R us (drop j ys)) e) ∙ w.same }
 
     pub leftmost_end : length ys ≤ j → eqb i (length xs) ≡ subsequence R xs ys
     leftmost_end b = at (ltb i (length xs)) refl
@@ -135,11 +132,11 @@ newest_at (x ∷ []) n e = let z : n ≡ 0 = omega arith in rw z refl
 newest_at (x ∷ y ∷ ys) zero e = absurd (omega arith)
 newest_at (x ∷ y ∷ ys) (suc n) e = newest_at (y ∷ ys) n (omega arith)
 
--- both queues hold values, n and m
-pub queue_matched : (r : ℕ → ℕ → Bool) (xs ys : List ℕ) (i j n m : ℕ) → n ≡ length xs → m ≡ length ys → n ≢ 0 → m ≢ 0 → Leftmost r 0 xs ys i j → length ys ≤ j
-    → eqb i n && r (get_or xs (n - 1) 0) (get_or ys (m - 1) 0) ≡ queue_matches r xs ys
-queue_matched r xs ys i j n m a b x y w l =
-    rw (newest_at xs (n - 1) (omega arith)) (rw (newest_at ys (m - 1) (omega arith)) (ap (λ (k : Bool). k && r (get_or xs (n - 1) 0) (get_or ys (m - 1) 0)) (ap (eqb i) a ∙ leftmost_end r 0 xs ys w l)))
+-- both queues hold values, n and m, and all of the first were matched, or not
+pub queue_matched : (r : ℕ → ℕ → Bool) (xs ys : List ℕ) (i j n m : ℕ) {b : Bool} → n ≡ length xs → m ≡ length ys → n ≢ 0 → m ≢ 0 → Leftmost r 0 xs ys i j → length ys ≤ j → eqb i n ≡ b
+    → b && r (get_or xs (n - 1) 0) (get_or ys (m - 1) 0) ≡ queue_matches r xs ys
+queue_matched r xs ys i j n m a b x y w l e =
+    rw (newest_at xs (n - 1) (omega arith)) (rw (newest_at ys (m - 1) (omega arith)) (ap (λ (k : Bool). k && r (get_or xs (n - 1) 0) (get_or ys (m - 1) 0)) (sym e ∙ ap (eqb i) a ∙ leftmost_end r 0 xs ys w l)))
 
 pub queue_left : (r : ℕ → ℕ → Bool) (xs ys : List ℕ) → length xs ≡ 0 → eqb (length ys) 0 ≡ queue_matches r xs ys
 queue_left r [] [] e = refl
@@ -153,12 +150,6 @@ queue_right r (x ∷ xs) [] n e = refl
 queue_right r (x ∷ xs) (y ∷ ys) n e = absurd (omega arith)
 
 -- ---- how many values wait
-
-pub take_most : (l : List ℕ) (n m : ℕ) → length l ≡ m → m ≤ n → length (take n l) ≡ m
-take_most l n m e a = length-take n l ∙ omega arith
-
-pub take_few : (l : List ℕ) (n m : ℕ) → length l ≡ m → n < m → length (take n l) ≡ n
-take_few l n m e a = length-take n l ∙ omega arith
 
 pub waits : (q : Queue) → length q.values ≡ 9 → length (waiting_of q) ≤ 9
 waits q e = omega (arith, length-take q.count q.values)

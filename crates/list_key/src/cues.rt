@@ -7,12 +7,8 @@ use machine_pws::Message;
 pub(crate) fn cue_of(message: Message, tag: u64) -> usize
     ensures { Cue result message tag }
 {
-    let values = message.snapshot;
     let label = word(message.process, message.variable, 0, 0);
-    let rest = word(values[0], values[1], values[2], values[3]);
-    let twice = 2 * (label + 65536 * rest);
-    if tag < 65536 {
-        return twice;
-    }
-    twice + 1
+    let [a, b, c, d] = message.snapshot;
+    let twice = 2 * (label + 65536 * word(a, b, c, d));
+    if tag < 65536 { twice } else { twice + 1 }
 }

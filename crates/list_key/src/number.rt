@@ -9,7 +9,6 @@ use crate::cues::cue_of;
 use crate::signature::{wait_bits, with_message};
 use crate::tags::lowest;
 use crate::values::waiting;
-use base::bytes::{least, wide};
 use file_contents::entry::{Cube, Queue};
 use file_records::program::Shape;
 
@@ -23,19 +22,13 @@ fn stir(h: u64) -> u64
     d ^ d << 32
 }
 
-fn number(x: u8) -> u64
-    ensures { result ≡ x }
-{
-    x as u64
-}
-
+#[tactic(auto, using(crate::proofs::PackLaws::states_next))]
 fn packed_states(processes: usize, states: [u8; 4]) -> u64
     ensures { result ≡ packed_states (min processes 4) states }
 {
-    let n = least(processes, 4);
     let mut h = 0;
-    for p in 0..n {
-        h = h << 8 ^ number(states[p]);
+    for p in 0..processes.min(4) {
+        h = h << 8 ^ u64::from(states[p]);
     }
     h
 }
@@ -43,10 +36,7 @@ fn packed_states(processes: usize, states: [u8; 4]) -> u64
 fn empty_bit(queue: Queue) -> u64
     ensures { result ≡ empty_bit queue }
 {
-    if waiting(queue) == 0 {
-        return 1;
-    }
-    0
+    u64::from(waiting(queue) == 0)
 }
 
 // h, with a bit behind it for each queue: is it empty? And the bits of queues in a signature.
@@ -60,21 +50,18 @@ fn queues_taken(shape: Shape, queues: [Queue; 16], h: u64) -> Queued
     ensures packed_value { result.packed ≡ packed_queues (min shape.variables 4) queues (min shape.processes 4) h }
     ensures bits_value { result.bits ≡ queue_bits (min shape.variables 4) queues (min shape.processes 4) }
 {
-    let n = least(shape.processes, 4);
-    let m = least(shape.variables, 4);
+    let n = shape.processes.min(4);
+    let m = shape.variables.min(4);
     let mut packed = h;
     let mut bits = 0;
     for p in 0..n {
         for v in 0..m {
             let queue = queues[4 * p + v];
             packed = packed << 1 ^ empty_bit(queue);
-            bits = bits | wait_bits(queue);
+            bits |= wait_bits(queue);
         }
     }
-    Queued {
-        packed: packed,
-        bits: bits,
-    }
+    Queued { packed, bits }
 }
 
 // The number of the local states.
@@ -98,22 +85,18 @@ pub fn number_of(shape: Shape, cube: Cube, tags: &[u64; 20], cues: &mut [usize; 
     ensures value { tags.now ≡ tags_of shape cube → result ≡ number_of shape cube }
     ensures cues { length cues.old ≡ 20 → Cues cube tags.now cues.new }
 {
-    let states = cube.states;
-    let queues = cube.queues;
-    let pointers = cube.pointers;
-    let messages = cube.messages;
-    let packed = packed_states(shape.processes, states);
-    let waiting = queues_taken(shape, queues, packed);
-    let low = wide(lowest(shape, pointers));
+    let packed = packed_states(shape.processes, cube.states);
+    let waiting = queues_taken(shape, cube.queues, packed);
+    let low = usize::from(lowest(shape, cube.pointers));
     let mut h = waiting.packed;
     let mut bits = waiting.bits;
-    let mut i = least(cube.count, 20);
+    let mut i = cube.count.min(20);
     let mut r = 0;
     while 0 < i {
         i -= 1;
         let tag = tags[i];
         let role = 65536 <= tag;
-        let message = messages[i];
+        let message = cube.messages[i];
         cues[i] = cue_of(message, tag);
         bits = with_message(shape.variables, low, i, r, role, message, bits);
         if role {

@@ -7,20 +7,14 @@ ghost use Rattle.list_key.specs.Relation.{relation};
 ghost use Rattle.list_key.specs.Match.{queue_row};
 
 use crate::values::{related, waiting};
-use base::bytes::{both, least};
+use base::below::all_below;
 use file_contents::entry::Queue;
 use file_records::program::Shape;
 
 pub fn states_match(processes: usize, a: [u8; 4], b: [u8; 4]) -> bool
     ensures { result ≡ all_below (min processes 4) (λ p. eqb (get_or a p 0) (get_or b p 0)) }
 {
-    let n = least(processes, 4);
-    for p in 0..n {
-        if a[p] != b[p] {
-            return false;
-        }
-    }
-    true
+    all_below(processes.min(4), |p| a[p] == b[p])
 }
 
 // The waiting values of an entry against those of a cube.
@@ -38,31 +32,23 @@ pub fn queue_matches(exact: bool, a: Queue, b: Queue) -> bool
     let mut i = 0;
     let mut j = 0;
     while j < m {
-        if n <= i {
-            j = m;
-        } else if related(exact, a.values[i], b.values[j]) {
+        if i < n && related(exact, a.values[i], b.values[j]) {
             i += 1;
-            j += 1;
-        } else {
-            j += 1;
         }
+        j += 1;
     }
-    let last = related(exact, a.values[n - 1], b.values[m - 1]);
-    both(i == n, last)
+    i == n && related(exact, a.values[n - 1], b.values[m - 1])
 }
 
+#[tactic(auto, unfolding(crate::specs::Match::queue_row))]
 pub fn queues_match(exact: bool, shape: Shape, a: [Queue; 16], b: [Queue; 16]) -> bool
     ensures { result ≡ all_below (min shape.processes 4) (queue_row shape.variables exact a b) }
 {
-    let n = least(shape.processes, 4);
-    let m = least(shape.variables, 4);
-    for p in 0..n {
-        for v in 0..m {
-            let q = 4 * p + v;
-            if !queue_matches(exact, a[q], b[q]) {
-                return false;
-            }
-        }
-    }
-    true
+    let variables = shape.variables.min(4);
+    all_below(shape.processes.min(4), |p| {
+        all_below(
+            variables,
+            |v| queue_matches(exact, a[4 * p + v], b[4 * p + v]),
+        )
+    })
 }

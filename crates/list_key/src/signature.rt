@@ -6,7 +6,6 @@ ghost use Rattle.file_contents.specs.Cube.{waiting_of};
 ghost use Rattle.list_key.specs.Signature.{FreeWord, bit_at, value_bit, value_bits, message_bits, wait_bits};
 
 use crate::values::{waiting, word};
-use base::bytes::{least, wide};
 use file_contents::entry::Queue;
 use machine_pws::Message;
 
@@ -17,6 +16,7 @@ fn bit_at(k: usize) -> usize
 }
 
 // A value that is not free.
+#[tactic(auto, unfolding(crate::specs::Signature::value_bit))]
 fn value_bit(base: usize, x: u8) -> usize
     requires { base ≤ 100 }
     ensures { result ≡ value_bit base x }
@@ -24,7 +24,7 @@ fn value_bit(base: usize, x: u8) -> usize
     if x == 255 {
         return 0;
     }
-    bit_at(base + wide(x))
+    bit_at(base + usize::from(x))
 }
 
 // Four values as a number, where all of the first n are free and the others 0.
@@ -46,14 +46,14 @@ fn value_bits(variables: usize, base: usize, values: [u8; 4]) -> usize
     requires { base ≤ 60 }
     ensures { result ≡ value_bits (min variables 4) base values }
 {
-    let n = least(variables, 4);
+    let n = variables.min(4);
     // most messages of a cube are free
     if word(values[0], values[1], values[2], values[3]) == free_word(n) {
         return 0;
     }
     let mut bits = 0;
     for v in 0..n {
-        bits = bits | value_bit(base + 5 * v, values[v]);
+        bits |= value_bit(base + 5 * v, values[v]);
     }
     bits
 }
@@ -63,12 +63,11 @@ fn message_bits(variables: usize, r: usize, role: bool, message: Message) -> usi
     requires { r ≤ 20 }
     ensures { result ≡ message_bits (min variables 4) r role message }
 {
-    let values = message.snapshot;
     if role {
-        return value_bits(variables, r, values);
+        return value_bits(variables, r, message.snapshot);
     }
-    let label = 4 * wide(message.process) + wide(message.variable);
-    value_bits(variables, r + 9, values) | bit_at(3 * r + label + 2)
+    let label = 4 * usize::from(message.process) + usize::from(message.variable);
+    value_bits(variables, r + 9, message.snapshot) | bit_at(3 * r + label + 2)
 }
 
 fn last_bit(x: u8) -> usize

@@ -1,9 +1,8 @@
 // Tags of messages: what a message is to each process, and its label, in one number.
-ghost use Rattle.std.specs.Prelude.{◌≡◌, ◌+◌, ◌*◌, ◌%◌, ◌^◌, ◌<◌, min};
+ghost use Rattle.std.specs.Prelude.{◌≡◌, ◌+◌, ◌*◌, ◌^◌, ◌<◌};
 ghost use Rattle.list_key.specs.Roles.{label_place};
 ghost use Rattle.list_key.specs.Tags.{label_number, tags_of, lowest_pointer};
 
-use base::bytes::{both, least, wide};
 use file_contents::entry::Cube;
 use file_records::program::Shape;
 use machine_pws::Message;
@@ -11,19 +10,16 @@ use machine_pws::Message;
 fn label_number(message: Message) -> u64
     ensures { (result ≡ label_number message) × (result < 65536) }
 {
-    256 * message.process as u64 + message.variable as u64
+    256 * u64::from(message.process) + u64::from(message.variable)
 }
 
-// The place of the LastWrite of a message's label, and 20 if there is no such label.
+// The place of the LastWrite of a message's label. A label that does not exist has one past all that are read, 20: it is written to like the others.
 fn label_place(message: Message) -> usize
     ensures { (result ≡ label_place message) × (result < 21) }
 {
-    let p = wide(message.process);
-    let v = wide(message.variable);
-    if !both(p < 4, v < 4) {
-        return 20;
-    }
-    5 * p + 1 + v
+    let p = usize::from(message.process);
+    let v = usize::from(message.variable);
+    if p < 4 && v < 4 { 5 * p + 1 + v } else { 20 }
 }
 
 // The bit of the role at q.
@@ -39,61 +35,41 @@ fn role_bit(q: usize) -> u64
 pub fn tags_of(shape: Shape, cube: Cube) -> [u64; 20]
     ensures { result ≡ tags_of shape cube }
 {
-    let n = least(cube.count, 20);
-    let end = 5 * least(shape.processes, 4);
-    let variables = least(shape.variables, 4);
-    let pointers = cube.pointers;
-    let a = pointers[0];
-    let b = pointers[1];
-    let c = pointers[2];
-    let d = pointers[3];
+    let n = cube.count.min(20);
+    let processes = shape.processes.min(4);
+    let variables = shape.variables.min(4);
+    let [a, b, c, d] = cube.pointers;
     let mut roles = [
         a, a, a, a, a, b, b, b, b, b, c, c, c, c, c, d, d, d, d, d, 0,
     ];
     let mut tags = [0; 20];
-    let messages = cube.messages;
     for i in 0..n {
-        let message = messages[i];
+        let message = cube.messages[i];
         tags[i] = label_number(message);
         let q = label_place(message);
-        let number = (i + 1) as u8;
-        if roles[q] < number {
-            roles[q] = number;
-        }
+        roles[q] = roles[q].max((i + 1) as u8);
     }
-    let mut q = 0;
-    let mut k = 0;
-    while q < end {
-        let i = wide(roles[q]);
-        if both(0 < i, i <= n) {
-            tags[i - 1] += role_bit(q);
-        }
-        // past the variables that exist, the next process
-        if k < variables {
-            q += 1;
-            k += 1;
-        } else {
-            q += 5 - k;
-            k = 0;
+    for p in 0..processes {
+        // the message that it points at, and its LastWrites
+        for k in 0..variables + 1 {
+            let q = 5 * p + k;
+            let i = usize::from(roles[q]);
+            if 0 < i && i <= n {
+                tags[i - 1] += role_bit(q);
+            }
         }
     }
     tags
 }
 
-fn lesser(a: u8, b: u8) -> u8
-    ensures { result ≡ min a b }
-{
-    if a <= b { a } else { b }
-}
-
 // The number of the first message from the lowest pointer on.
+#[tactic(auto, using(crate::proofs::PackLaws::lowest_next), unfolding(crate::specs::Tags::lowest_pointer))]
 pub fn lowest(shape: Shape, pointers: [u8; 4]) -> u8
     ensures { result ≡ lowest_pointer shape pointers }
 {
-    let n = least(shape.processes, 4);
     let mut low = 255;
-    for p in 0..n {
-        low = lesser(low, pointers[p]);
+    for p in 0..shape.processes.min(4) {
+        low = low.min(pointers[p]);
     }
-    if low == 0 { 1 } else { low }
+    low.max(1)
 }

@@ -1,5 +1,5 @@
 // Values of an entry and of a cube, and numbers of them.
-ghost use Rattle.std.specs.Prelude.{◌≡◌, ◌+◌, ◌*◌, min, length};
+ghost use Rattle.std.specs.Prelude.{◌≡◌, ◌+◌, ◌*◌, length};
 ghost use Rattle.file_contents.specs.Cube.{waiting_of};
 ghost use Rattle.file_records.specs.ProgramPart.{shape_of};
 ghost use Rattle.list_theory.specs.Values.{pairwise};
@@ -7,7 +7,6 @@ ghost use Rattle.list_theory.specs.Cubes.{any_value, any_message};
 ghost use Rattle.list_key.specs.Relation.{relation};
 ghost use Rattle.list_key.specs.Word.{Word};
 
-use base::bytes::{both, either, wide};
 use file_contents::entry::Queue;
 use file_records::program::Shape;
 use machine_pws::Message;
@@ -16,10 +15,7 @@ use machine_pws::Message;
 pub fn related(exact: bool, a: u8, b: u8) -> bool
     ensures { result ≡ relation exact a b }
 {
-    if exact {
-        return either(a == 255, a == b);
-    }
-    either(a == 255, either(b == 255, a == b))
+    a == 255 || a == b || (!exact && b == 255)
 }
 
 // Four bytes as a number: they are compared at once.
@@ -27,7 +23,7 @@ pub fn word(a: u8, b: u8, c: u8, d: u8) -> usize
     ensures value { result ≡ a + 256 * b + 65536 * c + 16777216 * d }
     ensures word { Word a b c d result }
 {
-    wide(a) + 256 * wide(b) + 65536 * wide(c) + 16777216 * wide(d)
+    usize::from(a) + 256 * usize::from(b) + 65536 * usize::from(c) + 16777216 * usize::from(d)
 }
 
 pub fn values_related(exact: bool, a: [u8; 4], b: [u8; 4]) -> bool
@@ -37,20 +33,17 @@ pub fn values_related(exact: bool, a: [u8; 4], b: [u8; 4]) -> bool
     if word(a[0], a[1], a[2], a[3]) == word(b[0], b[1], b[2], b[3]) {
         return true;
     }
-    let first = both(related(exact, a[0], b[0]), related(exact, a[1], b[1]));
-    let last = both(related(exact, a[2], b[2]), related(exact, a[3], b[3]));
-    both(first, last)
+    related(exact, a[0], b[0])
+        && related(exact, a[1], b[1])
+        && related(exact, a[2], b[2])
+        && related(exact, a[3], b[3])
 }
 
 // How many values wait.
 pub fn waiting(queue: Queue) -> usize
     ensures { result ≡ length (waiting_of queue) }
 {
-    let n = wide(queue.count);
-    if 9 <= n {
-        return 9;
-    }
-    n
+    usize::from(queue.count).min(9)
 }
 
 // ---- a message all of whose values are free
@@ -58,10 +51,7 @@ pub fn waiting(queue: Queue) -> usize
 fn any_value(shape: Shape, v: usize) -> u8
     ensures { result ≡ any_value (shape_of shape) v }
 {
-    if v < shape.variables {
-        return 255;
-    }
-    0
+    if v < shape.variables { 255 } else { 0 }
 }
 
 pub fn any_message(shape: Shape, p: u8, v: u8) -> Message
@@ -76,6 +66,6 @@ pub fn any_message(shape: Shape, p: u8, v: u8) -> Message
     Message {
         process: p,
         variable: v,
-        snapshot: snapshot,
+        snapshot,
     }
 }

@@ -1,6 +1,6 @@
 -- A look through the messages of a cube, newest first: what was not found is before the LastWrite.
-use Prim.Native.Nat.{ℕ, suc, ◌-◌, ◌/◌, ◌%◌, ◌<◌, ◌≤◌, max}
-use mathlib.Core.Path.{◌≡◌, ap, subst, ◌∙◌}
+use Prim.Native.Nat.{ℕ, suc, ◌+◌, ◌-◌, ◌*◌, ◌/◌, ◌%◌, ◌<◌, ◌≤◌, max}
+use mathlib.Core.Path.{◌≡◌, refl, sym, ap, subst, ◌∙◌}
 use mathlib.Core.Logic.{⊎_elim}
 use mathlib.Core.Bool.{false}
 use mathlib.Core.List.{List}
@@ -11,13 +11,13 @@ use lib.Dec.{T}
 use borrow.Author.Tests.{ne_eqb}
 use Rattle.machine_pws.specs.declared.Message.{Message}
 use Rattle.machine_pws.specs.Program.{Shape}
-use Rattle.machine_pws.specs.Machine.{Memory, no_message, message, labelled, last_labelled}
+use Rattle.machine_pws.specs.Machine.{no_message, message, labelled, last_labelled}
 use Rattle.machine_pws.proofs.Facts.{last_is}
 use Rattle.file_contents.specs.declared.entry.Cube.{Cube}
 use Rattle.file_contents.specs.Cube.{channel_of, configuration_of}
 use Rattle.file_contents.proofs.CubeParts.{channel_length, channel_message}
 use Rattle.list_theory.specs.Seen.{Sees}
-use Rattle.list_theory.specs.Family.{newest, Clued}
+use Rattle.list_theory.specs.Family.{newest, sees}
 use Rattle.list_known.specs.FamilyTable.{clue_of}
 
 -- LastWrite, where the pointer is z
@@ -55,10 +55,18 @@ sees_at c p v e k l a d S r t x =
 
 -- ---- what a number asks
 
-pub clue_newest : {clue : ℕ} → clue ≡ 0 → (S : Shape) (e m : Memory) → Clued S newest e m → Clued S (clue_of clue) e m
+pub clue_none : newest ≡ clue_of 0
 unfolding clue_of
-clue_newest z S e m y = rw z y
+clue_none = refl
 
-pub clue_sees : {clue : ℕ} → (clue ≡ 0 → ⊥) → (S : Shape) (e m : Memory) → Sees S ((clue - 1) / 16 % 4) ((clue - 1) / 4 % 4) ((clue - 1) % 4) m → Clued S (clue_of clue) e m
+pub clue_some : (number : ℕ) → (number ≡ 0 → ⊥) → sees ((number - 1) / 16 % 4) ((number - 1) / 4 % 4) ((number - 1) % 4) ≡ clue_of number
 unfolding clue_of
-clue_sees {clue} n S e m y = rw (ne_eqb clue 0 n) y
+clue_some number n = rw (ne_eqb number 0 n) refl
+
+pub clue_stored : (p v x : ℕ) → p < 4 → v < 4 → x < 4 → clue_of (1 + x + 4 * (v + 4 * p)) ≡ sees p v x
+clue_stored p v x a b c =
+    let n = 1 + x + 4 * (v + 4 * p) in
+    sym (clue_some n (λ e. omega arith))
+    ∙ ap (λ (q : ℕ). sees q ((n - 1) / 4 % 4) ((n - 1) % 4)) {x = (n - 1) / 16 % 4} {y = p} (omega arith)
+    ∙ ap (λ (u : ℕ). sees p u ((n - 1) % 4)) {x = (n - 1) / 4 % 4} {y = v} (omega arith)
+    ∙ ap (λ (y : ℕ). sees p v y) {x = (n - 1) % 4} {y = x} (omega arith)

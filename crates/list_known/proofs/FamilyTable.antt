@@ -42,7 +42,7 @@ use Rattle.list_theory.specs.Family.{Clue, newest, Clued, InFamily, FamilyHeld}
 use Rattle.list_known.specs.FamilyTable.{standing, clue_of, Families, Recorded}
 use Rattle.list_cube.specs.Editing.{newest_values}
 use Rattle.list_cube.proofs.NewestLaws.{values_some, values_newest}
-use Rattle.list_targets.proofs.TargetLaws.{listed}
+use Rattle.list_targets.proofs.TargetLaws.{entries_fit}
 use Rattle.list_theory.proofs.FamilyFull.{family_held, family_update}
 use Rattle.list_theory.proofs.FamilySerialise.{family_serialise}
 
@@ -186,11 +186,11 @@ module _ (s : Shape) (R : pws.ShapeInRange (shape_of s)) (f list : List ℕ) (n 
 
   pub recorded_held : ((k : ℕ) → k < n → Fits (ValueOrFF (shape_of s)) (shape_of s) (configuration_of (cube_at f list k))) → Fits (ValueOrFF (shape_of s)) (shape_of s) (configuration_of c)
       → held (shape_of s) es (configuration_of c) ≡ true
-  recorded_held oes o = family_held (shape_of s) R.well_formed es (listed (shape_of s) f list n oes) asked (configuration_of (cube_at f list number)) (configuration_of c) found_full found_in o
+  recorded_held oes o = family_held (shape_of s) R.well_formed es (entries_fit (shape_of s) f list n oes) asked (configuration_of (cube_at f list number)) (configuration_of c) found_full found_in o
 
   module _ (P : pws.Program) (RP : pws.ProgramInRange P) (same : P.shape ≡ shape_of s) (oes : (k : ℕ) → k < n → Fits (ValueOrFF (shape_of s)) (shape_of s) (configuration_of (cube_at f list k))) where
     fitting : (k : ℕ) → k < length es → Fits (ValueOrFF P.shape) P.shape (entry es k)
-    fitting = subst (λ (S : pws.Shape). (k : ℕ) → k < length es → Fits (ValueOrFF S) S (entry es k)) (sym same) (listed (shape_of s) f list n oes)
+    fitting = subst (λ (S : pws.Shape). (k : ℕ) → k < length es → Fits (ValueOrFF S) S (entry es k)) (sym same) (entries_fit (shape_of s) f list n oes)
 
     full_here : FamilyHeld P.shape es asked (configuration_of (cube_at f list number))
     full_here = subst (λ (S : pws.Shape). FamilyHeld S es asked (configuration_of (cube_at f list number))) (sym same) found_full

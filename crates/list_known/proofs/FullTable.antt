@@ -9,7 +9,7 @@ use native.Mathlib.Decide.{ℕ_discrete, dec_lt}
 use lib.ListN.{length, get_or, set, length-set}
 use lib.Seq.{get_or-set_same, get_or-set_other}
 use lib.Dec.{T, eqb, leb}
-use borrow.Author.Tests.{eqb-true, leb-true, le-leb, lt-leb}
+use borrow.Author.Tests.{eqb-true, ne_eqb, leb-true, le-leb, lt-leb}
 use Rattle.machine_pws.specs.declared.Step.TheVariants.{Take, Serialise, Update}
 use Rattle.machine_pws.specs.Program.{Program, ProgramInRange, transition}
 use Rattle.machine_pws.specs.Machine.{Configuration, put, all_below}
@@ -43,6 +43,21 @@ from_is states p x (suc zero) l = refl
 from_is states p x (suc (suc zero)) l = refl
 from_is states p x (suc (suc (suc zero))) l = refl
 from_is states p x (suc (suc (suc (suc q)))) l = absurd (omega arith)
+
+pub states_set : (states : List ℕ) (p x : ℕ) → length states ≡ 4 → set states p x ≡ states_from states p x
+unfolding states_from
+states_set [] p x e = absurd (omega arith)
+states_set (a ∷ []) p x e = absurd (omega arith)
+states_set (a ∷ b ∷ []) p x e = absurd (omega arith)
+states_set (a ∷ b ∷ c ∷ []) p x e = absurd (omega arith)
+states_set (a ∷ b ∷ c ∷ d ∷ []) zero x e = refl
+states_set (a ∷ b ∷ c ∷ d ∷ []) (suc zero) x e = refl
+states_set (a ∷ b ∷ c ∷ d ∷ []) (suc (suc zero)) x e = refl
+states_set (a ∷ b ∷ c ∷ d ∷ []) (suc (suc (suc zero))) x e = refl
+states_set (a ∷ b ∷ c ∷ d ∷ []) (suc (suc (suc (suc p)))) x e =
+    let q : ℕ = suc (suc (suc (suc p))) in
+    rw (ne_eqb 0 q (λ z. omega arith), ne_eqb 1 q (λ z. omega arith), ne_eqb 2 q (λ z. omega arith), ne_eqb 3 q (λ z. omega arith)) refl
+states_set (a ∷ b ∷ c ∷ d ∷ y ∷ xs) p x e = absurd (omega arith)
 
 -- ---- what the code computes
 

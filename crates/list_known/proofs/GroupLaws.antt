@@ -16,101 +16,100 @@ use Rattle.list_theory.specs.Lists.{every}
 use Rattle.list_theory.specs.Shapes.{shape_cubes}
 use Rattle.list_theory.specs.Decision.{held}
 use Rattle.list_theory.proofs.Verdict.{target_yes}
-use Rattle.file_records.specs.declared.program.Shape.{Shape}
+use Rattle.list_summary.specs.declared.listing.Listing.{Listing}
 use Rattle.base.specs.Bytes.{choose}
 use Rattle.file_records.specs.ProgramPart.{shape_of}
 use Rattle.file_contents.specs.Cube.{configuration_of}
-use Rattle.file_again.specs.Again.{cube_at, entries_of}
 use Rattle.file_again.proofs.Tables.{table_length, table_number}
 use Rattle.list_summary.specs.Slots.{count_at}
 use Rattle.list_known.specs.FullStates.{Full, is_full, with_states}
 use Rattle.list_known.proofs.FullTable.{full_put}
 use native.Mathlib.Numerals.{add-one}
-use Rattle.list_targets.specs.Walk.{Searches}
+use Rattle.list_targets.specs.Walk.{Searched, entry_of, listed}
 use Rattle.list_known.specs.Groups.{group_held, with_group, with_groups}
 
-module _ (f list sum : List ℕ) (n : ℕ) (s : Shape) (least : ℕ) (table : List ℕ) (k : ℕ) where
+module _ (L : Listing) (least : ℕ) (table : List ℕ) (k : ℕ) where
   abbrev states : List ℕ
-  states = (cube_at f list k).states
+  states = (entry_of L k).states
 
   -- the three tests in turn
   abbrev by : Bool → Bool → Bool → List ℕ
   by a b c = choose a (λ _. table) (λ _. choose b (λ _. table) (λ _. choose c (λ _. with_states table states) (λ _. table)))
 
-  tests : {a b c : Bool} → ltb (count_at sum k) least ≡ a → is_full table s states ≡ b → group_held f list sum n s least states ≡ c → by a b c ≡ with_group f list sum n s least table k
+  tests : {a b c : Bool} → ltb (count_at L.summary.now k) least ≡ a → is_full table L.shape states ≡ b → group_held L least states ≡ c → by a b c ≡ with_group L least table k
   unfolding with_group
   tests x y z = sym (λ i. by (x i) (y i) (z i))
 
-  pub group_small : count_at sum k < least → table ≡ with_group f list sum n s least table k
-  group_small l = tests (lt-ltb (count_at sum k) least l) refl refl
+  pub group_small : count_at L.summary.now k < least → table ≡ with_group L least table k
+  group_small l = tests (lt-ltb (count_at L.summary.now k) least l) refl refl
 
-  pub group_known : least ≤ count_at sum k → is_full table s states ≡ true → table ≡ with_group f list sum n s least table k
-  group_known l e = tests (le-ltb (count_at sum k) least l) e refl
+  pub group_known : least ≤ count_at L.summary.now k → is_full table L.shape states ≡ true → table ≡ with_group L least table k
+  group_known l e = tests (le-ltb (count_at L.summary.now k) least l) e refl
 
-  pub group_other : least ≤ count_at sum k → is_full table s states ≡ false → group_held f list sum n s least states ≡ false → table ≡ with_group f list sum n s least table k
-  group_other l e d = tests (le-ltb (count_at sum k) least l) e d
+  pub group_other : least ≤ count_at L.summary.now k → is_full table L.shape states ≡ false → group_held L least states ≡ false → table ≡ with_group L least table k
+  group_other l e d = tests (le-ltb (count_at L.summary.now k) least l) e d
 
-  pub group_put : least ≤ count_at sum k → is_full table s states ≡ false → group_held f list sum n s least states ≡ true → with_states table states ≡ with_group f list sum n s least table k
-  group_put l e d = tests (le-ltb (count_at sum k) least l) e d
+  pub group_put : least ≤ count_at L.summary.now k → is_full table L.shape states ≡ false → group_held L least states ≡ true → with_states table states ≡ with_group L least table k
+  group_put l e d = tests (le-ltb (count_at L.summary.now k) least l) e d
 
 -- ---- what is put is full
 
-module _ (P : pws.Program) (R : ProgramInRange P) (f list sum : List ℕ) (n : ℕ) (s : Shape) (least : ℕ) (same : P.shape ≡ shape_of s) where
+module _ (P : pws.Program) (R : ProgramInRange P) (L : Listing) (least : ℕ) (same : P.shape ≡ shape_of L.shape) where
   abbrev es : List Configuration
-  es = entries_of f list n
+  es = listed L
 
-  entries_length : length es ≡ n
-  entries_length = table_length (λ i. configuration_of (cube_at f list i)) 0 n
+  entries_length : length es ≡ L.count
+  entries_length = table_length (λ i. configuration_of (entry_of L i)) 0 L.count
 
   -- the local states of an entry are the program's
-  states_of_lem : (table : List ℕ) → Full P es table → (k : ℕ) → k < n → StatesOf P (λ q. get_or (cube_at f list k).states q 0)
+  states_of_lem : (table : List ℕ) → Full P es table → (k : ℕ) → k < L.count → StatesOf P (λ q. get_or (entry_of L k).states q 0)
   states_of_lem table F k l =
-      subst (λ (e : Configuration). StatesOf P e.state) (table_number (λ i. configuration_of (cube_at f list i)) n k no_entry l) (F.entries k (omega (arith, entries_length))).states
+      subst (λ (e : Configuration). StatesOf P e.state) (table_number (λ i. configuration_of (entry_of L i)) L.count k no_entry l) (F.entries k (omega (arith, entries_length))).states
 
-  full_group : (table : List ℕ) → Full P es table → (k : ℕ) → k < n → Full P es (with_group f list sum n s least table k)
+  full_group : (table : List ℕ) → Full P es table → (k : ℕ) → k < L.count → Full P es (with_group L least table k)
   unfolding with_group
-  full_group table F k l = first (ltb (count_at sum k) least)
+  full_group table F k l = first (ltb (count_at L.summary.now k) least)
     where
       states : List ℕ
-      states = (cube_at f list k).states
+      states = (entry_of L k).states
 
-      last : (b : Bool) → group_held f list sum n s least states ≡ b → Full P es (choose b (λ _. with_states table states) (λ _. table))
+      last : (b : Bool) → group_held L least states ≡ b → Full P es (choose b (λ _. with_states table states) (λ _. table))
       last true e =
-          full_put P R es table states s (ap (λ (S : pws.Shape). S.processes) same) F
+          full_put P R es table states L.shape (ap (λ (S : pws.Shape). S.processes) same) F
           (target_yes P R.well_formed es F.entries (λ q. get_or states q 0) (states_of_lem table F k l)
           (subst T (sym (ap (λ (S : pws.Shape). every (held S es) (shape_cubes S (λ q. get_or states q 0))) same ∙ e)) tt))
       last false e = F
 
-      second : (b : Bool) → Full P es (choose b (λ _. table) (λ _. choose (group_held f list sum n s least states) (λ _. with_states table states) (λ _. table)))
+      second : (b : Bool) → Full P es (choose b (λ _. table) (λ _. choose (group_held L least states) (λ _. with_states table states) (λ _. table)))
       second true = F
-      second false = last (group_held f list sum n s least states) refl
+      second false = last (group_held L least states) refl
 
-      first : (b : Bool) → Full P es (choose b (λ _. table) (λ _. choose (is_full table s states) (λ _. table) (λ _. choose (group_held f list sum n s least states) (λ _. with_states table states) (λ _. table))))
+      first : (b : Bool) → Full P es (choose b (λ _. table) (λ _. choose (is_full table L.shape states) (λ _. table) (λ _. choose (group_held L least states) (λ _. with_states table states) (λ _. table))))
       first true = F
-      first false = second (is_full table s states)
+      first false = second (is_full table L.shape states)
 
-  pub full_groups : (table : List ℕ) → Full P es table → (m : ℕ) → m ≤ n → Full P es (with_groups f list sum n s least table m)
+  pub full_groups : (table : List ℕ) → Full P es table → (m : ℕ) → m ≤ L.count → Full P es (with_groups L least table m)
   unfolding with_groups
   full_groups table F zero l = F
-  full_groups table F (suc m) l = full_group (with_groups f list sum n s least table m) (full_groups table F m (omega arith)) m (omega arith)
+  full_groups table F (suc m) l = full_group (with_groups L least table m) (full_groups table F m (omega arith)) m (omega arith)
 
 -- ---- the groups in turn
 
-pub record Putting (f list sum : List ℕ) (n : ℕ) (s : Shape) (least : ℕ) (table now : List ℕ) (k : ℕ) : Type 0 where
-  pub most : k ≤ n
+pub record Putting (L : Listing) (least : ℕ) (table now : List ℕ) (k : ℕ) : Type 0 where
+  pub most : k ≤ L.count
   pub same : length now ≡ length table
-  pub is : Searches f list sum n s → now ≡ with_groups f list sum n s least table k
+  pub is : Searched L → now ≡ with_groups L least table k
 
-module _ (f list sum : List ℕ) (n : ℕ) (s : Shape) (least : ℕ) (table : List ℕ) where
-  pub putting_begin : Putting f list sum n s least table table 0
+module _ (L : Listing) (least : ℕ) (table : List ℕ) where
+  pub putting_begin : Putting L least table table 0
   unfolding with_groups
   putting_begin = record { most = omega arith; same = refl; is = λ S. refl }
 
-  pub putting_next : {now new : List ℕ} {k : ℕ} → Putting f list sum n s least table now k → k < n → length new ≡ length now
-      → (Searches f list sum n s → new ≡ with_group f list sum n s least now k) → Putting f list sum n s least table new (k + 1)
+  pub putting_next : {now new : List ℕ} {k : ℕ} → Putting L least table now k → k < L.count → length new ≡ length now
+      → (Searched L → new ≡ with_group L least now k) → Putting L least table new (k + 1)
   unfolding with_groups
   putting_next {now} {new} {k} w l d e =
-      record { most = omega arith; same = d ∙ w.same; is = λ S. rw add-one (e S ∙ ap (λ (t : List ℕ). with_group f list sum n s least t k) (w.is S)) }
+      record { most = omega arith; same = d ∙ w.same; is = λ S. rw add-one (e S ∙ ap (λ (t : List ℕ). with_group L least t k) (w.is S)) }
 
-  pub putting_end : {now : List ℕ} {k : ℕ} → Putting f list sum n s least table now k → n ≤ k → Searches f list sum n s → now ≡ with_groups f list sum n s least table n
-  putting_end {now} {k} w l S = let e : k ≡ n = omega (arith, w.most) in w.is S ∙ ap (with_groups f list sum n s least table) e
+  pub putting_end : {now : List ℕ} {k : ℕ} → Putting L least table now k → L.count ≤ k → Searched L → now ≡ with_groups L least table L.count
+  putting_end {now} {k} w l S = let e : k ≡ L.count = omega (arith, w.most) in w.is S ∙ ap (with_groups L least table) e

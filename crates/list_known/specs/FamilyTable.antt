@@ -5,6 +5,8 @@ use Rattle.machine_pws.specs.Machine.{Configuration}
 use Rattle.machine_pws.specs.Entries.{entry}
 use Rattle.list_theory.specs.Family.{Clue, newest, sees, InFamily, FamilyHeld}
 use Rattle.file_records.specs.declared.program.Shape as file
+use Rattle.list_known.specs.declared.families.Clue as code
+use Rattle.list_known.specs.declared.families.Clue.TheVariants.{Newest, Sees}
 use Rattle.file_records.specs.ProgramPart.{shape_of}
 use Rattle.file_contents.specs.declared.entry.Cube.{Cube}
 use Rattle.file_contents.specs.Cube.{configuration_of}
@@ -15,7 +17,11 @@ use Rattle.list_summary.specs.Slots.{word}
 unfoldable pub standing : List ℕ → ℕ → ℕ
 standing table i = word table i % 1048576
 
--- what a number asks of a memory
+-- what a clue asks of a memory, and what a number does
+abbrev pub asked : code.Clue → Clue
+asked Newest = newest
+asked (Sees p v x) = sees p v x
+
 unfoldable pub clue_of : ℕ → Clue
 clue_of x = cond (eqb x 0) newest (sees ((x - 1) / 16 % 4) ((x - 1) / 4 % 4) ((x - 1) % 4))
 

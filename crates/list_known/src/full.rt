@@ -1,16 +1,12 @@
-// A table of full local states: every configuration with them is above the list. Number 9 shows that of the targets, and the same test of any
-// group that is large enough; at number 11 nothing that has full local states is searched for.
-ghost use Rattle.std.specs.Prelude.{◌≡◌, true, cond, ◌*◌, ◌≤◌, ◌<◌, length, eqb};
+// A table of full local states: every configuration with them is above the list. Number 9 shows that of the targets,
+// and the same test of any group that is large enough; at number 11 nothing that has full local states is searched
+// for.
+ghost use Rattle.std.specs.Prelude.{◌≡◌, true, ◌*◌, ◌≤◌, ◌<◌};
 ghost use Rattle.list_known.specs.FullStates.{place_of, is_full, Among, with_states, states_from};
 
+use base::arrays::with_at;
 use file_records::program::Shape;
 use list_key::states_match;
-
-fn number(x: u8) -> usize
-    ensures { (result ≡ x) × (result < 256) }
-{
-    x as usize
-}
 
 // 328 times the third, and 577 times the fourth state, by adding and shifting, as all places are formed (request N4).
 fn third_place(x: usize) -> usize
@@ -31,10 +27,10 @@ fn fourth_place(x: usize) -> usize
 fn place_of(states: [u8; 4]) -> usize
     ensures { (result ≡ place_of states) × (result ≤ 4092) }
 {
-    let a = number(states[0]);
-    let b = number(states[1]);
-    let c = number(states[2]);
-    let d = number(states[3]);
+    let a = usize::from(states[0]);
+    let b = usize::from(states[1]);
+    let c = usize::from(states[2]);
+    let d = usize::from(states[3]);
     (a + (b << 5) + third_place(c) + fourth_place(d)) % 1024 << 2
 }
 
@@ -75,20 +71,9 @@ pub fn put_full(table: &mut [u8], states: [u8; 4])
     table[at + 3] = states[3];
 }
 
-fn state_or(same: bool, from: u8, state: u8) -> u8
-    ensures { result ≡ cond same from state }
-{
-    if same { from } else { state }
-}
-
 // The local states before a step of process p.
 pub fn states_from(states: [u8; 4], p: usize, from: u8) -> [u8; 4]
     ensures { result ≡ states_from states p from }
 {
-    [
-        state_or(0 == p, from, states[0]),
-        state_or(1 == p, from, states[1]),
-        state_or(2 == p, from, states[2]),
-        state_or(3 == p, from, states[3]),
-    ]
+    with_at(states, p, from)
 }

@@ -1,5 +1,5 @@
-// What is known to be held, so that nothing is searched for: local states and families all of whose configurations are above the list, in
-// tables, the tests by which they get there, and when these are made (theory, section 5).
+// What is known to be held, so that nothing is searched for: local states and families all of whose configurations are
+// above the list, in tables, the tests by which they get there, and when these are made (theory, section 5).
 
 #![tactic(auto)]
 

@@ -1,17 +1,17 @@
 -- What holds of a summary holds after each addition (request N2).
-use Prim.Native.Nat.{ℕ, zero, suc, ◌+◌, ◌*◌, ◌-◌, ◌/◌, ◌%◌, ◌<◌, ◌≤◌, min}
+use Prim.Native.Nat.{ℕ, zero, suc, ◌+◌, ◌*◌, ◌-◌, ◌/◌, ◌%◌, ◌<◌, ◌≤◌}
 use mathlib.Core.Path.{◌≡◌, refl, sym, ap, subst, ◌∙◌}
-use mathlib.Core.Logic.{◌⊎◌, inl, inr, ⊎_elim, ◌≢◌}
-use mathlib.Core.Bool.{Bool, true, false, cond, ◌&&◌, not}
+use mathlib.Core.Logic.{◌≢◌}
+use mathlib.Core.Bool.{Bool, true, false, cond, ◌&&◌}
 use mathlib.Core.List.{List}
 use native.Mathlib.Omega.{arith}
 use native.Mathlib.Decide.{dec_le, ℕ_discrete}
-use lib.ListN.{length, get_or}
-use lib.Dec.{T, eqb, ltb}
-use borrow.Author.Tests.{eq-eqb, ne_eqb, eqb-true, eqb-false, lt-ltb, le-ltb, ltb-true, ltb-false}
+use lib.ListN.{length}
+use lib.Dec.{ltb}
+use borrow.Author.Tests.{ne_eqb, lt-ltb, le-ltb}
 use Rattle.machine_pws.specs.Machine.{put}
 use Rattle.file_records.specs.declared.program.Shape.{Shape}
-use Rattle.base.specs.Bytes.{choose, byte, le32}
+use Rattle.base.specs.Bytes.{byte, le32}
 use Rattle.file_again.specs.Again.{cube_at}
 use Rattle.list_key.specs.Tags.{sum_below}
 use Rattle.list_key.specs.Number.{signature_in, number_of, states_mixed}
@@ -22,7 +22,7 @@ use Rattle.list_summary.specs.Summary.{Grouped, Summed}
 use Rattle.list_summary.proofs.WordLaws.{put_is, put_is_not, put_ext, put_own, hung_length, hung_head, hung_next, hung_count, hung_signature, counted_length, counted_head, counted_next, counted_count, signed_count, put_signature}
 use Rattle.list_summary.proofs.ChainLaws.{home_below, met_new, met_old, heads_new}
 use Rattle.list_summary.proofs.GroupLaws.{true_false, same_sym, same_false, same_trans, leads_none, none_leads, one_leads, in_none, in_more, in_same, in_most, same_refl, sum_one}
-use Rattle.list_summary.proofs.LeaderLaws.{leader_is, leader_leads, no_leader, leads_counted}
+use Rattle.list_summary.proofs.LeaderLaws.{leader_leads, no_leader, leads_counted}
 
 and_no : (b : Bool) → b && false ≡ false
 and_no true = refl

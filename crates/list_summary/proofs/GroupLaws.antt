@@ -1,21 +1,20 @@
 -- Groups of entries with equal local states: each has one first entry.
-use Prim.Native.Nat.{ℕ, zero, suc, ◌+◌, ◌*◌, ◌-◌, ◌<◌, ◌≤◌, min}
+use Prim.Native.Nat.{ℕ, zero, suc, ◌+◌, ◌<◌, ◌≤◌, min}
 use mathlib.Core.Path.{◌≡◌, refl, sym, ap, subst, ◌∙◌}
 use mathlib.Core.Logic.{◌⊎◌, inl, inr, ⊎_elim, ◌≢◌}
-use mathlib.Core.Bool.{Bool, true, false, cond, ◌&&◌, not}
+use mathlib.Core.Bool.{Bool, true, false, cond, not}
 use mathlib.Core.List.{List}
 use native.Mathlib.Omega.{arith}
 use native.Mathlib.Decide.{dec_le, ℕ_discrete}
-use lib.ListN.{length, get_or}
-use lib.Dec.{T, eqb, ltb}
-use borrow.Author.Tests.{eq-eqb, eqb-true, lt-ltb, le-ltb, not-true}
-use Rattle.machine_pws.specs.Machine.{all_below, put}
+use lib.ListN.{get_or}
+use lib.Dec.{T, eqb}
+use borrow.Author.Tests.{eq-eqb, eqb-true, not-true}
+use Rattle.machine_pws.specs.Machine.{all_below}
 use Rattle.file_records.specs.declared.program.Shape.{Shape}
 use Rattle.list_key.specs.Tags.{sum_below}
 use Rattle.list_key.proofs.Below.{all_true, all_false}
 use Rattle.list_key.proofs.SumLaws.{sum_equal}
 use Rattle.list_summary.specs.Groups.{same_states, states_at, leads, in_group}
-use Rattle.list_summary.proofs.WordLaws.{put_is, put_is_not}
 
 pub true_false : true ≡ false → ⊥
 true_false e = subst T e tt

@@ -1,18 +1,17 @@
 -- The first entry of a group is found on the chain of its states.
-use Prim.Native.Nat.{ℕ, zero, suc, ◌+◌, ◌*◌, ◌-◌, ◌<◌, ◌≤◌, min}
+use Prim.Native.Nat.{ℕ, zero, suc, ◌-◌, ◌<◌, ◌≤◌, min}
 use mathlib.Core.Path.{◌≡◌, refl, sym, ap, ap₂, subst, ◌∙◌}
 use mathlib.Core.Logic.{◌⊎◌, inl, inr, ⊎_elim, ◌≢◌}
 use mathlib.Core.Bool.{Bool, true, false, cond, ◌&&◌, not}
 use mathlib.Core.List.{List}
 use native.Mathlib.Omega.{arith}
-use native.Mathlib.Decide.{dec_le, ℕ_discrete}
-use lib.ListN.{length, get_or}
-use lib.Dec.{T, eqb, ltb}
-use borrow.Author.Tests.{eq-eqb, ne_eqb, eqb-true, eqb-false, lt-ltb, le-ltb, ltb-true, ltb-false, not-true}
+use lib.ListN.{get_or}
+use lib.Dec.{eqb, ltb}
+use borrow.Author.Tests.{ne_eqb, eqb-false, lt-ltb, le-ltb, ltb-true, ltb-false}
 use Rattle.file_records.specs.declared.program.Shape.{Shape}
 use Rattle.base.specs.Bytes.{choose}
 use Rattle.list_key.specs.Number.{stir, behind, packed_states, states_mixed}
-use Rattle.list_summary.specs.Slots.{linked, head_link, next_link, count_at, home_of, Met, here, later}
+use Rattle.list_summary.specs.Slots.{linked, head_link, next_link, count_at, home_of, Met}
 use Rattle.list_summary.specs.Groups.{same_states, states_at, leads, in_group, leader_from, leader_of}
 use Rattle.list_summary.specs.Summary.{Grouped}
 use Rattle.list_summary.proofs.ChainLaws.{met_cases}

@@ -1,38 +1,26 @@
 -- The walk over what may match: nothing that is still to come is left out.
-use Prim.Native.Nat.{ℕ, zero, suc, ◌+◌, ◌-◌, ◌/◌, ◌^◌, ◌<◌, ◌≤◌}
-use mathlib.Core.Path.{◌≡◌, refl, sym, ap, ap₂, subst, subst₂, ◌∙◌}
-use mathlib.Core.Logic.{◌⊎◌, inl, inr, ⊎_elim}
-use mathlib.Core.Bool.{Bool, true, false, cond, ◌&&◌}
+use Prim.Native.Nat.{ℕ, ◌+◌, ◌-◌, ◌/◌, ◌^◌, ◌<◌, ◌≤◌}
+use mathlib.Core.Path.{◌≡◌, refl, sym, ap, subst, subst₂, ◌∙◌}
+use mathlib.Core.Logic.{inl, inr}
+use mathlib.Core.Bool.{Bool, true, false}
 use mathlib.Core.List.{List}
 use native.Mathlib.Omega.{arith}
 use native.Mathlib.Decide.{dec_le}
-use lib.Bits.{bit_or}
-use lib.Dec.{eqb, ltb}
+use lib.Dec.{ltb}
 use lib.Count.{count_leading_zeros, leading_top}
 use lib.Pow.{shr-shr, pow_mono}
-use borrow.Author.Tests.{lt-ltb, eqb-true, eq-eqb}
-use Rattle.file_records.proofs.ProgramLaws.{and_true}
+use borrow.Author.Tests.{lt-ltb}
 use Rattle.file_records.specs.declared.program.Shape.{Shape}
 use Rattle.base.specs.Bytes.{choose}
 use Rattle.file_again.specs.Again.{cube_at}
 use Rattle.list_key.specs.Signature.{Contained}
-use Rattle.list_key.specs.Number.{signature_in, Agrees, number_of, states_mixed}
-use Rattle.list_summary.specs.declared.walking.Walk.{Walk}
-use Rattle.list_summary.specs.Slots.{linked, marked, head_link, next_link, signature_at, home_of, mark_in, Met, here, later}
-use Rattle.list_summary.specs.Groups.{same_states, states_at, leads, leader_of}
-use Rattle.list_summary.specs.Summary.{Grouped, Summed}
-use Rattle.list_summary.specs.Walks.{Left, ahead, Led, Onward}
-use Rattle.list_summary.proofs.ChainLaws.{met_cases, met_none, met_past}
-use Rattle.list_summary.proofs.GroupLaws.{true_false, leader_before, same_trans}
+use Rattle.list_key.specs.Number.{signature_in, Agrees, number_of}
+use Rattle.list_summary.specs.Slots.{head_link, home_of, Met}
+use Rattle.list_summary.specs.Groups.{same_states, states_at, leads}
+use Rattle.list_summary.specs.Summary.{Summed}
+use Rattle.list_summary.specs.Walks.{Left}
+use Rattle.list_summary.proofs.GroupLaws.{true_false}
 use Rattle.list_summary.proofs.LeaderLaws.{leader_is}
-
--- the code's test of a link: its mark and the signature of the entry
-pub mark_met : (x y : ℕ) (b : Bool) {r : Bool} → r ≡ (eqb x y && b) → r ≡ true → x ≡ y
-mark_met x y b f g = eqb-true x y (and_true (eqb x y) b (sym f ∙ g)).0
-
-pub link_missed : (x y : ℕ) {b r : Bool} {signature bits : ℕ} → b ≡ eqb (bit_or signature bits) bits → r ≡ (eqb x y && b) → r ≡ false → x ≡ y → Contained signature bits → ⊥
-link_missed x y {signature = signature} {bits = bits} d f g q w =
-    true_false (sym (f ∙ ap₂ ◌&&◌ (eq-eqb x y q) (d ∙ eq-eqb (bit_or signature bits) bits w.are)) ∙ g)
 
 module _ (f list sum : List ℕ) (n : ℕ) (s : Shape) (states : List ℕ) (number below link : ℕ) (led : Bool) where
   -- so far only entries with other marks were passed
@@ -40,66 +28,6 @@ module _ (f list sum : List ℕ) (n : ℕ) (s : Shape) (states : List ℕ) (numb
     pub few : below ≤ n
     pub most : under ≤ below
     pub kept : (k : ℕ) → Left f list sum n s states number below link led k → Left f list sum n s states number under at led k
-
-  pub passing_begin : below ≤ n → Passing below link
-  passing_begin few = record { few = few; most = omega arith; kept = λ k r. r }
-
-  module _ {under at next : ℕ} (w : Passing under at) (e : next ≡ linked at) where
-    -- the chain ends here
-    chain_over : (next ≡ 0) ⊎ (under < next) → (k : ℕ) → Left f list sum n s states number below link led k → (led ≡ false) × (leader_of f list s sum n states ≡ suc k)
-    chain_over o k r = ⊎_elim
-        (λ m. absurd (⊎_elim (λ z. met_none m.0 (sym e ∙ z)) (λ z. met_past m.0 (omega arith)) o))
-        (λ m. m)
-        (w.kept k r)
-
-    pub passing_over : (next ≡ 0) ⊎ (under < next) → {r : Walk} → Led f list sum n s states led r → Onward f list sum n s states number below link led r
-    passing_over o {r} L =
-        record {
-          bounded = omega (arith, L.bounded);
-          none = λ z k x. let y = chain_over o k x in omega (arith, sym (L.first y.0) ∙ z, y.1);
-          exists = L.exists;
-          shorter = λ d. rw (L.bounded, L.passed) (not_led d led refl);
-          rest = λ d k x. let y = chain_over o k x in inl (L.first y.0 ∙ y.1);
-        }
-      where
-        not_led : (r.entry ≡ 0 → ⊥) → (b : Bool) → led ≡ b → 0 + 0 < below + cond b 0 1
-        not_led d true q = absurd (d (L.met q))
-        not_led d false q = omega arith
-
-    module _ (d : next ≡ 0 → ⊥) (l : next ≤ under) {after : ℕ} (a : after ≡ next_link sum (next - 1)) where
-      split : (k m : ℕ) → Met sum under at k m → ((next ≡ suc k) × (m ≡ marked at)) ⊎ Met sum (next - 1) after k m
-      split k m r =
-          let c = met_cases r in
-          let j : next - 1 ≡ c.0 = omega (arith, c.1) in
-          ⊎_elim (λ x. inl (e ∙ c.1 ∙ ap suc (sym x.0), x.1))
-          (λ x. inr (rw (a, j) x)) c.3
-
-      pub passing_found : marked at ≡ mark_in number
-          → Onward f list sum n s states number below link led (record { entry = next; below = next - 1; link = after; led = led })
-      passing_found q =
-          record {
-            bounded = omega (arith, w.most, w.few);
-            none = λ z. absurd (d z);
-            exists = omega (arith, w.most, w.few);
-            shorter = λ z. let u = w.most in less led;
-            rest = λ z k x. ⊎_elim (λ m. ⊎_elim (λ y. inl y.0) (λ y. inr (inl (y, m.1))) (split k (mark_in number) m.0)) (λ m. inr (inr m)) (w.kept k x);
-          }
-        where
-          less : (b : Bool) → (next - 1) + cond b 0 1 < below + cond b 0 1
-          less true = omega (arith, w.most, d)
-          less false = omega (arith, w.most, d)
-
-      pub passing_on : (marked at ≡ mark_in number → Contained (signature_at sum (next - 1)) (signature_in number) → ⊥) → Passing (next - 1) after
-      passing_on q =
-          record {
-            few = w.few;
-            most = omega (arith, w.most);
-            kept = λ k x. ⊎_elim
-                (λ m. ⊎_elim
-                (λ y. absurd (q (sym y.1) (let z : next - 1 ≡ k = omega (arith, y.0) in subst (λ (i : ℕ). Contained (signature_at sum i) (signature_in number)) (sym z) m.1)))
-                (λ y. inl (y, m.1)) (split k (mark_in number) m.0))
-                (λ m. inr m) (w.kept k x);
-          }
 
 -- ---- what was not met does not match
 

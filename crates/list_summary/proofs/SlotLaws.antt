@@ -1,15 +1,14 @@
 -- What the code of slots reads where there is none, and where a number belongs.
-use Prim.Native.Nat.{ℕ, zero, suc, ◌+◌, ◌*◌, ◌-◌, ◌/◌, ◌%◌, ◌^◌, ◌<◌, ◌≤◌}
-use mathlib.Core.Path.{◌≡◌, refl, sym, ap, ◌∙◌}
-use mathlib.Core.Bool.{Bool, true, false, cond}
+use Prim.Native.Nat.{ℕ, ◌+◌, ◌*◌, ◌-◌, ◌/◌, ◌%◌, ◌^◌, ◌<◌, ◌≤◌}
+use mathlib.Core.Path.{◌≡◌, refl, ap, ◌∙◌}
 use mathlib.Core.List.{List}
 use native.Mathlib.Omega.{arith}
 use lib.ListN.{length}
 use lib.Bits.{bit_or}
-use lib.Dec.{eqb, ltb}
+use lib.Dec.{eqb}
 use lib.Count.{count_leading_zeros, leading_top}
 use borrow.Author.Tests.{lt-ltb, le-ltb}
-use Rattle.base.specs.Bytes.{choose, le32, put32}
+use Rattle.base.specs.Bytes.{le32, put32}
 use Rattle.list_summary.specs.Slots.{word, put_word, link_to, head_link, field_at, count_at, signature_at, with_link, with_digit, hung, put_field, home_of}
 
 pub word_far : (sum : List ℕ) (i : ℕ) → length sum / 4 ≤ i → word sum i ≡ 0
@@ -57,22 +56,28 @@ module _ (number n : ℕ) where
 
 -- ---- the stores of the code
 
-pub hang_is : (sum led new : List ℕ) (home k mark old first link upper own lower : ℕ) → old ≡ head_link sum home → first ≡ word sum (2 * home) → link ≡ link_to k mark
-    → upper ≡ with_link first link → led ≡ put_word sum (2 * home) upper → own ≡ word led (2 * k + 1) → lower ≡ with_link own old → new ≡ put_word led (2 * k + 1) lower
+-- the low word of a slot
+pub low_is : (k : ℕ) → 2 * k + 0 ≡ 2 * k
+low_is k = omega arith
+
+pub hang_is : (sum led new : List ℕ) (home k mark old first link upper own lower : ℕ) → old ≡ head_link sum home → first ≡ word sum (2 * home + 0) → link ≡ link_to k mark
+    → upper ≡ with_link first link → led ≡ put_word sum (2 * home + 0) upper → own ≡ word led (2 * k + 1) → lower ≡ with_link own old → new ≡ put_word led (2 * k + 1) lower
     → new ≡ hung sum home k mark
 unfolding hung
 hang_is sum led new home k mark old first link upper own lower a b i x d e y g =
-    let u : led ≡ put_word sum (2 * home) (with_link first (link_to k mark)) = d ∙ ap (put_word sum (2 * home)) (x ∙ ap (with_link first) i) in
+    let f : first ≡ word sum (2 * home) = b ∙ ap (word sum) (low_is home) in
+    let u : led ≡ put_word sum (2 * home) (with_link first (link_to k mark)) = d ∙ ap (λ (z : ℕ). put_word sum z upper) (low_is home) ∙ ap (put_word sum (2 * home)) (x ∙ ap (with_link first) i) in
     let v : new ≡ put_word led (2 * k + 1) (with_link own old) = g ∙ ap (put_word led (2 * k + 1)) y in
-    rw (← b, ← a, ← u, ← e) v
+    rw (← f, ← a, ← u, ← e) v
 
-pub count_is : (sum led new : List ℕ) (k x low high upper lower : ℕ) → low ≡ word sum (2 * k) → upper ≡ with_digit low (x % 1024) → led ≡ put_word sum (2 * k) upper
+pub count_is : (sum led new : List ℕ) (k x low high upper lower : ℕ) → low ≡ word sum (2 * k + 0) → upper ≡ with_digit low (x % 1024) → led ≡ put_word sum (2 * k + 0) upper
     → high ≡ word led (2 * k + 1) → lower ≡ with_digit high (x / 1024 % 1024) → new ≡ put_word led (2 * k + 1) lower → new ≡ put_field sum k x
 unfolding put_field
 count_is sum led new k x low high upper lower a i b d y e =
-    let u : led ≡ put_word sum (2 * k) (with_digit low (x % 1024)) = b ∙ ap (put_word sum (2 * k)) i in
+    let f : low ≡ word sum (2 * k) = a ∙ ap (word sum) (low_is k) in
+    let u : led ≡ put_word sum (2 * k) (with_digit low (x % 1024)) = b ∙ ap (λ (z : ℕ). put_word sum z upper) (low_is k) ∙ ap (put_word sum (2 * k)) i in
     let v : new ≡ put_word led (2 * k + 1) (with_digit high (x / 1024 % 1024)) = e ∙ ap (put_word led (2 * k + 1)) y in
-    rw (← a, ← u, ← d) v
+    rw (← f, ← u, ← d) v
 
 -- ---- fields
 

@@ -1,27 +1,35 @@
 -- The walk along a chain, and the additions, as the code does them.
-use Prim.Native.Nat.{ℕ, zero, suc, ◌+◌, ◌*◌, ◌-◌, ◌/◌, ◌<◌, ◌≤◌}
-use mathlib.Core.Path.{◌≡◌, refl, sym, ap, ap₂, subst, ◌∙◌}
-use mathlib.Core.Logic.{◌≢◌}
-use mathlib.Core.Bool.{Bool, true, false, cond, ◌&&◌, not}
+use Prim.Native.Nat.{ℕ, zero, suc, ◌+◌, ◌-◌, ◌/◌, ◌<◌, ◌≤◌}
+use mathlib.Core.Path.{◌≡◌, refl, sym, ap, subst₂, ◌∙◌}
+use mathlib.Core.Bool.{Bool, true, false, ◌&&◌, not}
 use mathlib.Core.List.{List, ◌++◌, append-nil}
 use native.Mathlib.Omega.{arith}
+use Rattle.std.specs.Prelude.{Option, Some, None}
 use native.Mathlib.Numerals.{add-one}
 use lib.ListN.{length, take, drop, length-drop, length-append, take-append-drop, drop_of_length-le}
 use lib.Seq.{take_all, take_at, drop_at, length-take-le}
-use lib.Dec.{eqb, ltb, leb}
+use lib.Dec.{eqb}
 use borrow.Author.Tests.{eq-eqb, ne_eqb, lt-ltb, le-ltb, le-leb, lt-leb}
 use Rattle.file_records.specs.declared.program.Shape.{Shape}
 use Rattle.base.specs.Bytes.{choose}
-use Rattle.file_contents.specs.declared.entry.Cube.{Cube}
 use Rattle.file_again.specs.Again.{cube_at}
-use Rattle.list_key.specs.Tags.{tags_of}
 use Rattle.list_key.specs.Number.{number_of, states_mixed}
 use Rattle.list_summary.proofs.WordLaws.{put_length}
-use Rattle.list_summary.specs.Slots.{linked, head_link, next_link, count_at, hung, put_field, home_of, mark_in}
-use Rattle.list_summary.specs.Groups.{same_states, states_at, leader_from, leader_of, added, joined_at, added_from, summary_of, summarised, Joins}
+use Rattle.list_summary.specs.Slots.{linked, entry_in, head_link, next_link, count_at, hung, put_field, home_of, mark_in}
+use Rattle.list_summary.specs.Groups.{same_states, states_at, leader_from, leader_of, added, joined_at, added_from, summarised, Joins}
 
-pub leads_no : (x : ℕ) (b : Bool) → x ≡ 0 → false ≡ (not (eqb x 0) && b)
-leads_no x b e = rw (eq-eqb x 0 e)
+-- ---- entries counted from 1
+
+pub none_not_one : {j : ℕ} → ◌≡◌ {A = Option ℕ} None (Some j) → ⊥
+none_not_one e = cc
+
+pub no_entry : (x : ℕ) → entry_in x ≡ None → x ≡ 0
+no_entry zero e = refl
+no_entry (suc k) e = cc
+
+pub one_entry : (x j : ℕ) → entry_in x ≡ Some j → x ≡ suc j
+one_entry zero j e = cc
+one_entry (suc k) j e = cc
 
 pub leads_yes : (x : ℕ) (a b : Bool) → (x ≡ 0 → ⊥) → a ≡ b → a ≡ (not (eqb x 0) && b)
 leads_yes x a b d e = rw (ne_eqb x 0 d) e
@@ -39,7 +47,7 @@ module _ (f list sum : List ℕ) (n : ℕ) (s : Shape) (states : List ℕ) where
   unfolding leader_of
   walking_begin e d = record { most = omega arith; fuel = suc n; enough = omega arith; rest = rw (d, e) }
 
-  module _ {below link : ℕ} (w : Walking below link) {next : ℕ} (e : next ≡ linked link) where
+  module _ {below link : ℕ} (w : Walking below link) where
     some : (fuel : ℕ) → below < fuel → leader_of f list s sum n states ≡ leader_from f list s sum states fuel below link → (g : ℕ) × (fuel ≡ suc g)
     some zero l r = absurd (omega arith)
     some (suc g) l r = (g, refl)
@@ -51,26 +59,29 @@ module _ (f list sum : List ℕ) (n : ℕ) (s : Shape) (states : List ℕ) where
     unfolding before
     rest = w.rest ∙ ap (λ (g : ℕ). leader_from f list s sum states g below link) (some w.fuel w.enough w.rest).1
 
-    pub walking_end : next ≡ 0 → 0 ≡ leader_of f list s sum n states
+    pub walking_end : linked link ≡ 0 → None ≡ entry_in (leader_of f list s sum n states)
     unfolding leader_from
-    walking_end z = sym (rest ∙ rw (eq-eqb (linked link) 0 (sym e ∙ z)))
+    walking_end e = let z : leader_of f list s sum n states ≡ 0 = rest ∙ rw (eq-eqb (linked link) 0 e) in ap entry_in (sym z)
 
-    module _ (d : next ≡ 0 → ⊥) where
-      pub walking_past : below < next → 0 ≡ leader_of f list s sum n states
+    module _ {j : ℕ} (e : linked link ≡ suc j) where
+      pub walking_past : below ≤ j → None ≡ entry_in (leader_of f list s sum n states)
       unfolding leader_from
-      walking_past l = sym (rest ∙ rw (ne_eqb (linked link) 0 (λ z. d (e ∙ z)), lt-ltb below (linked link) (omega arith)))
+      walking_past l =
+          let z : leader_of f list s sum n states ≡ 0 = rest ∙ rw (ne_eqb (linked link) 0 (λ z. omega arith), lt-ltb below (linked link) (omega arith)) in
+          ap entry_in (sym z)
 
-      module _ (l : next ≤ below) where
-        on : leader_of f list s sum n states ≡ choose (not (eqb (count_at sum (next - 1)) 0) && same_states s (states_at f list s (next - 1)) states) (λ _. next)
-            (λ _. leader_from f list s sum states before (next - 1) (next_link sum (next - 1)))
+      module _ (l : j < below) where
+        on : leader_of f list s sum n states ≡ choose (not (eqb (count_at sum j) 0) && same_states s (states_at f list s j) states) (λ _. suc j)
+            (λ _. leader_from f list s sum states before j (next_link sum j))
         unfolding leader_from
-        on = rest ∙ rw (ne_eqb (linked link) 0 (λ z. d (e ∙ z)), le-ltb below (linked link) (omega arith), ← e)
+        on = let d : suc j - 1 ≡ j = omega arith in rest ∙ rw (ne_eqb (linked link) 0 (λ z. omega arith), le-ltb below (linked link) (omega arith), e, d)
 
-        pub walking_found : {b : Bool} → b ≡ (not (eqb (count_at sum (next - 1)) 0) && same_states s (states_at f list s (next - 1)) states) → b ≡ true → next ≡ leader_of f list s sum n states
-        walking_found x y = sym (on ∙ rw (sym x ∙ y))
+        pub walking_found : {b : Bool} → b ≡ (not (eqb (count_at sum j) 0) && same_states s (states_at f list s j) states) → b ≡ true
+            → Some j ≡ entry_in (leader_of f list s sum n states)
+        walking_found x y = let z : leader_of f list s sum n states ≡ suc j = on ∙ rw (sym x ∙ y) in ap entry_in (sym z)
 
-        pub walking_on : {b : Bool} {then : ℕ} → b ≡ (not (eqb (count_at sum (next - 1)) 0) && same_states s (states_at f list s (next - 1)) states) → b ≡ false
-            → then ≡ next_link sum (next - 1) → Walking (next - 1) then
+        pub walking_on : {b : Bool} {then : ℕ} → b ≡ (not (eqb (count_at sum j) 0) && same_states s (states_at f list s j) states) → b ≡ false
+            → then ≡ next_link sum j → Walking j then
         unfolding before
         walking_on x y z =
             record {
@@ -97,40 +108,23 @@ module _ (f upper : List ℕ) (s : Shape) (at n : ℕ) where
   past : (x : List ℕ) → x ++ drop (length upper - at) (drop at upper) ≡ x
   past x = ap (λ (y : List ℕ). x ++ y) (drop_of_length-le (drop at upper) {i = length upper - at} (omega (arith, length-drop at upper))) ∙ append-nil x
 
-  pub place_first : {k leader number : ℕ} {cube : Cube} → cube ≡ cube_at f list k → leader ≡ leader_of f list s lent n cube.states → leader ≡ 0 → number ≡ states_mixed s cube.states
-      → Joins f list s (drop at upper) n k 0 number
-  place_first {k = k} {number = number} {cube = cube} c l e d =
-      record {
-        leading = sym e ∙ l ∙ ap (λ (x : List ℕ). leader_of f list s x n cube.states) (rest_part at upper) ∙ ap (λ (x : Cube). leader_of f list s (drop at upper) n x.states) c;
-        small = omega arith;
-        first = λ z. d ∙ ap (λ (x : Cube). states_mixed s x.states) c;
-        other = λ z. absurd (z refl);
-      }
-
-  pub place_other : {k leader number : ℕ} {cube : Cube} {tags : List ℕ} → cube ≡ cube_at f list k → leader ≡ leader_of f list s lent n cube.states → leader < 1048576 → (leader ≡ 0 → ⊥)
-      → tags ≡ tags_of s cube → (tags ≡ tags_of s cube → number ≡ number_of s cube) → Joins f list s (drop at upper) n k leader number
-  place_other {k = k} {number = number} {cube = cube} c l b e t d =
-      record {
-        leading = l ∙ ap (λ (x : List ℕ). leader_of f list s x n cube.states) (rest_part at upper) ∙ ap (λ (x : Cube). leader_of f list s (drop at upper) n x.states) c;
-        small = b;
-        first = λ z. absurd (e z);
-        other = λ z. d t ∙ ap (number_of s) c;
-      }
-
-  pub joined_first : {k leader number : ℕ} {new : List ℕ} → Joins f list s (drop at upper) n k leader number → leader ≡ 0
+  pub joined_first : {k number : ℕ} {leader : Option ℕ} {low high new : List ℕ} → low ≡ list → high ≡ drop at upper → Joins f low s high n k leader number → leader ≡ None
       → new ≡ put_field (hung lent (home_of number n) k (mark_in number)) k 1 → list ++ (new ++ drop (length upper - at) (drop at upper)) ≡ list ++ added f list s (drop at upper) n k
   unfolding added
-  joined_first {k = k} J e d =
+  joined_first {k} {number} {leader} a b J e d =
+      let K = subst₂ (λ (low high : List ℕ). Joins f low s high n k leader number) a b J in
       ap (λ (x : List ℕ). list ++ x)
-      (past _ ∙ d ∙ rw (rest_part at upper, J.first e, eq-eqb (leader_of f list s (drop at upper) n (states_at f list s k)) 0 (sym J.leading ∙ e)))
+      (past _ ∙ d ∙ rw (rest_part at upper, K.first e, eq-eqb (leader_of f list s (drop at upper) n (states_at f list s k)) 0 (no_entry _ (sym K.leading ∙ e))))
 
-  pub joined_group : {k leader number : ℕ} {new : List ℕ} → Joins f list s (drop at upper) n k leader number → (leader ≡ 0 → ⊥)
-      → new ≡ joined_at lent (leader - 1) number n k
+  pub joined_group : {k number j : ℕ} {leader : Option ℕ} {low high new : List ℕ} → low ≡ list → high ≡ drop at upper → Joins f low s high n k leader number → leader ≡ Some j
+      → new ≡ joined_at lent j number n k
       → list ++ (new ++ drop (length upper - at) (drop at upper)) ≡ list ++ added f list s (drop at upper) n k
   unfolding added
-  joined_group {k = k} J e d =
-      ap (λ (x : List ℕ). list ++ x)
-      (past _ ∙ d ∙ rw (rest_part at upper, J.other e, J.leading, ne_eqb (leader_of f list s (drop at upper) n (states_at f list s k)) 0 (λ z. e (J.leading ∙ z))))
+  joined_group {k} {number} {j} {leader} a b J e d =
+      let K = subst₂ (λ (low high : List ℕ). Joins f low s high n k leader number) a b J in
+      let z : leader_of f list s (drop at upper) n (states_at f list s k) ≡ suc j = one_entry _ j (sym K.leading ∙ e) in
+      let y : suc j - 1 ≡ j = omega arith in
+      ap (λ (x : List ℕ). list ++ x) (past _ ∙ d ∙ rw (rest_part at upper, K.other j e, z, ne_eqb (suc j) 0 (λ x. omega arith), y))
 
 -- ---- lengths
 

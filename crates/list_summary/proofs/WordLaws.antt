@@ -1,6 +1,6 @@
 -- Words and slots after a store.
-use Prim.Native.Nat.{ℕ, suc, ◌+◌, ◌*◌, ◌-◌, ◌/◌, ◌%◌, ◌<◌, ◌≤◌}
-use mathlib.Core.Path.{◌≡◌, refl, sym, ap, ap₂, ◌∙◌}
+use Prim.Native.Nat.{ℕ, suc, ◌+◌, ◌*◌, ◌/◌, ◌%◌, ◌<◌, ◌≤◌}
+use mathlib.Core.Path.{◌≡◌, refl, ap, ap₂, ◌∙◌}
 use mathlib.Core.Logic.{◌⊎◌, inl, inr, ◌≢◌}
 use mathlib.Core.Bool.{Bool, true, false, cond}
 use mathlib.Core.List.{List}
@@ -9,10 +9,10 @@ use native.Mathlib.Decide.{dec_le, ℕ_discrete}
 use lib.ListN.{length}
 use lib.Dec.{ltb, eqb}
 use borrow.Author.Tests.{lt-ltb, le-ltb, eq-eqb, ne_eqb}
-use Rattle.base.specs.Bytes.{choose, le32, put32}
+use Rattle.base.specs.Bytes.{choose, put32}
 use Rattle.base.proofs.ByteLaws.{put32_length, le32_put32, le32_elsewhere}
 use Rattle.machine_pws.specs.Machine.{put}
-use Rattle.list_summary.specs.Slots.{word, put_word, linked, marked, link_to, head_link, next_link, field_at, number_in, count_at, signature_at, with_link, with_digit, hung, put_field}
+use Rattle.list_summary.specs.Slots.{word, put_word, link_to, head_link, next_link, field_at, number_in, count_at, signature_at, with_link, with_digit, hung, put_field}
 
 -- ---- words
 

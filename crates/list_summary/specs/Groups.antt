@@ -1,11 +1,11 @@
 -- The groups of a list: entries with equal local states (request N2), and how they are added to a summary.
-use Rattle.std.specs.Prelude.{ℕ, zero, suc, ◌+◌, ◌*◌, ◌-◌, ◌/◌, ◌<◌, ◌≤◌, min, ◌≡◌, Bool, true, false, cond, ◌&&◌, not, List, ◌++◌, length, get_or, take, drop, eqb, ltb, leb}
+use Rattle.std.specs.Prelude.{ℕ, zero, suc, ◌+◌, ◌-◌, ◌/◌, ◌<◌, min, ◌≡◌, Bool, cond, ◌&&◌, not, List, Option, Some, None, ◌++◌, length, get_or, take, drop, eqb, ltb, leb}
 use Rattle.machine_pws.specs.Machine.{all_below}
 use Rattle.file_records.specs.declared.program.Shape.{Shape}
 use Rattle.base.specs.Bytes.{choose}
 use Rattle.file_again.specs.Again.{cube_at}
 use Rattle.list_key.specs.Number.{signature_in, number_of, states_mixed}
-use Rattle.list_summary.specs.Slots.{linked, next_link, head_link, count_at, hung, put_field, home_of, mark_in, Met}
+use Rattle.list_summary.specs.Slots.{linked, next_link, head_link, count_at, hung, put_field, home_of, mark_in, entry_in}
 
 -- entry k, which has this number, joins the group that entry j leads: the group has one more, the entry hangs on the chain of its number, and its
 -- signature is kept
@@ -53,12 +53,12 @@ module _ (f list : List ℕ) (s : Shape) where
       (λ _. let j : ℕ = leader_of sum n (states_at k) - 1 in
       joined_at sum j (number_of s (cube_at f list k)) n k)
 
-  -- the first entry of its group, counted from 1, or 0; and the number of the chain where it joins
-  pub record Joins (sum : List ℕ) (n k leader number : ℕ) : Type 0 where
-    pub leading : leader ≡ leader_of sum n (states_at k)
-    pub small : leader < 1048576
-    pub first : leader ≡ 0 → number ≡ states_mixed s (states_at k)
-    pub other : (leader ≡ 0 → ⊥) → number ≡ number_of s (cube_at f list k)
+  -- the first entry of its group, if it is not the first itself; and the number of the chain where it joins
+  pub record Joins (sum : List ℕ) (n k : ℕ) (leader : Option ℕ) (number : ℕ) : Type 0 where
+    pub leading : leader ≡ entry_in (leader_of sum n (states_at k))
+    pub small : (j : ℕ) → leader ≡ Some j → j < 1048575
+    pub first : leader ≡ None → number ≡ states_mixed s (states_at k)
+    pub other : (j : ℕ) → leader ≡ Some j → number ≡ number_of s (cube_at f list k)
 
   unfoldable pub added_from : List ℕ → ℕ → ℕ → List ℕ
   added_from sum n zero = sum

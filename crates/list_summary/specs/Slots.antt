@@ -1,6 +1,6 @@
 -- The bytes of a summary (request N2): words of four bytes, two for each entry allowed. No statement of the judge rests on these
 -- definitions: whatever the words hold, each entry that they lead to is held against the file.
-use Rattle.std.specs.Prelude.{ℕ, suc, ◌+◌, ◌*◌, ◌-◌, ◌/◌, ◌%◌, ◌^◌, ◌<◌, ◌≡◌, cond, List, length, ltb}
+use Rattle.std.specs.Prelude.{ℕ, zero, suc, ◌+◌, ◌*◌, ◌-◌, ◌/◌, ◌%◌, ◌^◌, ◌<◌, ◌≡◌, cond, List, Option, Some, None, length, ltb}
 use Rattle.std.specs.Int.Count.{count_leading_zeros}
 use Rattle.base.specs.Bytes.{choose, le32, put32}
 
@@ -17,6 +17,11 @@ put_word sum i x = choose (ltb i (length sum / 4)) (λ _. put32 sum (4 * i) x) (
 
 abbrev pub linked : ℕ → ℕ
 linked link = link % 1048576
+
+-- the entry that a number counted from 1 stands for
+abbrev pub entry_in : ℕ → Option ℕ
+entry_in zero = None
+entry_in (suc k) = Some k
 
 abbrev pub marked : ℕ → ℕ
 marked link = link / 1048576

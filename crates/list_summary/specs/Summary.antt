@@ -1,6 +1,6 @@
 -- What holds of a summary (request N2): groups by local states with the number in each, a total to which they add up, and every entry where it is
 -- looked for.
-use Rattle.std.specs.Prelude.{ℕ, ◌*◌, ◌<◌, ◌≤◌, ◌≡◌, Bool, true, false, cond, ◌&&◌, List, length, ltb}
+use Rattle.std.specs.Prelude.{ℕ, ◌*◌, ◌<◌, ◌≤◌, ◌≡◌, true, false, cond, ◌&&◌, List, length, ltb}
 use Rattle.file_records.specs.declared.program.Shape.{Shape}
 use Rattle.file_again.specs.Again.{cube_at}
 use Rattle.list_key.specs.Tags.{sum_below}

@@ -1,21 +1,16 @@
-// Slots of a summary, two words of four bytes each: the first link of a chain, the link after an entry, and the number in a group or a signature. Places, links
-// and digits are made by adding and shifting: no product stands in this crate (request N4).
+// Slots of a summary, two words of four bytes each: the first link of a chain, the link after an entry, and the
+// number in a group or a signature. Places, links and digits are made by adding and shifting: no product stands in
+// this crate (request N4).
 ghost use Rattle.std.specs.Prelude.{◌≡◌, ℕ, suc, ◌+◌, ◌*◌, ◌/◌, ◌%◌, ◌^◌, ◌≤◌, ◌<◌, length, eqb};
 ghost use Rattle.std.specs.Int.Bits.{bit_or};
 ghost use Rattle.base.specs.Bytes.{le32};
 ghost use Rattle.list_key.specs.Number.{signature_in};
-ghost use Rattle.list_summary.specs.Slots.{word, put_word, linked, marked, link_to, head_link, next_link, field_at, count_at, signature_at, with_link, with_digit, hung, put_field, home_of, mark_in};
+ghost use Rattle.list_summary.specs.Slots.{word, put_word, linked, entry_in, marked, link_to, head_link, next_link, field_at, count_at, signature_at, with_link, with_digit, hung, put_field, home_of, mark_in};
 
 use base::bytes::store_number;
 use base::places::{slot_word, word_place};
 
 // ---- words
-
-fn digit(x: u8) -> usize
-    ensures { (result ≡ x) × (result < 256) }
-{
-    x as usize
-}
 
 // Four bytes as a number, least significant first.
 fn four_bytes(sum: &[u8], at: usize) -> usize
@@ -23,11 +18,10 @@ fn four_bytes(sum: &[u8], at: usize) -> usize
     ensures value { result ≡ le32 sum.now at }
     ensures upper_bound { result < 4294967296 }
 {
-    let a = digit(sum[at]);
-    let b = digit(sum[at + 1]);
-    let c = digit(sum[at + 2]);
-    let d = digit(sum[at + 3]);
-    a + (b << 8) + (c << 16) + (d << 24)
+    usize::from(sum[at])
+        + (usize::from(sum[at + 1]) << 8)
+        + (usize::from(sum[at + 2]) << 16)
+        + (usize::from(sum[at + 3]) << 24)
 }
 
 pub fn word_at(sum: &[u8], i: usize) -> usize
@@ -49,53 +43,36 @@ pub fn put_word(sum: &mut [u8], i: usize, x: usize)
     store_number(sum, word_place(i), x);
 }
 
-// ---- the two words of slot k
+// ---- the two words of slot k: the low one, 0, and the high one, 1
 
-fn low_word(sum: &[u8], k: usize) -> usize
-    ensures value { result ≡ word sum.now (2 * k) }
+fn half_at(sum: &[u8], k: usize, half: usize) -> usize
+    requires { half < 2 }
+    ensures value { result ≡ word sum.now (2 * k + half) }
     ensures upper_bound { result < 4294967296 }
 {
     if sum.len() / 8 < k {
         return 0;
     }
-    word_at(sum, slot_word(k))
+    word_at(sum, slot_word(k) + half)
 }
 
-fn high_word(sum: &[u8], k: usize) -> usize
-    ensures value { result ≡ word sum.now (2 * k + 1) }
-    ensures upper_bound { result < 4294967296 }
-{
-    if sum.len() / 8 < k {
-        return 0;
-    }
-    word_at(sum, slot_word(k) + 1)
-}
-
-fn put_low(sum: &mut [u8], k: usize, x: usize)
-    ensures { sum.new ≡ put_word sum.old (2 * k) x }
+fn put_half(sum: &mut [u8], k: usize, half: usize, x: usize)
+    requires { half < 2 }
+    ensures { sum.new ≡ put_word sum.old (2 * k + half) x }
 {
     if sum.len() / 8 < k {
         return;
     }
-    put_word(sum, slot_word(k), x);
-}
-
-fn put_high(sum: &mut [u8], k: usize, x: usize)
-    ensures { sum.new ≡ put_word sum.old (2 * k + 1) x }
-{
-    if sum.len() / 8 < k {
-        return;
-    }
-    put_word(sum, slot_word(k) + 1, x);
+    put_word(sum, slot_word(k) + half, x);
 }
 
 // ---- links
 
-// The entry that a link leads to, counted from 1; 0 for none.
-pub(crate) fn linked(link: usize) -> usize
-    ensures { result ≡ linked link }
+// The entry that a link leads to: links count entries from 1.
+pub(crate) fn entry_in(link: usize) -> Option<usize>
+    ensures { result ≡ entry_in (linked link) }
 {
-    link % 1048576
+    (link % 1048576).checked_sub(1)
 }
 
 pub(crate) fn marked(link: usize) -> usize
@@ -133,14 +110,14 @@ pub(crate) fn head_link(sum: &[u8], k: usize) -> usize
     ensures value { result ≡ head_link sum.now k }
     ensures upper_bound { result < 4194304 }
 {
-    low_word(sum, k) % 4194304
+    half_at(sum, k, 0) % 4194304
 }
 
 // The link after entry k.
 pub(crate) fn next_link(sum: &[u8], k: usize) -> usize
     ensures { result ≡ next_link sum.now k }
 {
-    high_word(sum, k) % 4194304
+    half_at(sum, k, 1) % 4194304
 }
 
 // The field of slot k: a number, or a signature.
@@ -148,7 +125,7 @@ fn field_at(sum: &[u8], k: usize) -> usize
     ensures value { result ≡ field_at sum.now k }
     ensures upper_bound { result < 1048576 }
 {
-    low_word(sum, k) / 4194304 % 1024 + (high_word(sum, k) / 4194304 % 1024 << 10)
+    half_at(sum, k, 0) / 4194304 % 1024 + (half_at(sum, k, 1) / 4194304 % 1024 << 10)
 }
 
 // The number in the group that entry k leads; 0 if it leads none.
@@ -173,19 +150,19 @@ pub(crate) fn hang(sum: &mut [u8], home: usize, k: usize, mark: usize)
     ensures { sum.new ≡ hung sum.old home k mark }
 {
     let old = head_link(sum, home);
-    let first = low_word(sum, home);
-    put_low(sum, home, with_link(first, link_to(k, mark)));
-    let own = high_word(sum, k);
-    put_high(sum, k, with_link(own, old));
+    let first = half_at(sum, home, 0);
+    put_half(sum, home, 0, with_link(first, link_to(k, mark)));
+    let own = half_at(sum, k, 1);
+    put_half(sum, k, 1, with_link(own, old));
 }
 
 pub(crate) fn put_field(sum: &mut [u8], k: usize, x: usize)
     ensures { sum.new ≡ put_field sum.old k x }
 {
-    let low = low_word(sum, k);
-    put_low(sum, k, with_digit(low, x % 1024));
-    let high = high_word(sum, k);
-    put_high(sum, k, with_digit(high, x / 1024 % 1024));
+    let low = half_at(sum, k, 0);
+    put_half(sum, k, 0, with_digit(low, x % 1024));
+    let high = half_at(sum, k, 1);
+    put_half(sum, k, 1, with_digit(high, x / 1024 % 1024));
 }
 
 // ---- chains
@@ -197,7 +174,7 @@ pub(crate) fn home_of(number: u64, n: usize) -> usize
     if n < 2 {
         return 0;
     }
-    let shift = u64::leading_zeros((n - 1) as u64);
+    let shift = ((n - 1) as u64).leading_zeros();
     let y = (number >> shift) as usize;
     if y < n {
         return y;

@@ -1,106 +1,58 @@
 // The walk over the entries that may match a cube.
-ghost use Rattle.std.specs.Prelude.{◌≡◌, false, min};
-ghost use Rattle.list_summary.specs.Slots.{head_link, home_of};
-ghost use Rattle.list_summary.specs.Walks.{Onward, Led};
+ghost use Rattle.std.specs.Prelude.{◌≡◌, min};
 
-use crate::adding::leader_of;
-use crate::slots::{first_link, fits_at, linked, mark_of, marked, next_link, signature_in};
-use base::bytes::{both, least};
-use file_records::program::Shape;
+use crate::listing::Listing;
+use crate::slots::{entry_in, fits_at, mark_of, marked, next_link, signature_in};
 
-// An entry, counted from 1, or 0 where the walk ends; and where it goes on: below which entry and with which link, and whether the first entry
-// of the group was met.
+// The local states and the number of a cube, and where a walk for it goes on: below which entry and with which link,
+// and whether the first entry of the group was met.
 #[derive(Clone, Copy)]
 pub struct Walk {
-    pub entry: usize,
+    pub states: [u8; 4],
+    pub number: u64,
     pub below: usize,
     pub link: usize,
     pub led: bool,
 }
 
-// After the chain comes the first entry of the group.
-fn to_leader(
-    file: &[u8],
-    list: &[u8],
-    sum: &[u8],
-    n: usize,
-    shape: Shape,
-    states: [u8; 4],
-    led: bool,
-) -> Walk
-    ensures { Led file.now list.now sum.now n shape states led result }
-{
-    if led {
-        return Walk {
-            entry: 0,
-            below: 0,
-            link: 0,
-            led: true,
-        };
-    }
-    Walk {
-        entry: leader_of(file, list, sum, n, shape, states),
-        below: 0,
-        link: 0,
-        led: true,
-    }
-}
+impl Walk {
+    ghost use Rattle.list_summary.specs.Walks.{Onward, Led};
 
-// The next entry that may match a cube with these states and this number. Whatever is passed, it is one of the n entries, and what is left is less.
-pub fn onward(
-    file: &[u8],
-    list: &[u8],
-    sum: &[u8],
-    n: usize,
-    shape: Shape,
-    states: [u8; 4],
-    number: u64,
-    below: usize,
-    link: usize,
-    led: bool,
-) -> Walk
-    ensures { Onward file.now list.now sum.now n shape states number (min below n) link led result }
-{
-    let mark = mark_of(number);
-    let bits = signature_in(number);
-    let mut under = least(below, n);
-    let mut at = link;
-    loop {
-        let next = linked(at);
-        if next == 0 {
-            break;
+    // After the chain comes the first entry of the group.
+    fn leader(&mut self, listing: &Listing) -> Option<usize>
+        ensures same { (self.new.states ≡ self.old.states) × (self.new.number ≡ self.old.number) }
+        ensures led { Led listing.now.file.now listing.now.offsets.now listing.now.summary.now listing.now.count listing.now.shape self.old.states self.old.led result self.new }
+    {
+        let led = self.led;
+        self.below = 0;
+        self.link = 0;
+        self.led = true;
+        if led {
+            return None;
         }
-        if under < next {
-            break;
-        }
-        let j = next - 1;
-        let after = next_link(sum, j);
-        if both(marked(at) == mark, fits_at(sum, j, bits)) {
-            return Walk {
-                entry: next,
-                below: j,
-                link: after,
-                led: led,
-            };
-        }
-        under = j;
-        at = after;
+        listing.leader_of(self.states)
     }
-    to_leader(file, list, sum, n, shape, states, led)
-}
 
-// The first of them.
-pub fn walk_from(
-    file: &[u8],
-    list: &[u8],
-    sum: &[u8],
-    n: usize,
-    shape: Shape,
-    states: [u8; 4],
-    number: u64,
-) -> Walk
-    ensures { Onward file.now list.now sum.now n shape states number n (head_link sum.now (home_of number n)) false result }
-{
-    let link = first_link(sum, n, number);
-    onward(file, list, sum, n, shape, states, number, n, link, false)
+    // The next entry that may match. Whatever the walk and the summary hold, it is one of the list's, and what is
+    // left is less.
+    pub fn next(&mut self, listing: &Listing) -> Option<usize>
+        ensures same { (self.new.states ≡ self.old.states) × (self.new.number ≡ self.old.number) }
+        ensures onward { Onward listing.now.file.now listing.now.offsets.now listing.now.summary.now listing.now.count listing.now.shape self.old.states self.old.number (min self.old.below listing.now.count) self.old.link self.old.led result self.new }
+    {
+        let mark = mark_of(self.number);
+        let bits = signature_in(self.number);
+        self.below = self.below.min(listing.count);
+        while let Some(i) = entry_in(self.link) {
+            if self.below <= i {
+                break;
+            }
+            let marks = marked(self.link);
+            self.below = i;
+            self.link = next_link(listing.summary, i);
+            if marks == mark && fits_at(listing.summary, i, bits) {
+                return Some(i);
+            }
+        }
+        self.leader(listing)
+    }
 }

@@ -29,14 +29,15 @@ use Rattle.file_contents.specs.Tally.{queue_at}
 use Rattle.file_contents.specs.Cube.{no_queue, empty_queue, channel_of, queue_of, configuration_of, pushed, loads_message, loads_waiting, nothing_loaded, more_message, more_waiting, load_from, loaded, load_entry}
 use Rattle.file_contents.proofs.CubeLaws.{load_message, load_waiting, load_ends, loaded_nothing}
 use Rattle.file_contents.proofs.CubeParts.{channel_length, channel_equal, queue_of_lem, queue_none}
-use Rattle.file_again.specs.Again.{offset_at, cube_at, entries_of}
+use Rattle.file_again.specs.Again.{offset_at}
 use Rattle.list_key.proofs.RoleLaws.{labels}
 use Rattle.list_theory.specs.Family.{topped, family_cube}
-use Rattle.list_cover.specs.Search.{Searchable}
+use Rattle.list_summary.specs.declared.listing.Listing.{Listing}
 use Rattle.list_cover.proofs.EntryLaws.{load_few}
 use Rattle.list_targets.specs.ShapeCube.{outline_of, ShapeCube}
-use Rattle.list_targets.specs.Walk.{Searches, Judges, family_leaf}
+use Rattle.list_targets.specs.Walk.{Searched, Judges, entry_of, listed, family_leaf}
 use Rattle.list_targets.proofs.ListLaws.{every_one}
+use Rattle.list_targets.proofs.JudgeLaws.{Answers}
 
 -- ---- queues have room for nine values
 
@@ -137,9 +138,9 @@ some_message ns zero g = absurd (omega (arith, g))
 some_message ns (suc i) g = omega arith
 
 -- the cube that is looked for in a family
-module _ (s : Shape) (states : List ℕ) (ms : List Message) (d : ℕ) (places : List ℕ) (c : Cube) (x : ShapeCube s states ms d places c) (f list sum : List ℕ) (n k : ℕ) (e r : Cube) (z : e ≡ cube_at f list k) where
+module _ (s : Shape) (states : List ℕ) (ms : List Message) (d : ℕ) (places : List ℕ) (c : Cube) (x : ShapeCube s states ms d places c) (L : Listing) (k : ℕ) (e r : Cube) (z : e ≡ entry_of L k) where
   abbrev own : Cube
-  own = cube_at f list k
+  own = entry_of L k
 
   abbrev memory : Memory
   memory = outline_memory (shape_of s) (outline_of ms d places)
@@ -155,32 +156,32 @@ module _ (s : Shape) (states : List ℕ) (ms : List Message) (d : ℕ) (places :
 
   pub family_judged : (a : Bool)
       → (1 ≤ e.count → e.count ≤ 20 → 1 ≤ c.count → c.count ≤ 20 → (configuration_of r ≡ family_cube (configuration_of e) (configuration_of c).memory) × ((r.queues ≡ e.queues) × (r.count ≡ c.count)))
-      → (Searchable f list sum n s r → a ≡ held (shape_of s) (entries_of f list n) (configuration_of r))
-      → Judges f list sum n s (family_leaf s own (outline_of ms d places)) a
+      → Answers L r a
+      → Judges L (family_leaf s own (outline_of ms d places)) a
   family_judged a w q = record { judged = λ h A. known h (A cube (Memᴰ.head refl)) }
     where
-      known : Searches f list sum n s → Fits (ValueOrFF (shape_of s)) (shape_of s) cube → a ≡ every (held (shape_of s) (entries_of f list n)) (cube ∷ [])
+      known : Searched L → Fits (ValueOrFF (shape_of L.shape)) (shape_of L.shape) cube → a ≡ every (held (shape_of L.shape) (listed L)) (cube ∷ [])
       known h F =
           let xs = (topmost (configuration_of own).memory.channel).snapshot in
           let t = F.memory.some in
           let u = some_top xs memory.channel t in
           let room = newest_there xs memory.channel u (F.memory.messages (length (topped xs memory.channel)) t (omega arith)).room in
           let e1 : 1 ≤ e.count = subst (λ (y : Cube). 1 ≤ y.count) (sym z) (some_message own.messages own.count room) in
-          let e2 : e.count ≤ 20 = subst (λ (y : Cube). y.count ≤ 20) (sym z) (load_few f (offset_at list k)) in
+          let e2 : e.count ≤ 20 = subst (λ (y : Cube). y.count ≤ 20) (sym z) (load_few L.file.now (offset_at L.offsets.now k)) in
           let few : c.count ≤ 20 = x.roomy.messages in
           let W = w e1 e2 (omega (arith, counted, u)) few in
           let is : configuration_of r ≡ cube = W.0 ∙ ap₂ {A = Cube} {B = Memory} (λ y m. family_cube (configuration_of y) m) z memory_is in
           let short : (p v : ℕ) → length ((configuration_of r).queue p v) ≤ 9 = λ p v.
-          subst (λ (qs : List Queue). length (queue_of qs p v) ≤ 9) (sym (W.1.0 ∙ ap (λ (y : Cube). y.queues) z)) (queue_short own.queues (λ i l. entry_room f (offset_at list k) i) p v) in
+          subst (λ (qs : List Queue). length (queue_of qs p v) ≤ 9) (sym (W.1.0 ∙ ap (λ (y : Cube). y.queues) z)) (queue_short own.queues (λ i l. entry_room L.file.now (offset_at L.offsets.now k) i) p v) in
           q (record {
             plain =
                 record {
                   count = h.count;
                   shape = h.shape;
                   entries = h.entries;
-                  fits = subst (Fits (ValueOrFF (shape_of s)) (shape_of s)) (sym is) F;
+                  fits = subst (Fits (ValueOrFF (shape_of L.shape)) (shape_of L.shape)) (sym is) F;
                   messages = omega (arith, W.1.1, few);
                   waiting = short;
                 };
             summed = h.summed;
-          }) ∙ ap (held (shape_of s) (entries_of f list n)) is ∙ sym (every_one (held (shape_of s) (entries_of f list n)) cube)
+          }) ∙ ap (held (shape_of L.shape) (listed L)) is ∙ sym (every_one (held (shape_of L.shape) (listed L)) cube)

@@ -1,6 +1,7 @@
 -- Laws of lists made and searched in a fixed order.
 use Prim.Native.Nat.{ℕ, zero, suc}
 use mathlib.Core.Path.{◌≡◌, refl, sym, ap, ap₂, ◌∙◌}
+use Rattle.machine_pws.specs.Machine.{all_below}
 use mathlib.Core.Bool.{Bool, true, false, ◌&&◌}
 use mathlib.Core.List.{List, [], ◌∷◌, ◌++◌, map, map-append, append-nil, append_assoc, Memᴰ}
 use Rattle.list_theory.specs.Lists.{for_below, for_each, every}
@@ -21,6 +22,10 @@ module _ {A : Type 0} (f : A → Bool) where
       at : (b : Bool) → elim b [ true ↦ true | false ↦ false ] ≡ b
       at true = refl
       at false = refl
+
+  pub every_below : (n : ℕ) (g : ℕ → List A) → every f (for_below n g) ≡ all_below n (λ p. every f (g p))
+  every_below zero g = refl
+  every_below (suc n) g = every_append (for_below n g) (g n) ∙ ap (λ (b : Bool). b && every f (g n)) (every_below n g)
 
 module _ {A B : Type 0} where
   pub each_append : (xs ys : List B) (g : B → List A) → for_each (xs ++ ys) g ≡ for_each xs g ++ for_each ys g

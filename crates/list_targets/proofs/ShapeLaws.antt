@@ -2,15 +2,15 @@
 use Prim.Native.Nat.{ℕ, zero, suc, ◌+◌, ◌-◌, ◌*◌, ◌<◌, ◌≤◌}
 use mathlib.Core.Path.{◌≡◌, refl, sym, ap, ap₂, ◌∙◌}
 use mathlib.Core.Bool.{Bool, true, false, cond, ◌&&◌, ◌||◌}
-use mathlib.Core.List.{List, [], ◌∷◌}
+use mathlib.Core.List.{List, [], ◌∷◌, ◌++◌}
 use native.Mathlib.Omega.{arith}
-use native.Mathlib.Decide.{ℕ_discrete}
-use lib.ListN.{length, get_or, set, take, drop, replicate, length-take, length-set, drop_of_length-le, get_or-replicate}
-use lib.Seq.{drop-cons, get_or-take, get_or-set_same, get_or-set_other}
+use lib.ListN.{length, get_or, take, drop, replicate, length-take, drop_of_length-le, get_or-append, get_or-replicate}
+use lib.Seq.{drop-cons}
 use lib.Dec.{ltb}
 use borrow.Author.Tests.{le-ltb}
 use Rattle.machine_pws.specs.declared.Message.{Message}
 use Rattle.machine_pws.specs.Machine.{Memory, no_message}
+use Rattle.machine_pws.specs.Tagged.{any_below}
 use Rattle.file_records.specs.declared.program.Shape.{Shape}
 use Rattle.file_records.specs.ProgramPart.{shape_of}
 use Rattle.file_contents.specs.Cube.{no_queue, empty_queue, waiting_of, channel_of, queue_of}
@@ -18,61 +18,30 @@ use Rattle.file_contents.proofs.CubeParts.{queue_of_lem, queue_none}
 use Rattle.list_theory.specs.Lists.{any_of}
 use Rattle.list_theory.specs.Shapes.{outline_memory}
 use Rattle.list_theory.proofs.Lists.{early_or}
-use Rattle.list_key.proofs.Below.{or_true, Each}
 use Rattle.list_key.proofs.RoleLaws.{labels}
 use Rattle.list_targets.specs.ShapeCube.{outline_of, ShapeCube}
 
 -- ---- labels
 
-pub some_message : (f : Message → Bool) (ms : List Message) (n i : ℕ) → i < n → f (get_or ms i no_message) ≡ true → any_of f (channel_of ms n) ≡ true
-some_message f ms zero i l e = absurd (omega arith)
-some_message f ms (suc n) i l e =
-    early_or (f (get_or ms n no_message)) (any_of f (channel_of ms n)) ∙ elim (ℕ_discrete i n) [
-      | yes d ↦ rw (ap (λ (k : ℕ). f (get_or ms k no_message)) (sym d) ∙ e) refl
-      | no d ↦ ap (◌||◌ (f (get_or ms n no_message))) (some_message f ms n i (omega arith) e) ∙ or_true (f (get_or ms n no_message))
-    ]
+pub any_channel : (f : Message → Bool) (ms : List Message) (n : ℕ) → any_of f (channel_of ms n) ≡ any_below n (λ i. f (get_or ms i no_message))
+any_channel f ms zero = refl
+any_channel f ms (suc n) = early_or (f (get_or ms n no_message)) (any_of f (channel_of ms n)) ∙ ap (◌||◌ (f (get_or ms n no_message))) (any_channel f ms n)
 
-none_below : (f : Message → Bool) (ms : List Message) (n : ℕ) → ((k : ℕ) → k < n → f (get_or ms k no_message) ≡ false) → any_of f (channel_of ms n) ≡ false
-none_below f ms zero h = refl
-none_below f ms (suc n) h = rw (h n (omega arith)) (none_below f ms n (λ k l. h k (omega arith)))
+-- ---- the first n messages turned round
 
-pub no_message_lem : (f : Message → Bool) (ms : List Message) (n i : ℕ) → Each (λ k. f (get_or ms k no_message)) false n i → n ≤ i → any_of f (channel_of ms n) ≡ false
-no_message_lem f ms n i w l = none_below f ms n (λ k m. w.each k (omega arith))
-
--- ---- the first n messages turned round, so far
-
-pub record Turned (ms : List Message) (n : ℕ) (turned : List Message) (i : ℕ) : Type 0 where
-  pub most : i ≤ n
-  pub room : length turned ≡ 20
-  pub each : (k : ℕ) → k < i → get_or turned k no_message ≡ get_or ms (n - 1 - k) no_message
-
-pub turned_begin : (ms turned : List Message) (n : ℕ) → length turned ≡ 20 → Turned ms n turned 0
-turned_begin ms turned n e = record { most = omega arith; room = e; each = λ k l. absurd (omega arith) }
-
-pub turned_next : {ms turned : List Message} {n i : ℕ} → Turned ms n turned i → i < n → n ≤ 20 → Turned ms n (set turned i (get_or ms (n - 1 - i) no_message)) (i + 1)
-turned_next {ms} {turned} {n} {i} w l u =
-    record {
-      most = omega arith;
-      room = length-set turned i (get_or ms (n - 1 - i) no_message) ∙ w.room;
-      each = λ k m. elim (ℕ_discrete k i) [
-        | yes d ↦ ap (λ (j : ℕ). get_or (set turned i (get_or ms (n - 1 - i) no_message)) j no_message) d
-            ∙ get_or-set_same turned i (get_or ms (n - 1 - i) no_message) no_message (omega (arith, w.room))
-            ∙ ap (λ (j : ℕ). get_or ms (n - 1 - j) no_message) (sym d)
-        | no d ↦ get_or-set_other turned i k (get_or ms (n - 1 - i) no_message) no_message d ∙ w.each k (omega arith)
-      ];
-    }
-
-pub turned_all : {ms turned : List Message} {n i : ℕ} → Turned ms n turned i → n ≤ i → n ≤ length ms → channel_of turned n ≡ take n ms
-turned_all {ms} {turned} {n} {i} w l u = part n (omega arith) ∙ ap (λ (k : ℕ). drop k (take n ms)) {x = n - n} {y = 0} (omega arith)
+pub turned_is : (ms turned : List Message) (n : ℕ) → n ≤ length ms → length turned ≡ length (take n ms)
+    → ((k : ℕ) (d : Message) → k < length (take n ms) → get_or turned k d ≡ get_or (take n ms) (length (take n ms) - 1 - k) d) → channel_of (turned ++ drop n ms) n ≡ take n ms
+turned_is ms turned n u r e = part n (omega arith) ∙ ap (λ (k : ℕ). drop k (take n ms)) {x = n - n} {y = 0} (omega arith)
   where
     size : length (take n ms) ≡ n
     size = length-take n ms ∙ omega arith
 
-    part : (k : ℕ) → k ≤ n → channel_of turned k ≡ drop (n - k) (take n ms)
+    part : (k : ℕ) → k ≤ n → channel_of (turned ++ drop n ms) k ≡ drop (n - k) (take n ms)
     part zero m = sym (drop_of_length-le (take n ms) {i = n} (omega (arith, size))) ∙ ap (λ (j : ℕ). drop j (take n ms)) {x = n} {y = n - 0} (omega arith)
     part (suc k) m =
         ap₂ {A = Message} {B = List Message} (λ x xs. x ∷ xs)
-        (w.each k (omega arith) ∙ ap (λ (j : ℕ). get_or ms j no_message) {x = n - 1 - k} {y = n - suc k} (omega arith) ∙ sym (get_or-take n ms (n - suc k) no_message (omega arith)))
+        (get_or-append turned (drop n ms) no_message k (omega (arith, size, r)) ∙ e k no_message (omega (arith, size))
+        ∙ ap (λ (j : ℕ). get_or (take n ms) j no_message) {x = length (take n ms) - 1 - k} {y = n - suc k} (omega (arith, size)))
         (part k (omega arith) ∙ ap (λ (j : ℕ). drop j (take n ms)) {x = n - k} {y = suc (n - suc k)} (omega arith))
         ∙ sym (drop-cons (take n ms) (n - suc k) no_message (omega (arith, size)))
 

@@ -18,7 +18,12 @@ use Rattle.file_again.specs.Again.{cube_at, entries_of}
 use Rattle.list_theory.specs.Family.{family_cube}
 use Rattle.list_theory.specs.Seen.{with_memory}
 use Rattle.list_summary.specs.Summary.{Summed}
+use Rattle.list_summary.specs.declared.listing.Listing.{Listing}
+use Rattle.list_targets.specs.declared.seen.Sight.{Sight}
 use Rattle.list_targets.specs.declared.Aim.{Aim}
+use Rattle.list_targets.specs.declared.Aim.TheVariants.{Target, Family, Sees}
+use Rattle.list_targets.specs.declared.Sketch.{Sketch}
+use Rattle.list_targets.specs.declared.Next.{Next}
 use Rattle.list_targets.specs.ShapeCube.{empty_shape}
 use Rattle.list_targets.specs.Seeing.{seen_at}
 
@@ -31,9 +36,19 @@ pub record Searches (f list sum : List ℕ) (n : ℕ) (s : Shape) : Type 0 where
   pub entries : (k : ℕ) → k < n → Fits (ValueOrFF (shape_of s)) (shape_of s) (configuration_of (cube_at f list k))
   pub summed : Summed f list sum n s
 
+-- the same of a list that is one value; its entry k, and all of its entries
+abbrev pub Searched : Listing → Type 0
+Searched L = Searches L.file.now L.offsets.now L.summary.now L.count L.shape
+
+abbrev pub entry_of : Listing → ℕ → Cube
+entry_of L k = cube_at L.file.now L.offsets.now k
+
+abbrev pub listed : Listing → List Configuration
+listed L = entries_of L.file.now L.offsets.now L.count
+
 -- r says whether all of cs are held, if they fit the shape
-pub record Judges (f list sum : List ℕ) (n : ℕ) (s : Shape) (cs : List Configuration) (r : Bool) : Type 0 where
-  pub judged : Searches f list sum n s → ((c : Configuration) → Memᴰ c cs → Fits (ValueOrFF (shape_of s)) (shape_of s) c) → r ≡ every (held (shape_of s) (entries_of f list n)) cs
+pub record Judges (L : Listing) (cs : List Configuration) (r : Bool) : Type 0 where
+  pub judged : Searched L → ((c : Configuration) → Memᴰ c cs → Fits (ValueOrFF (shape_of L.shape)) (shape_of L.shape) c) → r ≡ every (held (shape_of L.shape) (listed L)) cs
 
 -- ---- queues
 
@@ -81,17 +96,14 @@ abbrev pub family_leaf : Shape → Cube → Leaf
 family_leaf s e o = family_cube (configuration_of e) (outline_memory (shape_of s) o) ∷ []
 
 -- of an entry: the cubes with its local states and queues, in which a process can come to see a value
-abbrev pub seen_leaf : Shape → Aim → Cube → Leaf
-seen_leaf s aim e o = seen_at (shape_of s) aim (with_memory (configuration_of e) (outline_memory (shape_of s) o))
+abbrev pub seen_leaf : Shape → Sight → Cube → Leaf
+seen_leaf s sight e o = seen_at (shape_of s) sight (with_memory (configuration_of e) (outline_memory (shape_of s) o))
 
--- of the target for 0, and else of an entry, counted from 1
-abbrev pub leaf_for : List ℕ → List ℕ → Shape → List ℕ → Aim → ℕ → Bool → Leaf
-leaf_for f list s states aim zero b = target_leaf s states
-leaf_for f list s states aim (suc k) false = family_leaf s (cube_at f list k)
-leaf_for f list s states aim (suc k) true = seen_leaf s aim (cube_at f list k)
-
-abbrev pub leaf_of : List ℕ → List ℕ → Shape → List ℕ → Aim → Leaf
-leaf_of f list s states aim = leaf_for f list s states aim aim.rep aim.sees
+-- of what is looked for
+abbrev pub leaf_of : Listing → Aim → Leaf
+leaf_of L (Target states) = target_leaf L.shape states
+leaf_of L (Family k) = family_leaf L.shape (entry_of L k)
+leaf_of L (Sees k sight) = seen_leaf L.shape sight (entry_of L k)
 
 -- that of these messages, newest first, before those of an outline
 abbrev pub cubes_after : Leaf → List Message → Outline → List Configuration
@@ -118,3 +130,13 @@ label_cubes s leaf ms d places p v new = elim (allowed (shape_of s) (channel_of 
 unfoldable pub choice_cubes : Shape → Leaf → List Message → ℕ → List ℕ → ℕ → ℕ → List ℕ → ℕ → List Configuration
 choice_cubes s leaf ms d places p v new q =
     for_each (choices_from (λ k. get_or places k 0) (suc d) (s.processes - q) q (λ k. get_or new k 0)) (label_cubes s leaf ms d places p v)
+
+-- what is looked for in all shapes, in those that begin as a sketch does, and in those of them whose next message is this one
+abbrev pub aimed_cubes : Listing → Aim → List Configuration
+aimed_cubes L aim = all_cubes L.shape (leaf_of L aim)
+
+abbrev pub sketch_cubes : Listing → Aim → Sketch → List Configuration
+sketch_cubes L aim k = outline_cubes L.shape (leaf_of L aim) k.messages k.count k.places
+
+abbrev pub next_cubes : Listing → Aim → Sketch → Next → ℕ → List Configuration
+next_cubes L aim k m q = choice_cubes L.shape (leaf_of L aim) k.messages k.count k.places m.process m.variable m.places q

@@ -18,7 +18,7 @@ use Rattle.file_contents.specs.Cube.{load_entry}
 use Rattle.file_again.specs.Again.{offset_at}
 use Rattle.file_again.proofs.Tables.{of_four}
 use Rattle.list_key.specs.Number.{states_mixed}
-use Rattle.list_key.proofs.Below.{few_all, all_equal}
+use Rattle.base.proofs.Tests.{few_all, all_equal}
 use Rattle.list_summary.specs.Groups.{states_at}
 use Rattle.pattern_theory.specs.Patterns.{Pattern}
 use Rattle.pattern_theory.specs.Fitting.{pattern_of}

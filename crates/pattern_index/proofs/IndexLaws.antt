@@ -3,13 +3,13 @@ use Prim.Native.Nat.{ℕ, zero, suc, ◌+◌, ◌*◌, ◌-◌, ◌/◌, ◌%◌
 use mathlib.Core.Path.{◌≡◌, refl, sym, ap, ap₂, subst, ◌∙◌}
 use mathlib.Core.Logic.{◌⊎◌, inl, inr}
 use mathlib.Core.Bool.{Bool, true, false, ◌&&◌}
-use mathlib.Core.List.{List, [], ◌∷◌, ◌++◌, append-nil}
+use mathlib.Core.List.{List, [], ◌∷◌, ◌++◌}
 use native.Mathlib.Omega.{arith}
 use native.Mathlib.Nat.{mod-lt}
 use native.Mathlib.Numerals.{add-one}
 use native.Mathlib.Decide.{ℕ_discrete, dec_le}
-use lib.ListN.{length, get_or, set, take, drop, length-append, length-drop, take-append-drop, drop_of_length-le}
-use lib.Seq.{length-take-le, take_all, take_at, drop_at, drop-drop}
+use lib.ListN.{length, get_or, set, take, drop, length-append, length-drop, take-append-drop}
+use lib.Seq.{length-take-le, take_at, drop_at, drop-drop}
 use lib.Dec.{eqb, leb, ltb}
 use borrow.Author.Tests.{ne_eqb, le-leb, lt-leb, leb-true}
 use Rattle.machine_pws.specs.Machine.{all_below}
@@ -118,14 +118,6 @@ pub hang_is : (sum led new : List ℕ) (h k head old : ℕ) → head ≡ word su
     → new ≡ hung_on sum h k
 unfolding hung_on
 hang_is sum led new h k head old a b c d = d ∙ ap₂ (λ (l : List ℕ) (x : ℕ). put_word l (2 * k + 1) x) c (b ∙ ap (falling k) a)
-
--- the table is lent, and comes back
-pub hung_part : (upper : List ℕ) (at h g k : ℕ) {new : List ℕ} → h ≡ g → new ≡ hung_on (take (length upper - at) (drop at upper)) h k
-    → take at upper ++ (new ++ drop (length upper - at) (drop at upper)) ≡ take at upper ++ hung_on (drop at upper) g k
-hung_part upper at h g k {new} e d =
-    ap (λ (x : List ℕ). take at upper ++ x)
-    (ap (λ (y : List ℕ). new ++ y) (drop_of_length-le (drop at upper) {i = length upper - at} (omega (arith, length-drop at upper))) ∙ append-nil new ∙ d
-    ∙ ap₂ (λ (x : List ℕ) (i : ℕ). hung_on x i k) (take_all (length upper - at) (drop at upper) (omega (arith, length-drop at upper))) e)
 
 -- ---- all of them
 

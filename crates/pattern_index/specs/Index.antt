@@ -1,7 +1,7 @@
 -- Patterns found by their local states: chains in a table of words of four bytes, two for each pattern. Word 2 h is the first pattern of chain h, word
 -- 2 k + 1 the one after pattern k, each counted from 1. No statement of the judge rests on these definitions: whatever the words hold, a walk falls and ends,
 -- and each pattern that it leads to is held against the file.
-use Rattle.std.specs.Prelude.{ℕ, zero, suc, ◌+◌, ◌*◌, ◌-◌, ◌/◌, ◌%◌, ◌<◌, min, ◌≡◌, Bool, cond, ◌&&◌, ◌||◌, List, [], ◌∷◌, ◌++◌, length, get_or, take, drop, eqb, leb}
+use Rattle.std.specs.Prelude.{ℕ, zero, suc, ◌+◌, ◌*◌, ◌-◌, ◌/◌, ◌%◌, ◌<◌, min, ◌≡◌, Bool, cond, ◌&&◌, ◌||◌, List, [], ◌∷◌, ◌++◌, length, get_or, take, drop, eqb, leb, Option, Some, None}
 use Rattle.machine_pws.specs.Machine.{all_below}
 use Rattle.base.specs.Bytes.{choose, byte}
 use Rattle.file_records.specs.declared.program.Shape.{Shape}
@@ -13,6 +13,11 @@ use Rattle.list_summary.specs.Groups.{states_at}
 -- a link to one of the patterns below a bound, else none
 abbrev pub falling : ℕ → ℕ → ℕ
 falling below link = cond (leb link below) link 0
+
+-- the link to a pattern, if there is one
+abbrev pub link_of : Option ℕ → ℕ
+link_of None = 0
+link_of (Some k) = suc k
 
 -- the chain of a number among n
 abbrev pub chain_of : ℕ → ℕ → ℕ

@@ -2,20 +2,22 @@
 // against the file: a table that came back changed can't make a wrong cover.
 #![tactic(auto)]
 
-ghost use Rattle.std.specs.Prelude.{◌≡◌, ◌+◌, ◌*◌, ◌≤◌, ◌<◌, min, length, get_or, take, drop};
+ghost use Rattle.std.specs.Prelude.{◌≡◌, ◌+◌, ◌*◌, ◌≤◌, ◌<◌, min, length, get_or, take, drop, IfSome};
 ghost use Rattle.machine_pws.specs.Machine.{all_below};
 ghost use Rattle.list_key.specs.Number.{states_mixed};
 ghost use Rattle.list_summary.specs.Slots.{word, put_word};
 ghost use Rattle.list_summary.specs.Groups.{states_at};
-ghost use Rattle.pattern_index.specs.Index.{falling, chain_of, first_of, next_of, value_holds, values_at, head_holds, hung_on, hung_in, indexed_in};
+ghost use Rattle.pattern_index.specs.Index.{falling, chain_of, link_of, first_of, next_of, value_holds, values_at, head_holds, hung_on, hung_in, indexed_in};
 
-use base::bytes::{either, field, least};
+use base::below::all_below;
+use base::bytes::four_at;
 use base::places::slot_word;
 use file_again::offset_at;
 use file_records::program::Shape;
 use list_key::{states_match, states_number};
 use list_summary::{put_word, states_at, word_at};
 
+// A link counts from 1, as in the table; 0 is none.
 fn falling(below: usize, link: usize) -> usize
     ensures value { result ≡ falling below link }
     ensures upper_bound { result ≤ below }
@@ -32,60 +34,48 @@ fn chain_of(number: u64, n: usize) -> usize
     (number % (n as u64)) as usize
 }
 
-// ---- the two words of a slot
+// ---- the two words of a slot: the first pattern of its chain, and the one after its pattern
 
-fn head_at(sum: &[u8], h: usize) -> usize
-    ensures { result ≡ word sum.now (2 * h) }
-{
-    if sum.len() / 8 < h {
-        return 0;
-    }
-    word_at(sum, slot_word(h))
-}
+const HEAD: usize = 0;
 
-fn link_at(sum: &[u8], k: usize) -> usize
-    ensures { result ≡ word sum.now (2 * k + 1) }
+const LINK: usize = 1;
+
+fn slot_at(sum: &[u8], k: usize, part: usize) -> usize
+    requires { part ≤ 1 }
+    ensures { result ≡ word sum.now (2 * k + part) }
 {
     if sum.len() / 8 < k {
         return 0;
     }
-    word_at(sum, slot_word(k) + 1)
+    word_at(sum, slot_word(k) + part)
 }
 
-fn put_head(sum: &mut [u8], h: usize, x: usize)
-    ensures { sum.new ≡ put_word sum.old (2 * h) x }
-{
-    if sum.len() / 8 < h {
-        return;
-    }
-    put_word(sum, slot_word(h), x);
-}
-
-fn put_link(sum: &mut [u8], k: usize, x: usize)
-    ensures { sum.new ≡ put_word sum.old (2 * k + 1) x }
+fn put_slot(sum: &mut [u8], k: usize, part: usize, x: usize)
+    requires { part ≤ 1 }
+    ensures { sum.new ≡ put_word sum.old (2 * k + part) x }
 {
     if sum.len() / 8 < k {
         return;
     }
-    put_word(sum, slot_word(k) + 1, x);
+    put_word(sum, slot_word(k) + part, x);
 }
 
 // ---- walking
 
-// The first of n patterns on the chain of a number, counted from 1; 0 if there is none.
-pub fn first_of(sum: &[u8], n: usize, number: u64) -> usize
-    ensures value { result ≡ first_of sum.now n number }
-    ensures upper_bound { result ≤ n }
+// The first of n patterns on the chain of a number.
+pub fn first_of(sum: &[u8], n: usize, number: u64) -> Option<usize>
+    ensures value { link_of result ≡ first_of sum.now n number }
+    ensures upper_bound { IfSome result (λ k. k < n) }
 {
-    falling(n, head_at(sum, chain_of(number, n)))
+    falling(n, slot_at(sum, chain_of(number, n), HEAD)).checked_sub(1)
 }
 
-// The pattern after pattern k, counted from 1; 0 if there is none. It is below pattern k.
-pub fn next_of(sum: &[u8], k: usize) -> usize
-    ensures value { result ≡ next_of sum.now k }
-    ensures upper_bound { result ≤ k }
+// The pattern after pattern k. It is below pattern k.
+pub fn next_of(sum: &[u8], k: usize) -> Option<usize>
+    ensures value { link_of result ≡ next_of sum.now k }
+    ensures upper_bound { IfSome result (λ j. j < k) }
 {
-    falling(k, link_at(sum, k))
+    falling(k, slot_at(sum, k, LINK)).checked_sub(1)
 }
 
 // ---- what a 13 says of its pattern, before the rest of it is looked at
@@ -93,32 +83,20 @@ pub fn next_of(sum: &[u8], k: usize) -> usize
 fn value_holds(x: u8, y: u8) -> bool
     ensures { result ≡ value_holds x y }
 {
-    either(y == 255, x == y)
+    y == 255 || x == y
 }
 
 // The first n of four values.
 fn values_hold(n: usize, newest: [u8; 4], values: [u8; 4]) -> bool
     ensures { result ≡ all_below (min n 4) (λ v. value_holds (get_or newest v 0) (get_or values v 0)) }
 {
-    let most = least(n, 4);
-    for v in 0..most {
-        if !value_holds(newest[v], values[v]) {
-            return false;
-        }
-    }
-    true
+    all_below(n.min(4), |v| value_holds(newest[v], values[v]))
 }
 
 fn values_at(file: &[u8], list: &[u8], k: usize) -> [u8; 4]
     ensures { result ≡ values_at file.now list.now k }
 {
-    let at = offset_at(list, k);
-    [
-        field(file, at, 5),
-        field(file, at, 6),
-        field(file, at, 7),
-        field(file, at, 8),
-    ]
+    four_at(file, offset_at(list, k), 5)
 }
 
 // Pattern k has these local states, and asks the newest message for none but these values, FF for none. Most patterns are told apart by these eight bytes.
@@ -132,12 +110,8 @@ pub fn head_holds(
 ) -> bool
     ensures { result ≡ head_holds shape file.now list.now states newest k }
 {
-    let own = states_at(file, list, shape, k);
-    if !states_match(shape.processes, states, own) {
-        return false;
-    }
-    let values = values_at(file, list, k);
-    values_hold(shape.variables, newest, values)
+    states_match(shape.processes, states, states_at(file, list, shape, k))
+        && values_hold(shape.variables, newest, values_at(file, list, k))
 }
 
 // ---- adding
@@ -147,9 +121,9 @@ fn hang(sum: &mut [u8], h: usize, k: usize)
     requires { k < 524288 }
     ensures { sum.new ≡ hung_on sum.old h k }
 {
-    let old = falling(k, head_at(sum, h));
-    put_head(sum, h, k + 1);
-    put_link(sum, k, old);
+    let old = falling(k, slot_at(sum, h, HEAD));
+    put_slot(sum, h, HEAD, k + 1);
+    put_slot(sum, k, LINK, old);
 }
 
 // The chain of pattern k, whose offset stands below `at`.

@@ -1,4 +1,6 @@
 -- Past four bytes for each pattern allowed, the pass leaves the work area as it was.
+use Rattle.std.specs.Prelude.{Result, Ok, Err, ⊤}
+use Rattle.file_records.specs.declared.program.Refusal.{Refusal}
 use Prim.Native.Nat.{ℕ, zero, suc, ◌+◌, ◌*◌, ◌/◌, ◌%◌, ◌<◌, ◌≤◌}
 use mathlib.Core.Path.{◌≡◌, refl, sym, ap, subst, ◌∙◌}
 use mathlib.Core.Bool.{Bool, true, false}
@@ -10,11 +12,9 @@ use lib.Seq.{length-take-le, drop_at, drop-drop}
 use lib.Dec.{leb}
 use Rattle.base.specs.Bytes.{choose, put32}
 use Rattle.file_records.specs.declared.program.Shape.{Shape}
-use Rattle.file_records.specs.declared.program.Checked.{Checked}
-use Rattle.file_records.specs.declared.program.Checked.TheVariants.{Fine, Refused}
 use Rattle.file_records.specs.declared.program.Program.{Program}
 use Rattle.file_records.specs.Records.{checked}
-use Rattle.file_records.specs.ProgramPart.{unless_end, program_from}
+use Rattle.file_records.specs.ProgramPart.{unless_end, program_from, whether, program_read}
 use Rattle.file_contents.specs.EvidencePart.{entries_allowed, wrote_from}
 use Rattle.file_contents.specs.Reading.{Input, evidence_at}
 use Rattle.pattern_theory.specs.Patterns.{Pattern}
@@ -52,9 +52,9 @@ drop_wrote (o ∷ os) l i n m = drop_wrote os (put32 l (4 * i) o) (suc i) n (ome
 abbrev Few : ℕ → PatternsListed → Type 0
 Few n r = length r.offsets ≤ n
 
-few_then : (n : ℕ) (x : Checked) (os : List ℕ) (ps : List Pattern) (y : Unit {0} → PatternsListed) → length os ≤ n → Few n (y tt) → Few n (listed_then x os ps y)
-few_then n Fine os ps y h k = k
-few_then n (Refused r) os ps y h k = h
+few_then : (n : ℕ) (x : Result ⊤ Refusal) (os : List ℕ) (ps : List Pattern) (y : Unit {0} → PatternsListed) → length os ≤ n → Few n (y tt) → Few n (listed_then x os ps y)
+few_then n (Ok _) os ps y h k = k
+few_then n (Err r) os ps y h k = h
 
 few_given : (n : ℕ) (x : PatternRead) (os : List ℕ) (ps : List Pattern) (y : Given → ℕ → PatternsListed) → length os ≤ n → ((g : Given) (next : ℕ) → Few n (y g next))
     → Few n (given_then x os ps y)
@@ -85,7 +85,7 @@ module _ (x : Input) (w : List ℕ) where
   allowed = entries_allowed (length w)
 
   abbrev p : Program
-  p = (program_from x.alone x.code 0).program
+  p = program_read (program_from x.alone x.code 0)
 
   abbrev Kept : Passed → Type 0
   Kept P = drop (16384 + 4 * allowed) (pass_area P w) ≡ drop (16384 + 4 * allowed) w
@@ -96,14 +96,14 @@ module _ (x : Input) (w : List ℕ) where
       let m : length os ≤ allowed = few_listed allowed allowed p.shape p.states x.file at [] [] (omega arith) in
       rest_kept 16384 (4 * allowed) w (wrote_from 0 os (drop 16384 w)) (omega arith) (drop_wrote os (drop 16384 w) 0 (4 * allowed) (omega (arith, m)))
 
-  by_claim : 65536 ≤ length w → (program_from x.alone x.code 0).answer ≡ Fine → (y : Checked)
+  by_claim : 65536 ≤ length w → whether (program_from x.alone x.code 0) ≡ Ok tt → (y : Result ⊤ Refusal)
       → unless_end x.file (evidence_at x p) (checked (claim_number x.file (evidence_at x p)) (evidence_at x p)) ≡ y → Kept (passed_of x (length w))
-  by_claim l q (Refused r) c = subst Kept (sym (passed_evidence x (length w) l q ∙ evidence_refused allowed x.file (evidence_at x p) p r c)) refl
-  by_claim l q Fine c = subst Kept (sym (passed_evidence x (length w) l q ∙ evidence_listed allowed x.file (evidence_at x p) p c)) (kept_listed l (evidence_at x p + 2))
+  by_claim l q (Err r) c = subst Kept (sym (passed_evidence x (length w) l q ∙ evidence_refused allowed x.file (evidence_at x p) p r c)) refl
+  by_claim l q (Ok _) c = subst Kept (sym (passed_evidence x (length w) l q ∙ evidence_listed allowed x.file (evidence_at x p) p c)) (kept_listed l (evidence_at x p + 2))
 
-  by_program : 65536 ≤ length w → (y : Checked) → (program_from x.alone x.code 0).answer ≡ y → Kept (passed_of x (length w))
-  by_program l (Refused r) q = subst Kept (sym (passed_refused x (length w) r l q)) refl
-  by_program l Fine q = by_claim l q _ refl
+  by_program : 65536 ≤ length w → (y : Result ⊤ Refusal) → whether (program_from x.alone x.code 0) ≡ y → Kept (passed_of x (length w))
+  by_program l (Err r) q = subst Kept (sym (passed_refused x (length w) r l q)) refl
+  by_program l (Ok _) q = by_claim l q _ refl
 
   pub pass_kept : drop (16384 + 4 * allowed) (pass_area (passed_of x (length w)) w) ≡ drop (16384 + 4 * allowed) w
   pass_kept = elim (dec_lt (length w) 65536) [

@@ -1,4 +1,5 @@
 -- What a record of a pattern says when it is fine, and what holds of a pattern with it.
+use Rattle.std.specs.Prelude.{Ok}
 use Prim.Native.Nat.{ℕ, ◌+◌, ◌<◌, ◌≤◌}
 use mathlib.Core.Path.{◌≡◌, refl, sym, subst}
 use mathlib.Core.Bool.{Bool, true, false, cond, ◌&&◌, not}
@@ -14,7 +15,6 @@ use Rattle.machine_pws.proofs.Facts.{put_same, put_other}
 use Rattle.base.specs.Bytes.{byte, cut}
 use Rattle.base.proofs.ByteLaws.{cut_fits}
 use Rattle.file_records.specs.declared.program.Shape.{Shape}
-use Rattle.file_records.specs.declared.program.Checked.TheVariants.{Fine}
 use Rattle.file_records.specs.Records.{checked, is_kind, value_count, exists, waiting_names, waiting_number}
 use Rattle.file_records.specs.ProgramPart.{shape_of}
 use Rattle.file_records.proofs.RecordLaws.{Good, good}
@@ -67,7 +67,7 @@ module _ (s : Shape) (f : List ℕ) (at : ℕ) (g : Given) where
   there : p < s.processes → v < s.variables → exists s p v ≡ true
   there a b = rw (lt-ltb p s.processes a, lt-ltb v s.variables b)
 
-  value_says : is_kind f at 18 ≡ true → checked (waiting_number s f at (length (g.word p v))) at ≡ Fine → Body s f at g
+  value_says : is_kind f at 18 ≡ true → checked (waiting_number s f at (length (g.word p v))) at ≡ Ok tt → Body s f at g
   unfolding waiting_number
   value_says k q =
       let o : Good false (cut f at 3) (exists s p v && leb 8 (length (g.word p v))) false (not (waiting_names s f at)) = good at q in
@@ -75,7 +75,7 @@ module _ (s : Shape) (f : List ℕ) (at : ℕ) (g : Given) where
       let y : leb 8 (length (g.word p v)) ≡ false = rw (there w.0 w.1) at o.room in
       value_body k w.0 w.1 w.2 (leb-false 8 (length (g.word p v)) y) (omega (arith, cut_fits f at 3 o.whole))
 
-  read_says : is_kind f at 18 ≡ false → is_kind f at 20 ≡ true → checked (read_number s f at (length (g.path p))) at ≡ Fine → Body s f at g
+  read_says : is_kind f at 18 ≡ false → is_kind f at 20 ≡ true → checked (read_number s f at (length (g.path p))) at ≡ Ok tt → Body s f at g
   unfolding read_number read_names
   read_says k j q =
       let o : Good false (cut f at 4) (ltb p s.processes && leb 16 (length (g.path p))) false (not (read_names s f at)) = good at q in
@@ -86,7 +86,7 @@ module _ (s : Shape) (f : List ℕ) (at : ℕ) (g : Given) where
       read_body k j w.0 w.1 (ltb-true (byte f (at + 3)) (value_count s v) b.0) (leb-true (byte f (at + 4)) 1 b.1)
       (leb-false 16 (length (g.path p)) y) (omega (arith, cut_fits f at 4 o.whole))
 
-  mark_says : is_kind f at 18 ≡ false → is_kind f at 20 ≡ false → checked (mark_number s f at (is_some (g.mark p v))) at ≡ Fine → Body s f at g
+  mark_says : is_kind f at 18 ≡ false → is_kind f at 20 ≡ false → checked (mark_number s f at (is_some (g.mark p v))) at ≡ Ok tt → Body s f at g
   unfolding mark_number mark_names
   mark_says k j q =
       let o : Good false (cut f at 3) (exists s p v && is_some (g.mark p v)) false (not (mark_names s f at)) = good at q in
@@ -95,15 +95,15 @@ module _ (s : Shape) (f : List ℕ) (at : ℕ) (g : Given) where
       let y : is_some (g.mark p v) ≡ false = rw a.0 at o.room in
       mark_body k j w.0 w.1 (leb-true (byte f (at + 3)) 1 a.1) y (omega (arith, cut_fits f at 3 o.whole))
 
-  pub body_says : checked (body_number s f at g) at ≡ Fine → Body s f at g
+  pub body_says : checked (body_number s f at g) at ≡ Ok tt → Body s f at g
   unfolding body_number checked
   body_says d = go (is_kind f at 18) refl (is_kind f at 20) refl (is_kind f at 21) d
     where
-      two : checked 2 at ≡ Fine → ⊥
+      two : checked 2 at ≡ Ok tt → ⊥
       two q = let z : ◌≡◌ {A = ℕ} 0 1 = cc in omega arith
 
       go : (a : Bool) → is_kind f at 18 ≡ a → (b : Bool) → is_kind f at 20 ≡ b → (c : Bool)
-          → checked (cond a (waiting_number s f at (length (g.word p v))) (cond b (read_number s f at (length (g.path p))) (cond c (mark_number s f at (is_some (g.mark p v))) 2))) at ≡ Fine
+          → checked (cond a (waiting_number s f at (length (g.word p v))) (cond b (read_number s f at (length (g.path p))) (cond c (mark_number s f at (is_some (g.mark p v))) 2))) at ≡ Ok tt
           → Body s f at g
       go true k b j c q = value_says k q
       go false k true j c q = read_says k j q

@@ -1,4 +1,6 @@
 -- What the pass hands on is what readPatterns says, with the places of the patterns in the work area.
+use Rattle.std.specs.Prelude.{Result, Ok, Err, ⊤}
+use Rattle.file_records.specs.declared.program.Refusal.{Refusal}
 use Prim.Native.Nat.{ℕ, zero, suc, ◌+◌, ◌*◌, ◌-◌, ◌<◌, ◌≤◌}
 use mathlib.Core.Path.{◌≡◌, refl, sym, ap, subst, ◌∙◌}
 use mathlib.Core.Bool.{Bool, true, false, cond}
@@ -11,11 +13,9 @@ use lib.Dec.{leb}
 use borrow.Author.Tests.{lt-ltb, le-ltb}
 use Rattle.base.specs.Bytes.{choose, le32}
 use Rattle.file_records.specs.declared.program.Shape.{Shape}
-use Rattle.file_records.specs.declared.program.Checked.{Checked}
-use Rattle.file_records.specs.declared.program.Checked.TheVariants.{Fine, Refused}
 use Rattle.file_records.specs.declared.program.Program.{Program}
 use Rattle.file_records.specs.Records.{checked}
-use Rattle.file_records.specs.ProgramPart.{unless_end, program_from}
+use Rattle.file_records.specs.ProgramPart.{unless_end, program_from, whether, program_read}
 use Rattle.file_records.proofs.RecordLaws.{fine_refused}
 use Rattle.file_contents.specs.EvidencePart.{entries_allowed, wrote_from}
 use Rattle.file_contents.specs.Reading.{Input, evidence_at, list_area}
@@ -37,9 +37,9 @@ use Rattle.pattern_pass.proofs.Places.{pattern_near, pattern_at}
 
 -- ---- the same patterns
 
-abbrev said : Checked → List Pattern → PatternsRead
-said Fine ps = read ps
-said (Refused r) ps = stopped r
+abbrev said : Result ⊤ Refusal → List Pattern → PatternsRead
+said (Ok _) ps = read ps
+said (Err r) ps = stopped r
 
 abbrev read_in : PatternsListed → PatternsRead
 read_in l = said l.answer l.patterns
@@ -49,30 +49,30 @@ module _ (s : Shape) (states f : List ℕ) where
   unfolding patterns_from listed_from
   same_patterns zero at os ps = go (leb (length f) at) (checked (pattern_number s states f at true) at)
     where
-      go : (b : Bool) (x : Checked)
+      go : (b : Bool) (x : Result ⊤ Refusal)
           → choose b (λ _. read ps) (λ _. reading.head_then x (λ _. read ps))
-          ≡ read_in (choose b (λ _. record { offsets = os; patterns = ps; answer = Fine }) (λ _. listed_then x os ps (λ _. record { offsets = os; patterns = ps; answer = Fine })))
+          ≡ read_in (choose b (λ _. record { offsets = os; patterns = ps; answer = Ok tt }) (λ _. listed_then x os ps (λ _. record { offsets = os; patterns = ps; answer = Ok tt })))
       go true x = refl
-      go false Fine = refl
-      go false (Refused r) = refl
+      go false (Ok _) = refl
+      go false (Err r) = refl
   same_patterns (suc left) at os ps =
       go (λ g next. same_patterns left next (os ++ (at ∷ [])) (ps ++ (pattern_of g ∷ []))) (leb (length f) at) (checked (pattern_number s states f at false) at) (read_pattern s f at)
     where
       go : ((g : Given) (next : ℕ) → patterns_from left s states f next (ps ++ (pattern_of g ∷ [])) ≡ read_in (listed_from left s states f next (os ++ (at ∷ [])) (ps ++ (pattern_of g ∷ []))))
-          → (b : Bool) (x : Checked) (y : PatternRead)
+          → (b : Bool) (x : Result ⊤ Refusal) (y : PatternRead)
           → choose b (λ _. read ps) (λ _. reading.head_then x (λ _. reading.pattern_then y (λ g next. patterns_from left s states f next (ps ++ (pattern_of g ∷ [])))))
-          ≡ read_in (choose b (λ _. record { offsets = os; patterns = ps; answer = Fine })
+          ≡ read_in (choose b (λ _. record { offsets = os; patterns = ps; answer = Ok tt })
           (λ _. listed_then x os ps (λ _. given_then y os ps (λ g next. listed_from left s states f next (os ++ (at ∷ [])) (ps ++ (pattern_of g ∷ []))))))
       go ih true x y = refl
-      go ih false (Refused r) y = refl
-      go ih false Fine (bad r) = refl
-      go ih false Fine (whole g next) = ih g next
+      go ih false (Err r) y = refl
+      go ih false (Ok _) (bad r) = refl
+      go ih false (Ok _) (whole g next) = ih g next
 
 -- ---- one after another
 
 data Following (s : Shape) (states f : List ℕ) : ℕ → ℕ → List ℕ → List Pattern → Type 0 where
   following_end : {left at : ℕ} → Following s states f left at [] []
-  following_more : {left at next : ℕ} {os : List ℕ} {g : Given} {ps : List Pattern} → checked (pattern_number s states f at false) at ≡ Fine → read_pattern s f at ≡ whole g next
+  following_more : {left at next : ℕ} {os : List ℕ} {g : Given} {ps : List Pattern} → checked (pattern_number s states f at false) at ≡ Ok tt → read_pattern s f at ≡ whole g next
       → Following s states f left next os ps → Following s states f (suc left) at (at ∷ os) (pattern_of g ∷ ps)
 
 append_cons {ℓ} : {A : Type ℓ} (xs : List A) (x : A) (ys : List A) → (xs ++ (x ∷ [])) ++ ys ≡ xs ++ (x ∷ ys)
@@ -93,29 +93,29 @@ record More (s : Shape) (states f : List ℕ) (left at : ℕ) (os : List ℕ) (p
 
 module _ (s : Shape) (states f : List ℕ) where
   abbrev Reads : ℕ → ℕ → List ℕ → List Pattern → Type 0
-  Reads left at os ps = (listed_from left s states f at os ps).answer ≡ Fine → More s states f left at os ps (listed_from left s states f at os ps)
+  Reads left at os ps = (listed_from left s states f at os ps).answer ≡ Ok tt → More s states f left at os ps (listed_from left s states f at os ps)
 
-  nothing : (left at : ℕ) (os : List ℕ) (ps : List Pattern) → More s states f left at os ps (record { offsets = os; patterns = ps; answer = Fine })
+  nothing : (left at : ℕ) (os : List ℕ) (ps : List Pattern) → More s states f left at os ps (record { offsets = os; patterns = ps; answer = Ok tt })
   nothing left at os ps = record { offsets = []; patterns = []; same = append_none os; alike = append_none ps; following = following_end }
 
-  last : (at : ℕ) (os : List ℕ) (ps : List Pattern) (b : Bool) (x : Checked) → checked (pattern_number s states f at true) at ≡ x
-      → (let r : PatternsListed = choose b (λ _. record { offsets = os; patterns = ps; answer = Fine }) (λ _. listed_then x os ps (λ _. record { offsets = os; patterns = ps; answer = Fine })) in
-      r.answer ≡ Fine → More s states f 0 at os ps r)
+  last : (at : ℕ) (os : List ℕ) (ps : List Pattern) (b : Bool) (x : Result ⊤ Refusal) → checked (pattern_number s states f at true) at ≡ x
+      → (let r : PatternsListed = choose b (λ _. record { offsets = os; patterns = ps; answer = Ok tt }) (λ _. listed_then x os ps (λ _. record { offsets = os; patterns = ps; answer = Ok tt })) in
+      r.answer ≡ Ok tt → More s states f 0 at os ps r)
   last at os ps true x d q = nothing 0 at os ps
-  last at os ps false Fine d q = absurd (no_true (sym (head_fine f at s states true d).2))
-  last at os ps false (Refused r) d q = absurd (fine_refused (sym q))
+  last at os ps false (Ok _) d q = absurd (no_true (sym (head_fine f at s states true d).2))
+  last at os ps false (Err r) d q = absurd (fine_refused (sym q))
 
   longer : (left at : ℕ) (os : List ℕ) (ps : List Pattern)
       → ((g : Given) (next : ℕ) → Reads left next (os ++ (at ∷ [])) (ps ++ (pattern_of g ∷ [])))
-      → (b : Bool) (x : Checked) → checked (pattern_number s states f at false) at ≡ x → (y : PatternRead) → read_pattern s f at ≡ y
+      → (b : Bool) (x : Result ⊤ Refusal) → checked (pattern_number s states f at false) at ≡ x → (y : PatternRead) → read_pattern s f at ≡ y
       → (let r : PatternsListed =
-      choose b (λ _. record { offsets = os; patterns = ps; answer = Fine })
+      choose b (λ _. record { offsets = os; patterns = ps; answer = Ok tt })
       (λ _. listed_then x os ps (λ _. given_then y os ps (λ g next. listed_from left s states f next (os ++ (at ∷ [])) (ps ++ (pattern_of g ∷ []))))) in
-      r.answer ≡ Fine → More s states f (suc left) at os ps r)
+      r.answer ≡ Ok tt → More s states f (suc left) at os ps r)
   longer left at os ps ih true x d y c q = nothing (suc left) at os ps
-  longer left at os ps ih false (Refused r) d y c q = absurd (fine_refused (sym q))
-  longer left at os ps ih false Fine d (bad r) c q = absurd (fine_refused (sym q))
-  longer left at os ps ih false Fine d (whole g next) c q =
+  longer left at os ps ih false (Err r) d y c q = absurd (fine_refused (sym q))
+  longer left at os ps ih false (Ok _) d (bad r) c q = absurd (fine_refused (sym q))
+  longer left at os ps ih false (Ok _) d (whole g next) c q =
       let m = ih g next q in
       record {
         offsets = at ∷ m.offsets;
@@ -163,7 +163,7 @@ module _ (x : Input) (work : List ℕ) where
   area = length work
 
   abbrev p : Program
-  p = (program_from x.alone x.code 0).program
+  p = program_read (program_from x.alone x.code 0)
 
   -- where the claim stands
   abbrev at : ℕ
@@ -173,14 +173,14 @@ module _ (x : Input) (work : List ℕ) where
   L = listed_from (entries_allowed area) p.shape p.states f (at + 2) [] []
 
   abbrev Fit : Passed → Type 0
-  Fit P = HandsOn x area (pass_reading P) (pass_area P work) (pass_reading P).answer
+  Fit P = HandsOn x area (pass_area P work) (pass_reading P)
 
-  module _ (enough : 65536 ≤ area) (fine : (program_from x.alone x.code 0).answer ≡ Fine) (claim : unless_end f at (checked (claim_number f at) at) ≡ Fine) where
+  module _ (enough : 65536 ≤ area) (fine : whether (program_from x.alone x.code 0) ≡ Ok tt) (claim : unless_end f at (checked (claim_number f at) at) ≡ Ok tt) where
     read_listed : read_patterns x area ≡ evidence_read x p (read_in L)
     unfolding read_patterns evidence_from
     read_listed = rw (le-ltb area 65536 enough, fine, claim, same_patterns p.shape p.states f (entries_allowed area) (at + 2) [] [])
 
-    module _ (q : L.answer ≡ Fine) where
+    module _ (q : L.answer ≡ Ok tt) where
       more : More p.shape p.states f (entries_allowed area) (at + 2) [] [] L
       more = patterns_more p.shape p.states f (entries_allowed area) (at + 2) [] [] q
 
@@ -233,21 +233,21 @@ module _ (x : Input) (work : List ℕ) where
                 (following_at few small in_order k (omega (arith, l, c.0)));
           }
 
-    handed : (y : Checked) → L.answer ≡ y → Fit (listed p L)
-    handed (Refused r) q = rw q (read_listed ∙ rw q)
-    handed Fine q = rw q (L.patterns, read_listed ∙ rw q, stands q, part_sizes x.alone x.code 0 fine refl, few_patterns q)
+    handed : (y : Result ⊤ Refusal) → L.answer ≡ y → Fit (listed p L)
+    handed (Err r) q = rw q (read_listed ∙ rw q)
+    handed (Ok _) q = rw q (L.patterns, read_listed ∙ rw q, stands q, part_sizes x.alone x.code 0 fine refl, few_patterns q)
 
-  by_claim : 65536 ≤ area → (program_from x.alone x.code 0).answer ≡ Fine → (y : Checked) → unless_end f at (checked (claim_number f at) at) ≡ y → Fit (passed_of x area)
+  by_claim : 65536 ≤ area → whether (program_from x.alone x.code 0) ≡ Ok tt → (y : Result ⊤ Refusal) → unless_end f at (checked (claim_number f at) at) ≡ y → Fit (passed_of x area)
   unfolding read_patterns evidence_from
-  by_claim l q (Refused r) c =
+  by_claim l q (Err r) c =
       subst Fit (sym (passed_evidence x area l q ∙ evidence_refused (entries_allowed area) f at p r c)) (rw (le-ltb area 65536 l, q, c))
-  by_claim l q Fine c =
+  by_claim l q (Ok _) c =
       subst Fit (sym (passed_evidence x area l q ∙ evidence_listed (entries_allowed area) f at p c)) (handed l q c L.answer refl)
 
-  by_program : 65536 ≤ area → (y : Checked) → (program_from x.alone x.code 0).answer ≡ y → Fit (passed_of x area)
+  by_program : 65536 ≤ area → (y : Result ⊤ Refusal) → whether (program_from x.alone x.code 0) ≡ y → Fit (passed_of x area)
   unfolding read_patterns
-  by_program l (Refused r) q = subst Fit (sym (passed_refused x area r l q)) (rw (le-ltb area 65536 l, q))
-  by_program l Fine q = by_claim l q _ refl
+  by_program l (Err r) q = subst Fit (sym (passed_refused x area r l q)) (rw (le-ltb area 65536 l, q))
+  by_program l (Ok _) q = by_claim l q _ refl
 
   pub fits : Fit (passed_of x area)
   unfolding read_patterns
@@ -257,4 +257,4 @@ module _ (x : Input) (work : List ℕ) where
   ]
 
 pub pass_hands_on : PassHandsOn
-pass_hands_on x work R e = subst (λ (R : PatternReading). HandsOn x (length work) R (pass_area (passed_of x (length work)) work) R.answer) (sym e) (fits x work)
+pass_hands_on x work R e = subst (HandsOn x (length work) (pass_area (passed_of x (length work)) work)) (sym e) (fits x work)

@@ -1,4 +1,6 @@
 -- A pattern that was read: what its records give is within the limits, and it is near to its 13.
+use Rattle.std.specs.Prelude.{Result, Ok, Err, ⊤}
+use Rattle.file_records.specs.declared.program.Refusal.{Refusal}
 use Prim.Native.Nat.{ℕ, zero, suc, ◌+◌, ◌*◌, ◌<◌, ◌≤◌}
 use mathlib.Core.Path.{◌≡◌, refl, sym, ap, subst, ◌∙◌}
 use mathlib.Core.Bool.{Bool, true, false, cond}
@@ -13,8 +15,6 @@ use Rattle.machine_pws.specs.Machine.{put}
 use Rattle.machine_pws.proofs.Facts.{put_same, put_other, put_each}
 use Rattle.base.specs.Bytes.{choose, byte}
 use Rattle.file_records.specs.declared.program.Shape.{Shape}
-use Rattle.file_records.specs.declared.program.Checked.{Checked}
-use Rattle.file_records.specs.declared.program.Checked.TheVariants.{Fine, Refused}
 use Rattle.file_records.specs.Records.{checked, is_kind, value_count, exists, state_at}
 use Rattle.file_records.specs.ProgramPart.{shape_of}
 use Rattle.file_again.proofs.Tables.{of_four}
@@ -272,16 +272,16 @@ module _ (s : Shape) (few : s.processes ≤ 4) (small : s.variables ≤ 4) (f : 
     where
       go : (Partway (at + body_size f at) (extended f at g) → length f ≤ bytes + (at + body_size f at)
           → pattern_from bytes s f start (at + body_size f at) (extended f at g) ≡ whole d next → Done d next)
-          → (b : Bool) → at_boundary f at ≡ b → (x : Checked) → checked (body_number s f at g) at ≡ x
+          → (b : Bool) → at_boundary f at ≡ b → (x : Result ⊤ Refusal) → checked (body_number s f at g) at ≡ x
           → choose b (λ _. finished s start at g) (λ _. body_then x (λ _. pattern_from bytes s f start (at + body_size f at) (extended f at g))) ≡ whole d next
           → Done d next
       go ih true b x k q = finish at g W b d next q
-      go ih false b (Refused r) k q = let y : ◌≡◌ {A = ℕ} 0 1 = cc in absurd (omega arith)
-      go ih false b Fine k q =
+      go ih false b (Err r) k q = let y : ◌≡◌ {A = ℕ} 0 1 = cc in absurd (omega arith)
+      go ih false b (Ok _) k q =
           let y = body_says s f at g k in
           ih (more at g W y) (omega (arith, l, (body_fits s f at g y).1)) q
 
-  module _ (states : List ℕ) (head : checked (pattern_number s states f start false) start ≡ Fine) (g : Given) (next : ℕ) (q : read_pattern s f start ≡ whole g next) where
+  module _ (states : List ℕ) (head : checked (pattern_number s states f start false) start ≡ Ok tt) (g : Given) (next : ℕ) (q : read_pattern s f start ≡ whole g next) where
     done : Done g next
     done =
         let h = head_fine f start s states false head in

@@ -1,4 +1,5 @@
 -- Laws of the pass over one pattern: its loop, and the counts that stand for what was read.
+use Rattle.std.specs.Prelude.{Ok, Err}
 use Prim.Native.Nat.{ℕ, zero, suc, ◌+◌, ◌*◌, ◌-◌, ◌<◌, ◌≤◌}
 use mathlib.Core.Path.{◌≡◌, refl, sym, ap, ap₂, ◌∙◌}
 use mathlib.Core.Bool.{Bool, true, false, cond, ◌&&◌, ◌||◌, not}
@@ -14,7 +15,6 @@ use Rattle.machine_pws.proofs.Facts.{put_same, put_other}
 use Rattle.base.specs.Bytes.{byte}
 use Rattle.file_records.specs.declared.program.Shape.{Shape}
 use Rattle.file_records.specs.declared.program.Refusal.{Refusal}
-use Rattle.file_records.specs.declared.program.Checked.TheVariants.{Fine, Refused}
 use Rattle.file_records.specs.Records.{checked, is_kind, exists, waiting_number}
 use Rattle.file_contents.specs.Tally.{queue_at}
 use Rattle.file_again.proofs.Names.{both_exist}
@@ -35,12 +35,12 @@ module _ (s : Shape) (f : List ℕ) (start at : ℕ) (g : Given) where
   pattern_ends zero b = refl
   pattern_ends (suc bytes) b = rw b
 
-  pub pattern_next : (bytes : ℕ) → at_boundary f at ≡ false → checked (body_number s f at g) at ≡ Fine
+  pub pattern_next : (bytes : ℕ) → at_boundary f at ≡ false → checked (body_number s f at g) at ≡ Ok tt
       → pattern_from (suc bytes) s f start at g ≡ pattern_from bytes s f start (at + body_size f at) (extended f at g)
   unfolding pattern_from
   pattern_next bytes b d = rw (b, d)
 
-  pub pattern_stops : (bytes : ℕ) (r : Refusal) → at_boundary f at ≡ false → checked (body_number s f at g) at ≡ Refused r
+  pub pattern_stops : (bytes : ℕ) (r : Refusal) → at_boundary f at ≡ false → checked (body_number s f at g) at ≡ Err r
       → pattern_from (suc bytes) s f start at g ≡ bad r
   unfolding pattern_from
   pattern_stops bytes r b d = rw (b, d)
@@ -289,8 +289,8 @@ module _ (s : Shape) (few : s.processes ≤ 4) (small : s.variables ≤ 4) (f : 
   some_bytes : at_boundary f k ≡ false → F.bytes ≡ suc (F.bytes - 1)
   some_bytes b = pred_of F.bytes (omega (arith, inside f k b, F.enough))
 
-  module _ (b : at_boundary f k ≡ false) (d : checked (seen_number s f k t) k ≡ Fine) where
-    fine : checked (body_number s f k F.given) k ≡ Fine
+  module _ (b : at_boundary f k ≡ false) (d : checked (seen_number s f k t) k ≡ Ok tt) where
+    fine : checked (body_number s f k F.given) k ≡ Ok tt
     fine = ap (λ (n : ℕ). checked n k) (sym number_is) ∙ d
 
     pub sofar_room : SeenRoom f k t
@@ -310,7 +310,7 @@ module _ (s : Shape) (few : s.processes ≤ 4) (small : s.variables ≤ 4) (f : 
           upto = sofar_fits.0;
         }
 
-  pub sofar_stops : (r : Refusal) → at_boundary f k ≡ false → checked (seen_number s f k t) k ≡ Refused r → read_pattern s f start ≡ bad r
+  pub sofar_stops : (r : Refusal) → at_boundary f k ≡ false → checked (seen_number s f k t) k ≡ Err r → read_pattern s f start ≡ bad r
   sofar_stops r b d =
       sym F.reads ∙ ap (λ (n : ℕ). pattern_from n s f start k F.given) (some_bytes b)
       ∙ pattern_stops s f start k F.given (F.bytes - 1) r b (ap (λ (n : ℕ). checked n k) (sym number_is) ∙ d)

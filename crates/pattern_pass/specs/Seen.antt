@@ -1,5 +1,5 @@
 -- What the pass over a pattern keeps: counts. No statement rests on these definitions; they say how the code's counts stand for the pattern.
-use Rattle.std.specs.Prelude.{ℕ, ◌+◌, ◌*◌, ◌<◌, ◌≤◌, ◌≡◌, Bool, true, false, cond, ◌&&◌, not, List, [], ◌∷◌, length, get_or, set, eqb}
+use Rattle.std.specs.Prelude.{ℕ, ◌+◌, ◌*◌, ◌<◌, ◌≤◌, ◌≡◌, Bool, true, false, cond, ◌&&◌, not, List, [], ◌∷◌, length, get_or, set, eqb, Result, Ok, Err}
 use Rattle.std.proofs.Math.Option.{Option, none, some}
 use Rattle.machine_pws.specs.Machine.{all_below}
 use Rattle.base.specs.Bytes.{byte}
@@ -11,8 +11,6 @@ use Rattle.pattern_theory.specs.Patterns.{PathRead}
 use Rattle.pattern_reading.specs.Records.{Given, read_number, mark_number}
 use Rattle.pattern_reading.specs.Reading.{PatternRead, whole, bad}
 use Rattle.pattern_pass.specs.declared.seen.Seen.{Seen}
-use Rattle.pattern_pass.specs.declared.pass.PatternEnd.{PatternEnd}
-use Rattle.pattern_pass.specs.declared.pass.PatternEnd.TheVariants.{Next, Bad}
 
 -- bodyNumber by the counts
 unfoldable pub seen_number : Shape → List ℕ → ℕ → Seen → ℕ
@@ -88,10 +86,6 @@ pub record SeenOf (t : Seen) (g : Given) : Type 0 where
   pub own : (p : ℕ) → p < 4 → get_or t.own p 0 ≡ own_seen (g.path p)
 
 -- what is handed on
-abbrev pub end_of_pattern : PatternRead → PatternEnd
-end_of_pattern (whole g next) = Next next
-end_of_pattern (bad r) = Bad r
-
-abbrev pub end_refused : PatternEnd → Refusal
-end_refused (Next n) = record { number = 0; place = 0 }
-end_refused (Bad r) = r
+abbrev pub end_of_pattern : PatternRead → Result ℕ Refusal
+end_of_pattern (whole g next) = Ok next
+end_of_pattern (bad r) = Err r

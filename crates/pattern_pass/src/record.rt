@@ -4,17 +4,17 @@ ghost use Rattle.file_records.specs.Records.{checked, state_names, value_name, w
 ghost use Rattle.pattern_reading.specs.Records.{claim_number, newest_names, pattern_number, read_names, read_number, mark_names, mark_number, body_size};
 ghost use Rattle.pattern_reading.specs.Reading.{at_boundary};
 
-use base::bytes::{both, cut, either, field, wide};
+use base::bytes::{both, cut, either, field};
 use file_contents::steps::pair_exists;
 use file_program::record::state_name;
-use file_records::program::{Checked, Shape, value_count};
-use file_records::record::{answer, first_number, is_kind};
+use file_records::program::{Refusal, Shape, value_count};
+use file_records::record::{checked, first_number, is_kind};
 
 // The claim is 0.
-pub(crate) fn check_claim(file: &[u8], at: usize) -> Checked
+pub(crate) fn check_claim(file: &[u8], at: usize) -> Result<(), Refusal>
     ensures { result ≡ checked (claim_number file.now at) at }
 {
-    answer(
+    checked(
         first_number(
             !is_kind(file, at, 15),
             cut(file, at, 1),
@@ -68,18 +68,18 @@ pub(crate) fn check_pattern(
     shape: Shape,
     states: [u8; 4],
     full: bool,
-) -> Checked
+) -> Result<(), Refusal>
     ensures { result ≡ checked (pattern_number shape states file.now at full) at }
 {
     let other = !is_kind(file, at, 19);
     if cut(file, at, 8) {
-        return answer(first_number(other, true, full, false, true), at);
+        return checked(first_number(other, true, full, false, true), at);
     }
     let names = both(
         states_inside(file, at, shape, states),
         newest_inside(file, at, shape),
     );
-    answer(first_number(other, false, full, false, !names), at)
+    checked(first_number(other, false, full, false, !names), at)
 }
 
 // A 12, of whose queue so many values stand before it.
@@ -89,7 +89,7 @@ fn waiting_names(file: &[u8], at: usize, shape: Shape) -> bool
     let variable = field(file, at, 2);
     both(
         pair_exists(shape, field(file, at, 1), variable),
-        value_name(shape, wide(variable), field(file, at, 3)),
+        value_name(shape, usize::from(variable), field(file, at, 3)),
     )
 }
 
@@ -114,7 +114,7 @@ fn read_names(file: &[u8], at: usize, shape: Shape) -> bool
     ensures { result ≡ read_names shape file.now at }
 {
     let variable = field(file, at, 2);
-    let named = field(file, at, 3) < value_count(shape, wide(variable));
+    let named = field(file, at, 3) < value_count(shape, usize::from(variable));
     both(
         pair_exists(shape, field(file, at, 1), variable),
         both(named, field(file, at, 4) <= 1),
@@ -124,7 +124,10 @@ fn read_names(file: &[u8], at: usize, shape: Shape) -> bool
 pub(crate) fn read_number(file: &[u8], at: usize, shape: Shape, reads: u8) -> u8
     ensures { result ≡ read_number shape file.now at reads }
 {
-    let full = both(wide(field(file, at, 1)) < shape.processes, 16 <= reads);
+    let full = both(
+        usize::from(field(file, at, 1)) < shape.processes,
+        16 <= reads,
+    );
     first_number(
         false,
         cut(file, at, 4),

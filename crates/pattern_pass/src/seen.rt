@@ -6,8 +6,10 @@ ghost use Rattle.file_contents.specs.Tally.{queue_at};
 ghost use Rattle.pattern_pass.specs.Seen.{seen_number, SeenRoom, seen_value, seen_read, seen_mark, seen_more, mark_fits_seen, seen_complete};
 
 use crate::record::{mark_number, read_number, waiting_number};
-use base::bytes::{both, field, wide};
-use file_records::program::{Shape, of_four};
+use base::arrays::at_or;
+use base::below::all_below;
+use base::bytes::field;
+use file_records::program::Shape;
 use file_records::record::is_kind;
 
 // At 4 p + v the 12s of the queue of process p and variable v, and its 15: 0 for none, else its last byte and 1. At p the 14s of process p, and
@@ -20,20 +22,11 @@ pub struct Seen {
     pub own: [u8; 4],
 }
 
-fn of_sixteen(sixteen: [u8; 16], q: usize) -> u8
-    ensures { result ≡ get_or sixteen q 0 }
-{
-    if q < 16 {
-        return sixteen[q];
-    }
-    0
-}
-
 // The place of the queue that the 12 or 15 at a place names.
 fn queue_at(file: &[u8], at: usize) -> usize
     ensures { result ≡ queue_at file.now at }
 {
-    4 * wide(field(file, at, 1)) + wide(field(file, at, 2))
+    4 * usize::from(field(file, at, 1)) + usize::from(field(file, at, 2))
 }
 
 // The number of the record at a place, by what was seen.
@@ -41,16 +34,15 @@ pub(crate) fn seen_number(file: &[u8], at: usize, shape: Shape, seen: Seen) -> u
     ensures { result ≡ seen_number shape file.now at seen }
 {
     if is_kind(file, at, 18) {
-        let words = seen.words;
-        return waiting_number(file, at, shape, of_sixteen(words, queue_at(file, at)));
+        let words = at_or(seen.words, queue_at(file, at), 0);
+        return waiting_number(file, at, shape, words);
     }
     if is_kind(file, at, 20) {
-        let reads = seen.reads;
-        return read_number(file, at, shape, of_four(reads, wide(field(file, at, 1))));
+        let reads = at_or(seen.reads, usize::from(field(file, at, 1)), 0);
+        return read_number(file, at, shape, reads);
     }
     if is_kind(file, at, 21) {
-        let marks = seen.marks;
-        let mark = of_sixteen(marks, queue_at(file, at));
+        let mark = at_or(seen.marks, queue_at(file, at), 0);
         return mark_number(file, at, shape, !(mark == 0));
     }
     2
@@ -74,7 +66,7 @@ fn with_read(file: &[u8], at: usize, seen: Seen) -> Seen
     ensures { result ≡ seen_read file.now at seen }
 {
     let mut next = seen;
-    let p = wide(field(file, at, 1));
+    let p = usize::from(field(file, at, 1));
     let n = seen.reads[p];
     next.reads[p] = n + 1;
     if n == 0 {
@@ -124,55 +116,17 @@ fn mark_fits(words: u8, mark: u8) -> bool
     !(words == 0)
 }
 
-// The first n queues of process p.
-fn row_fits(n: usize, words: [u8; 16], marks: [u8; 16], p: usize) -> bool
-    requires { (n ≤ 4) × (p < 4) }
-    ensures { result ≡ all_below n (λ v. mark_fits_seen (get_or words (4 * p + v) 0) (get_or marks (4 * p + v) 0)) }
-{
-    for v in 0..n {
-        let k = 4 * p + v;
-        if !mark_fits(words[k], marks[k]) {
-            return false;
-        }
-    }
-    true
-}
-
-// Those of the first n processes.
-fn marks_fit(n: usize, m: usize, words: [u8; 16], marks: [u8; 16]) -> bool
-    requires { (n ≤ 4) × (m ≤ 4) }
-    ensures { result ≡ all_below n (λ p. all_below m (λ v. mark_fits_seen (get_or words (4 * p + v) 0) (get_or marks (4 * p + v) 0))) }
-{
-    for p in 0..n {
-        if !row_fits(m, words, marks, p) {
-            return false;
-        }
-    }
-    true
-}
-
-// No first 14 of theirs is own.
-fn firsts_fit(n: usize, own: [u8; 4]) -> bool
-    requires { n ≤ 4 }
-    ensures { result ≡ all_below n (λ p. eqb (get_or own p 0) 0) }
-{
-    for p in 0..n {
-        if !(own[p] == 0) {
-            return false;
-        }
-    }
-    true
-}
-
+// Each 15 fits the 12s of its queue, and no first 14 is own.
+#[tactic(auto, unfolding(crate::specs::Seen::seen_complete))]
 pub(crate) fn is_complete(shape: Shape, seen: Seen) -> bool
     requires { (shape.processes ≤ 4) × (shape.variables ≤ 4) }
     ensures { result ≡ seen_complete shape seen }
 {
-    let words = seen.words;
-    let marks = seen.marks;
-    let own = seen.own;
-    both(
-        marks_fit(shape.processes, shape.variables, words, marks),
-        firsts_fit(shape.processes, own),
-    )
+    let marked = all_below(shape.processes, |p| {
+        all_below(
+            shape.variables,
+            |v| mark_fits(seen.words[4 * p + v], seen.marks[4 * p + v]),
+        )
+    });
+    marked && all_below(shape.processes, |p| seen.own[p] == 0)
 }

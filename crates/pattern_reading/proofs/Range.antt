@@ -1,4 +1,5 @@
 -- What is read of a pattern file is in range.
+use Rattle.std.specs.Prelude.{Result, Ok, Err, ⊤}
 use Prim.Native.Nat.{ℕ, zero, suc, ◌+◌, ◌<◌, ◌≤◌}
 use mathlib.Core.Path.{◌≡◌, refl, ap, subst, ◌∙◌}
 use mathlib.Core.Logic.{inl, inr}
@@ -14,13 +15,10 @@ use Rattle.machine_pws.specs.Entries.{ValueOrFF}
 use Rattle.machine_pws.proofs.Facts.{put_each}
 use Rattle.file_records.specs.declared.program.Shape.{Shape}
 use Rattle.file_records.specs.declared.program.Refusal.{Refusal}
-use Rattle.file_records.specs.declared.program.Checked.{Checked}
-use Rattle.file_records.specs.declared.program.Checked.TheVariants.{Fine, Refused}
 use Rattle.file_records.specs.declared.program.Program.{Program}
-use Rattle.file_records.specs.declared.program.ProgramRead.{ProgramRead}
 use Rattle.base.specs.Bytes.{choose, byte}
 use Rattle.file_records.specs.Records.{checked, is_kind, value_count, exists, value_name, state_names, waiting_number}
-use Rattle.file_records.specs.ProgramPart.{unless_end, program_from, shape_of, program_of}
+use Rattle.file_records.specs.ProgramPart.{unless_end, program_from, shape_of, program_of, whether, program_read}
 use Rattle.file_records.proofs.RecordLaws.{good}
 use Rattle.file_records.proofs.ProgramLaws.{and_true}
 use Rattle.file_contents.specs.declared.evidence.Part.{Part}
@@ -47,13 +45,13 @@ stopped_read e = let z : ◌≡◌ {A = ℕ} 0 1 = cc in omega arith
 refused_patterns : {w : Part} {r : Refusal} {P : pws.Program} {ts : List (ℕ → ℕ)} {ps : List Pattern} → refused w r ≡ patterns P ts ps → ⊥
 refused_patterns e = let z : ◌≡◌ {A = ℕ} 0 1 = cc in omega arith
 
-body_fine : (c : Checked) (x : Unit {0} → PatternRead) (g : Given) (n : ℕ) → body_then c x ≡ whole g n → (c ≡ Fine) × (x tt ≡ whole g n)
-body_fine Fine x g n e = (refl, e)
-body_fine (Refused r) x g n e = absurd (bad_whole e)
+body_fine : (c : Result ⊤ Refusal) (x : Unit {0} → PatternRead) (g : Given) (n : ℕ) → body_then c x ≡ whole g n → (c ≡ Ok tt) × (x tt ≡ whole g n)
+body_fine (Ok _) x g n e = (refl, e)
+body_fine (Err r) x g n e = absurd (bad_whole e)
 
-head_fine : (c : Checked) (x : Unit {0} → PatternsRead) (ps : List Pattern) → head_then c x ≡ read ps → (c ≡ Fine) × (x tt ≡ read ps)
-head_fine Fine x ps e = (refl, e)
-head_fine (Refused r) x ps e = absurd (stopped_read e)
+head_fine : (c : Result ⊤ Refusal) (x : Unit {0} → PatternsRead) (ps : List Pattern) → head_then c x ≡ read ps → (c ≡ Ok tt) × (x tt ≡ read ps)
+head_fine (Ok _) x ps e = (refl, e)
+head_fine (Err r) x ps e = absurd (stopped_read e)
 
 -- ---- one pattern
 
@@ -87,7 +85,7 @@ module _ (s : Shape) (few : s.variables ≤ 4) (f : List ℕ) where
       let c = and_true (value_name s 2 (byte f (at + 7))) _ b.1 in
       of_four (λ (v : ℕ). value_name s v (byte f (at + (5 + v))) ≡ true) a.0 b.0 c.0 c.1
 
-  beginning_in : (states : List ℕ) (at : ℕ) (full : Bool) → checked (pattern_number s states f at full) at ≡ Fine → GivenIn s (beginning s f at)
+  beginning_in : (states : List ℕ) (at : ℕ) (full : Bool) → checked (pattern_number s states f at full) at ≡ Ok tt → GivenIn s (beginning s f at)
   unfolding pattern_number
   beginning_in states at full e =
       let names = (and_true (state_names s states f at) (newest_names s f at) (not-false _ (good at e).names)).1 in
@@ -98,7 +96,7 @@ module _ (s : Shape) (few : s.variables ≤ 4) (f : List ℕ) where
         reads = λ p. tt;
       }
 
-  read_named : (at : ℕ) (reads : ℕ) → checked (read_number s f at reads) at ≡ Fine
+  read_named : (at : ℕ) (reads : ℕ) → checked (read_number s f at reads) at ≡ Ok tt
       → (byte f (at + 2) < s.variables) × (byte f (at + 3) < value_count s (byte f (at + 2)))
   unfolding read_number read_names
   read_named at reads e =
@@ -106,7 +104,7 @@ module _ (s : Shape) (few : s.variables ≤ 4) (f : List ℕ) where
       let b = and_true (ltb (byte f (at + 3)) (value_count s (byte f (at + 2)))) (leb (byte f (at + 4)) 1) a.1 in
       ((both_exist s (byte f (at + 1)) (byte f (at + 2)) a.0).1, ltb-true (byte f (at + 3)) (value_count s (byte f (at + 2))) b.0)
 
-  with_read : (at : ℕ) (g : Given) → checked (read_number s f at (length (g.path (byte f (at + 1))))) at ≡ Fine → GivenIn s g → GivenIn s (read_put f at g)
+  with_read : (at : ℕ) (g : Given) → checked (read_number s f at (length (g.path (byte f (at + 1))))) at ≡ Ok tt → GivenIn s g → GivenIn s (read_put f at g)
   with_read at g e o =
       let n = read_named at (length (g.path (byte f (at + 1)))) e in
       record {
@@ -116,7 +114,7 @@ module _ (s : Shape) (few : s.variables ≤ 4) (f : List ℕ) where
             (reads_snoc (shape_of s) (g.path (byte f (at + 1))) (read_at f at) (o.reads (byte f (at + 1))) n.0 n.1) (λ d. o.reads p);
       }
 
-  extended_in : (at : ℕ) (g : Given) → checked (body_number s f at g) at ≡ Fine → GivenIn s g → GivenIn s (extended f at g)
+  extended_in : (at : ℕ) (g : Given) → checked (body_number s f at g) at ≡ Ok tt → GivenIn s g → GivenIn s (extended f at g)
   unfolding body_number extended
   extended_in at g e o = go (is_kind f at 18) (is_kind f at 20) e
     where
@@ -127,7 +125,7 @@ module _ (s : Shape) (few : s.variables ≤ 4) (f : List ℕ) where
       v = byte f (at + 2)
 
       go : (a b : Bool)
-          → checked (cond a (waiting_number s f at (length (g.word p v))) (cond b (read_number s f at (length (g.path p))) (cond (is_kind f at 21) (mark_number s f at (is_some (g.mark p v))) 2))) at ≡ Fine
+          → checked (cond a (waiting_number s f at (length (g.word p v))) (cond b (read_number s f at (length (g.path p))) (cond (is_kind f at 21) (mark_number s f at (is_some (g.mark p v))) 2))) at ≡ Ok tt
           → GivenIn s (cond a (with_value f at g) (cond b (read_put f at g) (with_mark f at g)))
       go true b e = record { newest = o.newest; absent = o.absent; reads = o.reads }
       go false true e = with_read at g e o
@@ -207,16 +205,16 @@ pub read_in_range : ReadInRange
 unfolding read_patterns evidence_from
 read_in_range x area P ts ps e = sized (ltb area 65536) e
   where
-    part : ProgramRead
+    part : Result Program Refusal
     part = program_from x.alone x.code 0
 
     p : Program
-    p = part.program
+    p = program_read part
 
     evidence : PatternsRead
     evidence = evidence_from (entries_allowed area) x.file (evidence_at x p) p
 
-    right : part.answer ≡ Fine → evidence ≡ read ps → pws.ProgramInRange (program_of x.code p) × PatternsIn (program_of x.code p).shape ps
+    right : whether part ≡ Ok tt → evidence ≡ read ps → pws.ProgramInRange (program_of x.code p) × PatternsIn (program_of x.code p).shape ps
     right q d =
         let h = head_fine (unless_end x.file (evidence_at x p) (checked (claim_number x.file (evidence_at x p)) (evidence_at x p)))
         (λ _. patterns_from (entries_allowed area) p.shape p.states x.file (evidence_at x p + 2) []) ps d in
@@ -225,18 +223,18 @@ read_in_range x area P ts ps e = sized (ltb area 65536) e
           by_number (shape_of p.shape) ps (patterns_in p.shape s.variables.1 p.states x.file (entries_allowed area) (evidence_at x p + 2) [] ps h.1 tt),
         )
 
-    told : part.answer ≡ Fine → (r : PatternsRead) → evidence ≡ r → evidence_read x p r ≡ patterns P ts ps → pws.ProgramInRange P × PatternsIn P.shape ps
+    told : whether part ≡ Ok tt → (r : PatternsRead) → evidence ≡ r → evidence_read x p r ≡ patterns P ts ps → pws.ProgramInRange P × PatternsIn P.shape ps
     told q (read qs) d e =
         let a : program_of x.code p ≡ P = cc in
         let b : qs ≡ ps = cc in
         subst (λ (Q : pws.Program). pws.ProgramInRange Q × PatternsIn Q.shape ps) a (right q (d ∙ ap read b))
     told q (stopped r) d e = absurd (refused_patterns e)
 
-    answered : (c : Checked) → part.answer ≡ c → program_then c (λ _. evidence_read x p evidence) ≡ patterns P ts ps → pws.ProgramInRange P × PatternsIn P.shape ps
-    answered Fine q e = told q evidence refl e
-    answered (Refused r) q e = absurd (refused_patterns e)
+    answered : (c : Result ⊤ Refusal) → whether part ≡ c → program_then c (λ _. evidence_read x p evidence) ≡ patterns P ts ps → pws.ProgramInRange P × PatternsIn P.shape ps
+    answered (Ok _) q e = told q evidence refl e
+    answered (Err r) q e = absurd (refused_patterns e)
 
     sized : (b : Bool) → choose b (λ _. refused InProgram (record { number = 8; place = 0 })) (λ _. files_read x (entries_allowed area) part) ≡ patterns P ts ps
         → pws.ProgramInRange P × PatternsIn P.shape ps
     sized true e = absurd (refused_patterns e)
-    sized false e = answered part.answer refl e
+    sized false e = answered (whether part) refl e

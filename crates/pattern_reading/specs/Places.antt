@@ -1,8 +1,7 @@
 -- Where the patterns of a file stand, and what holds of each: what the code that reads a pattern again by its number rests on (docs/PATTERNS.md, "Records").
-use Rattle.std.specs.Prelude.{ℕ, ◌+◌, ◌<◌, ◌≤◌, ◌≡◌, true, false, List, [], ◌∷◌, length}
+use Rattle.std.specs.Prelude.{ℕ, ◌+◌, ◌<◌, ◌≤◌, ◌≡◌, true, false, List, [], ◌∷◌, length, Ok}
 use Rattle.std.proofs.Math.Option.{Option, none, some}
 use Rattle.file_records.specs.declared.program.Shape.{Shape}
-use Rattle.file_records.specs.declared.program.Checked.TheVariants.{Fine}
 use Rattle.file_records.specs.Records.{checked, value_count, exists, state_at}
 use Rattle.file_records.specs.ProgramPart.{shape_of}
 use Rattle.file_again.specs.Again.{offset_at}
@@ -39,7 +38,7 @@ pub record GivenWithin (s : Shape) (g : Given) : Type 0 where
 pub record PatternAt (s : Shape) (counts f : List ℕ) (at : ℕ) (a : Pattern) : Type 0 where
   pub given : Given
   pub next : ℕ
-  pub head : checked (pattern_number s counts f at false) at ≡ Fine
+  pub head : checked (pattern_number s counts f at false) at ≡ Ok tt
   pub body : pattern_from (length f) s f at (at + 9) (beginning s f at) ≡ whole given next
   pub same : a ≡ pattern_of given
   -- states and newest values are those of the 13

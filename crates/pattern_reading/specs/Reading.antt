@@ -1,18 +1,15 @@
 -- The reading of a pattern file, or of a program file and an evidence file: program, targets and patterns, or a refusal's number and place (docs/PATTERNS.md,
 -- "Records"). Number 8 is tested before all; then the program part is read through as the judge reads it, then the claim, then the patterns.
-use Rattle.std.specs.Prelude.{ℕ, zero, suc, ◌+◌, Bool, true, false, cond, ◌&&◌, ◌||◌, not, List, [], ◌∷◌, ◌++◌, length, eqb, leb, ltb}
+use Rattle.std.specs.Prelude.{ℕ, zero, suc, ◌+◌, Bool, true, false, cond, ◌&&◌, ◌||◌, not, List, [], ◌∷◌, ◌++◌, length, eqb, leb, ltb, Result, Ok, Err, ⊤}
 use Rattle.std.proofs.Math.Option.{Option, none, some}
 use Rattle.machine_pws.specs.Program as pws
 use Rattle.machine_pws.specs.Machine.{all_below}
 use Rattle.file_records.specs.declared.program.Shape.{Shape}
 use Rattle.file_records.specs.declared.program.Refusal.{Refusal}
-use Rattle.file_records.specs.declared.program.Checked.{Checked}
-use Rattle.file_records.specs.declared.program.Checked.TheVariants.{Fine, Refused}
 use Rattle.file_records.specs.declared.program.Program.{Program}
-use Rattle.file_records.specs.declared.program.ProgramRead.{ProgramRead}
 use Rattle.base.specs.Bytes.{choose}
 use Rattle.file_records.specs.Records.{checked, is_kind}
-use Rattle.file_records.specs.ProgramPart.{unless_end, program_from, program_of, targets_of}
+use Rattle.file_records.specs.ProgramPart.{whether, program_read, unless_end, program_from, program_of, targets_of}
 use Rattle.file_contents.specs.declared.evidence.Part.{Part}
 use Rattle.file_contents.specs.declared.evidence.Part.TheVariants.{InProgram, InEvidence}
 use Rattle.file_contents.specs.EvidencePart.{entries_allowed}
@@ -70,9 +67,9 @@ at_boundary f at = leb (length f) at || is_kind f at 19
 unfoldable pub finished : Shape → ℕ → ℕ → Given → PatternRead
 finished s start at g = cond (complete s g) (whole g at) (bad (record { number = 7; place = start }))
 
-abbrev pub body_then : Checked → (Unit {0} → PatternRead) → PatternRead
-body_then Fine x = x tt
-body_then (Refused r) x = bad r
+abbrev pub body_then : Result ⊤ Refusal → (Unit {0} → PatternRead) → PatternRead
+body_then (Ok _) x = x tt
+body_then (Err r) x = bad r
 
 -- the records of the pattern whose 13 stands at `start`, from `at` on; g is what was read of it. `bytes` are left at the most.
 unfoldable pub pattern_from : ℕ → Shape → List ℕ → ℕ → ℕ → Given → PatternRead
@@ -87,9 +84,9 @@ pub data PatternsRead : Type 0 where
   read : List Pattern → PatternsRead
   stopped : Refusal → PatternsRead
 
-abbrev pub head_then : Checked → (Unit {0} → PatternsRead) → PatternsRead
-head_then Fine x = x tt
-head_then (Refused r) x = stopped r
+abbrev pub head_then : Result ⊤ Refusal → (Unit {0} → PatternsRead) → PatternsRead
+head_then (Ok _) x = x tt
+head_then (Err r) x = stopped r
 
 abbrev pub pattern_then : PatternRead → (Given → ℕ → PatternsRead) → PatternsRead
 pattern_then (whole g next) x = x g next
@@ -120,13 +117,14 @@ evidence_read x p (stopped r) = refused InEvidence r
 unfoldable pub evidence_from : ℕ → List ℕ → ℕ → Program → PatternsRead
 evidence_from n f at p = head_then (unless_end f at (checked (claim_number f at) at)) (λ _. patterns_from n p.shape p.states f (at + 2) [])
 
-abbrev pub program_then : Checked → (Unit {0} → PatternFile) → PatternFile
-program_then Fine x = x tt
-program_then (Refused q) x = refused InProgram q
+abbrev pub program_then : Result ⊤ Refusal → (Unit {0} → PatternFile) → PatternFile
+program_then (Ok _) x = x tt
+program_then (Err q) x = refused InProgram q
 
 -- the program part was read so; n patterns are allowed
-abbrev pub files_read : Input → ℕ → ProgramRead → PatternFile
-files_read x n r = program_then r.answer (λ _. evidence_read x r.program (evidence_from n x.file (evidence_at x r.program) r.program))
+abbrev pub files_read : Input → ℕ → Result Program Refusal → PatternFile
+files_read x n r =
+    program_then (whether r) (λ _. evidence_read x (program_read r) (evidence_from n x.file (evidence_at x (program_read r)) (program_read r)))
 
 -- patterns allowed are as many as entries
 unfoldable pub read_patterns : Input → ℕ → PatternFile

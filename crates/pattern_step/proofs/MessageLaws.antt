@@ -11,6 +11,7 @@ use native.Mathlib.Decide.{ℕ_discrete, dec_le}
 use lib.ListN.{length, get_or, take, drop, set}
 use lib.Seq.{get_or-set_same, get_or-set_other}
 use lib.Dec.{T, eqb}
+use Rattle.std.specs.Prelude.{Some, None}
 use borrow.Author.Tests.{eq-eqb, ne_eqb}
 use Rattle.machine_pws.specs.Machine.{put, all_below}
 use Rattle.list_theory.specs.Lists.{for_below, for_each}
@@ -20,11 +21,10 @@ use Rattle.pattern_theory.specs.Patterns as patterns
 use Rattle.pattern_theory.specs.Patterns.{PathRead}
 use Rattle.pattern_theory.specs.Predecessors.{Cut, joined, with_path, with_paths, with_newest}
 use Rattle.pattern_step.specs.declared.patterns.Pattern.{Pattern}
-use Rattle.pattern_step.specs.declared.editing.Before.{Before}
 use Rattle.pattern_step.specs.declared.paths.PathReads.{PathReads}
-use Rattle.pattern_step.specs.Meaning.{given, newest_of, no_path, path_at, starts_at, FineReads, Stands, GivenBy, absent, MessageBy, no_message_lem, message}
-use Rattle.pattern_step.specs.Numbers.{places_more, many, digit, cuts_at, picked, message_numbered}
-use Rattle.list_key.proofs.Below.{all_false}
+use Rattle.pattern_step.specs.Meaning.{newest_of, no_path, path_at, starts_at, FineReads, Stands, MessageBy, no_message_lem, message}
+use Rattle.pattern_step.specs.Numbers.{places_more, PlacesMore, many, digit, cuts_at, picked, message_numbered}
+use Rattle.base.proofs.Tests.{all_false}
 use Rattle.pattern_step.proofs.PatternLaws.{for_equal}
 use Rattle.pattern_step.proofs.EditLaws.{put_same, put_other}
 
@@ -111,12 +111,6 @@ four_of P a b c d z e f g h (suc (suc zero)) l = g
 four_of P a b c d z e f g h (suc (suc (suc zero))) l = h
 four_of P a b c d z e f g h (suc (suc (suc (suc q)))) l = absurd (omega arith)
 
-pub digits_are : (f : ℕ → ℕ) (j a b c d : ℕ) → a ≡ suc (f 0) → b ≡ suc (f 1) → c ≡ suc (f 2) → d ≡ suc (f 3)
-    → (q : ℕ) → q < 4 → get_or (j / d / c / b % a ∷ j / d / c % b ∷ j / d % c ∷ j % d ∷ []) q 0 ≡ digit f 4 j q
-digits_are f j a b c d e g h i =
-    four_of (λ q x. x ≡ digit f 4 j q) (j / d / c / b % a) (j / d / c % b) (j / d % c) (j % d) 0
-    (rw (e, g, h, i) refl) (rw (g, h, i) refl) (rw (h, i) refl) (rw i refl)
-
 pub product_is : (f : ℕ → ℕ) (a b c d : ℕ) → a ≡ suc (f 0) → b ≡ suc (f 1) → c ≡ suc (f 2) → d ≡ suc (f 3) → a * b * c * d ≡ many f 4
 product_is f a b c d e g h i = rw (e, g, h, i) (ap (λ (x : ℕ). x * suc (f 1) * suc (f 2) * suc (f 3)) (let z : suc (f 0) ≡ 1 * suc (f 0) = omega arith in z))
 
@@ -135,12 +129,12 @@ pub record MorePlaces (s : Shape) (xs : List ℕ) (more : ℕ → ℕ) : Type 0 
   pub here : (q : ℕ) → q < s.processes → get_or xs q 0 ≡ more q
   pub past : (q : ℕ) → s.processes ≤ q → get_or xs q 0 ≡ 0
 
-pub more_all : (s : Shape) (xs : List ℕ) (more : ℕ → ℕ) → length xs ≡ 4 → s.processes ≤ 4
-    → ((q : ℕ) → q < 4 → (q < s.processes → get_or xs q 0 ≡ more q) × (s.processes ≤ q → get_or xs q 0 ≡ 0)) → MorePlaces s xs more
-more_all s xs more e l h =
+pub more_all : {s : Shape} {a : Pattern} {k l : ℕ} {e : patterns.Pattern} {p : ℕ} (xs : List ℕ) → length xs ≡ 4 → Stands s k l a e
+    → ((q : ℕ) → q < 4 → PlacesMore s a p q (get_or xs q 0)) → MorePlaces s xs (places_more e.path p)
+more_all {s} {a} {k} {l} {e} xs f w h =
     record {
-      here = λ q m. (h q (omega arith)).0 m;
-      past = λ q m. elim (dec_le 4 q) [ yes d ↦ beyond xs q (omega arith) | no d ↦ (h q (omega arith)).1 m ];
+      here = λ q m. (h q (omega (arith, w.processes))).here k l e w m;
+      past = λ q m. elim (dec_le 4 q) [ yes d ↦ beyond xs q (omega arith) | no d ↦ (h q (omega arith)).past m ];
     }
   where
     beyond : (ys : List ℕ) (q : ℕ) → length ys ≤ q → get_or ys q 0 ≡ 0
@@ -263,14 +257,20 @@ module _ (s : Shape) (a : Pattern) (e : patterns.Pattern) (p : ℕ) (rs : List P
           (ap (λ (m : ℕ). for_below m (λ q. drop (place q) (path_at a.paths q))) (let v = w.processes in let z : min n 4 ≡ n = omega arith in z)
           ∙ for_equal n (λ q. drop (place q) (path_at a.paths q)) (λ q. (g q).end) (λ q l. ap (drop (place q)) (w.path q l) ∙ ap (λ (c : Cut). c.end) (sym (g_is q l))))
 
-      pub message_given : (r : Before) (newest : List ℕ) (ends : List PathReads) {t : Bool} → given t (newest_of newest) ≡ joined (newest_of a.newest) (for_below (min n 4) (λ q. drop (get_or (set ds p own) q 0) (path_at a.paths q)))
-          → ((q : ℕ) → q < 4 → (path_at ends q ≡ take (get_or (set ds p own) q 0) (path_at a.paths q)) × ((get_or ends q no_path).count ≤ (get_or a.paths q no_path).count) × (FineReads (get_or a.paths q no_path) → FineReads (get_or ends q no_path)))
-          → r ≡ record { there = t; pattern = record { states = a.states; newest = newest; clues = a.clues; paths = ends } } → MessageBy s r (with_path e p rs) to numbered
-      message_given r newest ends {t} u v z = go t refl
-        where
-          end_is : given t (newest_of newest) ≡ joined e.newest (for_below n (λ q. (g q).end))
-          end_is = u ∙ joined_is
+      pub end_none : none ≡ joined (newest_of a.newest) (for_below (min n 4) (λ q. drop (get_or (set ds p own) q 0) (path_at a.paths q))) → MessageBy s (with_path e p rs) to None numbered
+      end_none u =
+          subst (MessageBy s (with_path e p rs) to None)
+          (ap (λ (y : Option (ℕ → Option ℕ)). elim y [ none ↦ [] | some z ↦ to z (λ q. (g q).front) ]) (u ∙ joined_is) ∙ sym chosen_all)
+          no_message_lem
 
+      pub message_given : (newest : List ℕ) (ends : List PathReads) → some (newest_of newest) ≡ joined (newest_of a.newest) (for_below (min n 4) (λ q. drop (get_or (set ds p own) q 0) (path_at a.paths q)))
+          → ((q : ℕ) → q < 4 → (path_at ends q ≡ take (get_or (set ds p own) q 0) (path_at a.paths q)) × ((get_or ends q no_path).count ≤ (get_or a.paths q no_path).count) × (FineReads (get_or a.paths q no_path) → FineReads (get_or ends q no_path)))
+          → MessageBy s (with_path e p rs) to (Some (record { states = a.states; newest = newest; clues = a.clues; paths = ends })) numbered
+      message_given newest ends u v =
+          subst (MessageBy s (with_path e p rs) to (Some (record { states = a.states; newest = newest; clues = a.clues; paths = ends })))
+          (ap (λ (y : Option (ℕ → Option ℕ)). elim y [ none ↦ [] | some z ↦ to z (λ q. (g q).front) ]) (u ∙ joined_is) ∙ sym chosen_all)
+          (message (newest_of newest) (λ q. (g q).front) stands)
+        where
           stands : Stands s 8 16 (record { states = a.states; newest = newest; clues = a.clues; paths = ends }) (with_paths (with_newest (with_path e p rs) (newest_of newest)) (λ q. (g q).front))
           stands =
               record {
@@ -284,17 +284,3 @@ module _ (s : Shape) (a : Pattern) (e : patterns.Pattern) (p : ℕ) (rs : List P
                 lengths = λ q l. omega (arith, (v q l).1, w.lengths q l);
                 fine = λ q l. (v q l).2 (w.fine q l);
               }
-
-          go : (o : Bool) → t ≡ o → MessageBy s r (with_path e p rs) to numbered
-          go true o =
-              subst (MessageBy s r (with_path e p rs) to)
-              (ap (λ (y : Option (ℕ → Option ℕ)). elim y [ none ↦ [] | some z ↦ to z (λ q. (g q).front) ]) (ap (λ (i : Bool). given i (newest_of newest)) (sym o) ∙ end_is) ∙ sym chosen_all)
-              (message (newest_of newest) (λ q. (g q).front) (ap (λ (y : Before). y.there) z ∙ o)
-              (subst (λ (y : Pattern). Stands s 8 16 y (with_paths (with_newest (with_path e p rs) (newest_of newest)) (λ q. (g q).front))) (sym (ap (λ (y : Before). y.pattern) z)) stands))
-          go false o =
-              subst (MessageBy s r (with_path e p rs) to)
-              (ap (λ (y : Option (ℕ → Option ℕ)). elim y [ none ↦ [] | some z ↦ to z (λ q. (g q).front) ]) (ap (λ (i : Bool). given i (newest_of newest)) (sym o) ∙ end_is) ∙ sym chosen_all)
-              (no_message_lem (ap (λ (y : Before). y.there) z ∙ o))
-
-pub no_by : {s : Shape} {r : Before} {e : patterns.Pattern} {to : (ℕ → Option ℕ) → (ℕ → List PathRead) → List patterns.Pattern} → GivenBy s r [] → MessageBy s r e to []
-no_by (absent h) = no_message_lem h

@@ -1,6 +1,6 @@
 -- The paths of the code.
-use Prim.Native.Nat.{ℕ, zero, suc, ◌+◌, ◌<◌, ◌≤◌, min}
-use mathlib.Core.Path.{◌≡◌, refl, sym, ap, ap₂, subst, ◌∙◌, fun_ext}
+use Prim.Native.Nat.{ℕ, zero, suc, ◌+◌, ◌-◌, ◌<◌, ◌≤◌}
+use mathlib.Core.Path.{◌≡◌, refl, sym, ap, ap₂, subst, ◌∙◌}
 use mathlib.Core.Logic.{◌≢◌}
 use mathlib.Core.Bool.{Bool, true, false, cond, ◌&&◌}
 use mathlib.Core.Option.{Option, none, some}
@@ -9,30 +9,20 @@ use native.Mathlib.Omega.{arith}
 use native.Mathlib.Numerals.{unary_clauses}
 use native.Mathlib.Decide.{dec_le, ℕ_discrete}
 use lib.ListN.{length, get_or, take, drop, set, length-take, length-map, length-set, drop_of_length-le, get_or-map}
-use lib.Seq.{get_or-take, take-take, take_all, drop-cons, get_or-set_same, get_or-set_other}
+use lib.Seq.{get_or-take, take-take, drop-cons, get_or-set_same, get_or-set_other}
 use lib.Dec.{eqb}
 use borrow.Author.Tests.{eq-eqb, ne_eqb}
+use Rattle.std.specs.List.{CopiedTo, SameBelow}
 use Rattle.machine_pws.specs.Machine.{put}
 use Rattle.list_theory.specs.Lists.{every}
 use Rattle.pattern_theory.specs.Patterns.{PathRead}
-use Rattle.pattern_theory.specs.Within.{asks_for, same_read, asked, path_within}
+use Rattle.pattern_theory.specs.Within.{same_read, path_within}
 use Rattle.pattern_theory.specs.Predecessors.{agrees, joined, first_own}
-use Rattle.pattern_reading.specs.Records as records
 use Rattle.pattern_step.specs.declared.paths.Read.{Read}
-use Rattle.pattern_step.specs.Meaning.{given, newest_of, no_read, read_of, reads_of, FineRead, place_of, starts_at, not_own}
-use Rattle.pattern_step.proofs.ClueLaws.{asked_any, asked_value, other_default}
+use Rattle.pattern_step.specs.Meaning.{no_read, read_of, reads_of, FineRead, place_of, starts_at, not_own}
+use Rattle.pattern_step.proofs.ClueLaws.{same_take}
 
 -- ---- the reads of a path
-
-pub reads_short : (n k : ℕ) (xs : List Read) → length xs ≡ 17 → k ≡ min n 17 → reads_of k xs ≡ reads_of n xs
-reads_short n k xs e f = ap (map read_of) (go (ℕ_discrete k n))
-  where
-    go : Dec (k ≡ n) → take k xs ≡ take n xs
-    go (yes d) = ap (λ (m : ℕ). take m xs) d
-    go (no d) = take_all k xs (omega arith) ∙ sym (take_all n xs (omega arith))
-
-pub reads_length : (n : ℕ) (xs : List Read) → length xs ≡ 17 → length (reads_of n xs) ≡ min n 17
-reads_length n xs e = length-map (take n xs) read_of ∙ length-take n xs ∙ ap (min n) e
 
 pub reads_most : (n : ℕ) (xs : List Read) → length (reads_of n xs) ≤ n
 reads_most n xs = omega (arith, length-map (take n xs) read_of, length-take n xs)
@@ -40,59 +30,9 @@ reads_most n xs = omega (arith, length-map (take n xs) read_of, length-take n xs
 pub reads_at : (n : ℕ) (xs : List Read) (i : ℕ) → i < n → get_or (reads_of n xs) i (read_of no_read) ≡ read_of (get_or xs i no_read)
 reads_at n xs i l = get_or-map read_of (take n xs) i no_read ∙ ap read_of (get_or-take n xs i no_read l)
 
-pub drop_read : (n : ℕ) (xs : List Read) (i : ℕ) {k : ℕ} → length xs ≡ 17 → k ≡ min n 17 → i < k
-    → drop i (reads_of k xs) ≡ read_of (get_or xs i no_read) ∷ drop (suc i) (reads_of k xs)
-drop_read n xs i {k} e f l =
-    drop-cons (reads_of k xs) i (read_of no_read) (omega (arith, reads_length k xs e)) ∙ ap (λ (r : PathRead). r ∷ drop (suc i) (reads_of k xs)) (reads_at k xs i l)
-
--- ---- what is asked of the newest message
-
-pub newest_in : (xs : List ℕ) (v : ℕ) → length xs ≡ 4 → v < 4 → get_or xs v 0 ≡ get_or xs v 255
-newest_in xs v e l = other_default xs v 0 255 (omega arith)
-
-pub newest_past : (xs : List ℕ) (v : ℕ) → length xs ≡ 4 → 4 ≤ v → 255 ≡ get_or xs v 255
-newest_past [] v e l = refl
-newest_past (x ∷ xs) zero e l = absurd (omega arith)
-newest_past (x ∷ xs) (suc v) e l = past xs v (omega arith)
-  where
-    past : (ys : List ℕ) (w : ℕ) → length ys ≤ w → 255 ≡ get_or ys w 255
-    past [] w m = refl
-    past (y ∷ ys) zero m = absurd (omega arith)
-    past (y ∷ ys) (suc w) m = past ys w (omega arith)
-
-pub newest_set : (xs : List ℕ) (x v : ℕ) → length xs ≡ 4 → x < 4 → newest_of (set xs x v) ≡ put (newest_of xs) x (records.asked v)
-newest_set xs x v e l = fun_ext (λ w. elim (ℕ_discrete w x) [
-  | yes d ↦ ap (λ (k : ℕ). records.asked (get_or (set xs x v) k 255)) d ∙ ap records.asked (get_or-set_same xs x v 255 (omega arith))
-      ∙ sym (ap (λ (b : Bool). cond b (records.asked v) (newest_of xs w)) (eq-eqb w x d))
-  | no d ↦ ap records.asked (get_or-set_other xs x w v 255 d) ∙ sym (ap (λ (b : Bool). cond b (records.asked v) (newest_of xs w)) (ne_eqb w x d))
-])
-
-module _ (newest : List ℕ) (r : Read) (o : r.own ≡ false) {u : ℕ} (e : u ≡ get_or newest r.variable 255) where
-  pub asks_none : u ≡ 255 → false ≡ asked (newest_of newest) (read_of r)
-  asks_none f = rw o (sym (ap (λ (x : Option ℕ). asks_for x r.value) (asked_any {x = get_or newest r.variable 255} (sym e ∙ f))))
-
-  pub asks_some : u ≢ 255 → eqb u r.value ≡ asked (newest_of newest) (read_of r)
-  asks_some d = rw o (ap (λ (k : ℕ). eqb k r.value) e ∙ sym (ap (λ (x : Option ℕ). asks_for x r.value) (asked_value {x = get_or newest r.variable 255} (λ f. d (e ∙ f)))))
-
-pub own_unasked : (newest : ℕ → Option ℕ) (r : Read) → r.own ≡ true → false ≡ asked newest (read_of r)
-own_unasked newest r o = rw o refl
-
--- ---- equal reads
-
-module _ (r s : Read) where
-  pub other_variable : r.variable ≢ s.variable → false ≡ same_read (read_of r) (read_of s)
-  other_variable d = rw (ne_eqb r.variable s.variable d) refl
-
-  module _ (e : r.variable ≡ s.variable) where
-    pub other_value : r.value ≢ s.value → false ≡ same_read (read_of r) (read_of s)
-    other_value d = rw (eq-eqb r.variable s.variable e, ne_eqb r.value s.value d) refl
-
-    module _ (f : r.value ≡ s.value) where
-      pub own_goes : r.own ≡ true → s.own ≡ same_read (read_of r) (read_of s)
-      own_goes o = rw (eq-eqb r.variable s.variable e, eq-eqb r.value s.value f, o) refl
-
-      pub goes : r.own ≡ false → true ≡ same_read (read_of r) (read_of s)
-      goes o = rw (eq-eqb r.variable s.variable e, eq-eqb r.value s.value f, o) refl
+pub drop_read : (n : ℕ) (xs : List Read) (i : ℕ) → i < n → i < length (reads_of n xs)
+    → drop i (reads_of n xs) ≡ read_of (get_or xs i no_read) ∷ drop (suc i) (reads_of n xs)
+drop_read n xs i l m = drop-cons (reads_of n xs) i (read_of no_read) m ∙ ap (λ (r : PathRead). r ∷ drop (suc i) (reads_of n xs)) (reads_at n xs i l)
 
 -- ---- a test of every member, from a place on
 
@@ -104,9 +44,6 @@ module _ {A : Type 0} (Q : A → Bool) (d : A) (xs : List A) (i : ℕ) where
   pub every_fails : i < length xs → Q (get_or xs i d) ≡ false → false ≡ every Q (drop i xs)
   every_fails l e = sym (ap (every Q) (drop-cons xs i d l) ∙ ap (λ (b : Bool). elim b [ true ↦ every Q (drop (suc i) xs) | false ↦ false ]) e)
 
-  pub every_past : length xs ≤ i → true ≡ every Q (drop i xs)
-  every_past l = ap (every Q) (sym (drop_of_length-le xs l))
-
 -- ---- within
 
 module _ (newest : ℕ → Option ℕ) (d : PathRead) (ss rs : List PathRead) where
@@ -115,9 +52,6 @@ module _ (newest : ℕ → Option ℕ) (d : PathRead) (ss rs : List PathRead) wh
     pub left : i ≤ length rs
     pub right : j ≤ length ss
     pub same : path_within newest (drop j ss) (drop i rs) ≡ path_within newest ss rs
-
-  pub followed_begin : Followed 0 0
-  followed_begin = record { left = omega arith; right = omega arith; same = refl }
 
   module _ {i j : ℕ} (w : Followed i j) where
     split : i < length rs → j < length ss → (b : Bool) → same_read (get_or rs i d) (get_or ss j d) ≡ b
@@ -140,9 +74,6 @@ module _ (newest : ℕ → Option ℕ) (d : PathRead) (ss rs : List PathRead) wh
     pub followed_all : length rs ≤ i → j < length ss → true ≡ path_within newest ss rs
     followed_all a b = sym (ap₂ (path_within newest) (drop-cons ss j d b) (drop_of_length-le rs a)) ∙ w.same
 
-    pub followed_end : length ss ≤ j → every (asked newest) (drop i rs) ≡ path_within newest ss rs
-    followed_end b = ap (λ (us : List PathRead). path_within newest us (drop i rs)) (sym (drop_of_length-le ss b)) ∙ w.same
-
 -- ---- joining
 
 abbrev pub joined_after : Option (ℕ → Option ℕ) → List PathRead → Option (ℕ → Option ℕ)
@@ -162,40 +93,12 @@ joined_append f (r ∷ rs) ss = go r.own refl (joined_append (put f r.variable (
     go true o e = rw o refl
     go false o e = rw o (two (agrees (f r.variable) r.value) e)
 
-module _ (f g : ℕ → Option ℕ) {t : Bool} (rs : List PathRead) where
-  pub joined_on : (ss : List PathRead) → given t g ≡ joined f rs → t ≡ true → joined g ss ≡ joined f (rs ++ ss)
-  joined_on ss e h = sym (joined_append f rs ss ∙ ap (λ (o : Option (ℕ → Option ℕ)). joined_after o ss) (sym e ∙ ap (λ (b : Bool). given b g) h))
+module _ (f : ℕ → Option ℕ) (rs ss : List PathRead) where
+  pub joined_on : {g : ℕ → Option ℕ} → some g ≡ joined f rs → joined g ss ≡ joined f (rs ++ ss)
+  joined_on e = sym (joined_append f rs ss ∙ ap (λ (o : Option (ℕ → Option ℕ)). joined_after o ss) (sym e))
 
-  pub joined_stops : (ss : List PathRead) → given t g ≡ joined f rs → t ≡ false → none ≡ joined f (rs ++ ss)
-  joined_stops ss e h = sym (joined_append f rs ss ∙ ap (λ (o : Option (ℕ → Option ℕ)). joined_after o ss) (sym e ∙ ap (λ (b : Bool). given b g) h))
-
-module _ (newest : List ℕ) (r : Read) where
-  pub own_unjoined : r.own ≡ true → none ≡ joined (newest_of newest) (read_of r ∷ [])
-  own_unjoined o = rw o refl
-
-  module _ (o : r.own ≡ false) (l : length newest ≡ 4) (w : FineRead r) {u : ℕ} (e : u ≡ get_or newest r.variable 255) where
-    one_joined : {b : Bool} → agrees (newest_of newest r.variable) r.value ≡ b → given b (newest_of (set newest r.variable r.value)) ≡ joined (newest_of newest) (read_of r ∷ [])
-    one_joined {b} h =
-        ap (given b) is ∙ same b
-        ∙ sym (ap (λ (t : Bool). elim t [ true ↦ none | false ↦ elim (agrees (newest_of newest r.variable) r.value) [ true ↦ some (put (newest_of newest) r.variable (some r.value)) | false ↦ none ] ]) o
-        ∙ ap (λ (t : Bool). elim t [ true ↦ some (put (newest_of newest) r.variable (some r.value)) | false ↦ none ]) h)
-      where
-        is : newest_of (set newest r.variable r.value) ≡ put (newest_of newest) r.variable (some r.value)
-        is = newest_set newest r.variable r.value l w.variable
-            ∙ ap (put (newest_of newest) r.variable) (asked_value {x = r.value} (λ f. omega (arith, w.value)))
-
-        same : (b : Bool) → given b (put (newest_of newest) r.variable (some r.value))
-            ≡ elim b [ true ↦ some (put (newest_of newest) r.variable (some r.value)) | false ↦ none ]
-        same true = refl
-        same false = refl
-
-    pub free_joined : u ≡ 255 → some (newest_of (set newest r.variable r.value)) ≡ joined (newest_of newest) (read_of r ∷ [])
-    free_joined f = one_joined {b = true} (ap (λ (x : Option ℕ). agrees x r.value) (asked_any {x = get_or newest r.variable 255} (sym e ∙ f)))
-
-    pub asked_joined : u ≢ 255 → given (eqb u r.value) (newest_of (set newest r.variable r.value)) ≡ joined (newest_of newest) (read_of r ∷ [])
-    asked_joined d =
-        one_joined {b = eqb u r.value}
-        (ap (λ (x : Option ℕ). agrees x r.value) (asked_value {x = get_or newest r.variable 255} (λ f. d (e ∙ f))) ∙ ap (λ (k : ℕ). eqb k r.value) (sym e))
+  pub joined_stops : none ≡ joined f rs → none ≡ joined f (rs ++ ss)
+  joined_stops e = sym (joined_append f rs ss ∙ ap (λ (o : Option (ℕ → Option ℕ)). joined_after o ss) (sym e))
 
 -- ---- places
 
@@ -205,9 +108,6 @@ module _ (x : ℕ) (d : PathRead) where
 
   pub place_here : (rs : List PathRead) (i : ℕ) → i < length rs → (get_or rs i d).variable ≡ x → place_of x (drop i rs) ≡ 0
   place_here rs i l e = ap (place_of x) (drop-cons rs i d l) ∙ ap (λ (b : Bool). cond b 0 (suc (place_of x (drop (suc i) rs)))) (eq-eqb (get_or rs i d).variable x e)
-
-  pub place_past : (rs : List PathRead) (i : ℕ) → length rs ≤ i → place_of x (drop i rs) ≡ 0
-  place_past rs i l = ap (place_of x) (drop_of_length-le rs l)
 
   own_step : (o v : Bool) (u : ℕ) (z : Option ℕ) → cond (o && v) (some u) z ≡ cond o (cond v (some u) z) z
   own_step true v u z = refl
@@ -224,9 +124,6 @@ module _ (x : ℕ) (d : PathRead) where
       simp unary_clauses (sym (ap (first_own x) (drop-cons rs i d l)
       ∙ sym (own_step (get_or rs i d).own (eqb (get_or rs i d).variable x) (get_or rs i d).value (first_own x (drop (suc i) rs)))
       ∙ ap (λ (b : Bool). cond b (some (get_or rs i d).value) (first_own x (drop (suc i) rs))) e))
-
-  pub first_past : (rs : List PathRead) (i : ℕ) → length rs ≤ i → none ≡ first_own x (drop i rs)
-  first_past rs i l = ap (first_own x) (sym (drop_of_length-le rs l))
 
   pub starts_past : (rs : List PathRead) (c : ℕ) → length rs ≤ c → true ≡ starts_at x rs c
   starts_past [] c l = refl
@@ -277,28 +174,17 @@ module _ (d : Read) where
     pub kept : (j : ℕ) → j ≤ at → get_or ys j d ≡ get_or xs j d
     pub moved : (j : ℕ) → at ≤ j → j < i → get_or ys (suc j) d ≡ get_or xs j d
 
-  pub shift_begin : (xs : List Read) (at : ℕ) → length xs ≡ 17 → Shifted xs xs at at
-  shift_begin xs at e = record { room = e; from = omega arith; kept = λ j l. refl; moved = λ j a b. absurd (omega arith) }
-
-  pub shift_next : {xs ys : List Read} {at i : ℕ} → Shifted xs ys at i → i < 16 → Shifted xs (set ys (i + 1) (get_or xs i d)) at (i + 1)
-  shift_next {xs} {ys} {at} {i} w l =
-      simp unary_clauses (record {
-        room = length-set ys (suc i) (get_or xs i d) ∙ w.room;
-        from = omega (arith, w.from);
-        kept = λ j a. get_or-set_other ys (suc i) j (get_or xs i d) d (λ e. omega (arith, w.from)) ∙ w.kept j a;
-        moved = λ j a b. elim (ℕ_discrete j i) [
-          | yes e ↦ ap (λ (k : ℕ). get_or (set ys (suc i) (get_or xs i d)) (suc k) d) e
-              ∙ get_or-set_same ys (suc i) (get_or xs i d) d (omega (arith, w.room)) ∙ ap (λ (k : ℕ). get_or xs k d) (sym e)
-          | no n ↦ get_or-set_other ys (suc i) (suc j) (get_or xs i d) d (λ e. n (omega arith)) ∙ w.moved j a (omega arith)
-        ];
-      })
+  pub copied : {xs ys : List Read} {at n : ℕ} → length ys ≡ 17 → CopiedTo xs ys at (at + 1) (n - at) → SameBelow xs ys (at + 1) → at ≤ n → Shifted xs ys at n
+  copied {xs} {ys} {at} {n} e moved below l =
+      record {
+        room = e;
+        from = l;
+        kept = λ j a. below j d (omega arith);
+        moved = λ j a b. moved (suc j) d (omega arith) (omega arith) ∙ ap (λ (k : ℕ). get_or xs k d) (let z : at + (suc j - (at + 1)) ≡ j = omega arith in z);
+      }
 
   same_reads : (n : ℕ) (xs ys : List Read) → n ≤ length xs → n ≤ length ys → ((j : ℕ) → j < n → get_or ys j d ≡ get_or xs j d) → reads_of n ys ≡ reads_of n xs
-  same_reads zero xs ys l m f = refl
-  same_reads (suc n) [] ys l m f = absurd (omega arith)
-  same_reads (suc n) (x ∷ xs) [] l m f = absurd (omega arith)
-  same_reads (suc n) (x ∷ xs) (y ∷ ys) l m f =
-      ap₂ {A = Read} {B = List PathRead} (λ r rs. read_of r ∷ rs) (f 0 (omega arith)) (same_reads n xs ys (omega arith) (omega arith) (λ j k. f (suc j) (omega arith)))
+  same_reads n xs ys l m f = ap (map read_of) (same_take d n xs ys l m f)
 
   inserted : (at n : ℕ) (xs ys : List Read) (r : Read) → at ≤ n → n ≤ length xs → suc n ≤ length ys → ((j : ℕ) → j < at → get_or ys j d ≡ get_or xs j d) → get_or ys at d ≡ r
       → ((j : ℕ) → at ≤ j → j < n → get_or ys (suc j) d ≡ get_or xs j d) → reads_of (suc n) ys ≡ take at (reads_of n xs) ++ (read_of r ∷ drop at (reads_of n xs))

@@ -7,14 +7,14 @@ use mathlib.Core.List.{List, [], ◌∷◌}
 use native.Mathlib.Omega.{arith}
 use native.Mathlib.Decide.{ℕ_discrete}
 use lib.ListN.{take, drop}
-use lib.Dec.{T, eqb}
+use lib.Dec.{eqb}
+use Rattle.std.specs.Prelude.{Some, None}
 use Rattle.file_records.specs.declared.program.Shape.{Shape}
 use Rattle.pattern_theory.specs.Patterns as patterns
 use Rattle.pattern_theory.specs.Patterns.{PathRead}
 use Rattle.pattern_theory.specs.Within.{covers}
 use Rattle.pattern_theory.specs.Predecessors.{agrees, Cut, behind, own_cut, with_clue, with_path, with_paths, with_newest}
 use Rattle.pattern_step.specs.declared.patterns.Pattern.{Pattern}
-use Rattle.pattern_step.specs.declared.editing.Before.{Before}
 use Rattle.pattern_step.specs.Meaning.{not_own, place_of, Stands, MessageBy, no_message_lem, message}
 use Rattle.pattern_step.proofs.EditLaws.{put_same, put_other, wider}
 
@@ -32,15 +32,13 @@ own_cut_lem x (r ∷ rs) = go (eqb r.variable x) (own_cut_lem x rs)
     go true h = refl
     go false h = ap (behind r) h
 
-module _ {s : Shape} {r : Before} {e : patterns.Pattern} {to : (ℕ → Option ℕ) → (ℕ → List PathRead) → List patterns.Pattern} where
-  pub no_given : {xs : List patterns.Pattern} → MessageBy s r e to xs → r.there ≡ false → [] ≡ xs
-  no_given (no_message_lem h) d = refl
-  no_given (message newest fronts h w) d = absurd (subst T (sym h ∙ d) tt)
+module _ {s : Shape} {e : patterns.Pattern} {to : (ℕ → Option ℕ) → (ℕ → List PathRead) → List patterns.Pattern} where
+  pub no_given : {xs : List patterns.Pattern} → MessageBy s e to None xs → [] ≡ xs
+  no_given no_message_lem = refl
 
-  pub given_one : {xs : List patterns.Pattern} → MessageBy s r e to xs → r.there ≡ true
-      → (newest : ℕ → Option ℕ) × (fronts : ℕ → List PathRead) × Stands s 8 16 r.pattern (with_paths (with_newest e newest) fronts) × (to newest fronts ≡ xs)
-  given_one (no_message_lem h) d = absurd (subst T (sym d ∙ h) tt)
-  given_one (message newest fronts h w) d = (newest, fronts, w, refl)
+  pub given_one : {a : Pattern} {xs : List patterns.Pattern} → MessageBy s e to (Some a) xs
+      → (newest : ℕ → Option ℕ) × (fronts : ℕ → List PathRead) × Stands s 8 16 a (with_paths (with_newest e newest) fronts) × (to newest fronts ≡ xs)
+  given_one (message newest fronts w) = (newest, fronts, w, refl)
 
 pub same_path : {s : Shape} {k l : ℕ} {a : Pattern} {e : patterns.Pattern} (p : ℕ) → Stands s k l a e → Stands s k l a (with_path e p (e.path p))
 same_path {s} {k} {l} {a} {e} p w =

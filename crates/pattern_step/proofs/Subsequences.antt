@@ -16,9 +16,6 @@ module _ {A : Type 0} (R : A → A → Bool) (d : A) (xs ys zs : List A) where
     pub right : j ≤ length ys
     pub same : subsequence R (drop i xs) (drop j ys ++ zs) ≡ subsequence R xs (ys ++ zs)
 
-  pub placed_begin : Placed 0 0
-  placed_begin = record { left = omega arith; right = omega arith; same = refl }
-
   module _ {i j : ℕ} (w : Placed i j) where
     step : (b : Bool) (x y : A) (us vs : List A) → R x y ≡ b → subsequence R (x ∷ us) (y ∷ vs) ≡ cond b (subsequence R us vs) (subsequence R (x ∷ us) vs)
     step true x y us vs e = ap (λ (b : Bool). elim b [ true ↦ subsequence R us vs | false ↦ subsequence R (x ∷ us) vs ]) e
@@ -43,9 +40,6 @@ module _ {A : Type 0} (R : A → A → Bool) (d : A) (xs ys zs : List A) where
           same = ap (λ (us : List A). subsequence R us (drop (suc j) ys ++ zs)) (drop-cons xs i d a)
               ∙ sym (step false (get_or xs i d) (get_or ys j d) (drop (suc i) xs) (drop (suc j) ys ++ zs) e) ∙ sym (split a b) ∙ w.same;
         })
-
-    pub placed_all : length xs ≤ i → true ≡ subsequence R xs (ys ++ zs)
-    placed_all a = ap (λ (us : List A). subsequence R us (drop j ys ++ zs)) (sym (drop_of_length-le xs a)) ∙ w.same
 
     placed_end : length ys ≤ j → subsequence R (drop i xs) zs ≡ subsequence R xs (ys ++ zs)
     placed_end b = ap (λ (vs : List A). subsequence R (drop i xs) (vs ++ zs)) (sym (drop_of_length-le ys b)) ∙ w.same

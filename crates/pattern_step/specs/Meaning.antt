@@ -1,5 +1,6 @@
 -- What the code's clues, paths and patterns stand for. No statement rests on these definitions.
-use Rattle.std.specs.Prelude.{ℕ, zero, suc, ◌+◌, ◌*◌, ◌<◌, ◌≤◌, min, ◌≡◌, Bool, true, false, cond, List, [], ◌∷◌, ◌++◌, map, get_or, take, drop, eqb}
+use Rattle.std.specs.Prelude as std
+use Rattle.std.specs.Prelude.{ℕ, zero, suc, ◌+◌, ◌*◌, ◌<◌, ◌≤◌, min, ◌≡◌, Bool, true, false, cond, List, [], ◌∷◌, ◌++◌, map, get_or, take, drop, eqb, Some, None, IfSome}
 use Rattle.std.proofs.Math.Option.{Option, none, some}
 use Rattle.machine_pws.specs.Machine.{all_below}
 use Rattle.file_records.specs.declared.program.Shape.{Shape}
@@ -9,34 +10,46 @@ use Rattle.pattern_theory.specs.Within.{clue_within}
 use Rattle.pattern_theory.specs.Predecessors.{can_empty, with_newest, with_paths}
 use Rattle.pattern_reading.specs.Records.{asked}
 use Rattle.pattern_step.specs.declared.clues.Clue.{Clue}
-use Rattle.pattern_step.specs.declared.clues.ClueBefore.{ClueBefore}
+use Rattle.pattern_step.specs.declared.clues.Clue.TheVariants.{Contains, Ends, Empty}
+use Rattle.pattern_step.specs.declared.clues.Word.{Word}
 use Rattle.pattern_step.specs.declared.paths.Read.{Read}
 use Rattle.pattern_step.specs.declared.paths.PathReads.{PathReads}
 use Rattle.pattern_step.specs.declared.patterns.Pattern.{Pattern}
-use Rattle.pattern_step.specs.declared.editing.Before.{Before}
+
+-- ---- what may be absent
+
+abbrev pub given : {A B : Type 0} → (A → B) → std.Option A → Option B
+given f None = none
+given f (Some x) = some (f x)
 
 -- ---- clues
 
-abbrev pub word_of : Clue → List (Option ℕ)
-word_of c = map asked (take c.count c.values)
+abbrev pub word_of : Word → List (Option ℕ)
+word_of w = map asked (take w.count w.values)
 
 abbrev pub clue_of : Clue → patterns.Clue
-clue_of c = cond (eqb c.kind 0) (contains (word_of c)) (cond (eqb c.kind 1) (ends (word_of c) c.last) empty)
+clue_of (Contains w) = contains (word_of w)
+clue_of (Ends w v) = ends (word_of w) v
+clue_of Empty = empty
 
-abbrev pub end_of : Bool → ℕ → List (Option ℕ)
-end_of end v = cond end (some v ∷ []) []
+-- how many values its word has
+abbrev pub count_of : Clue → ℕ
+count_of (Contains w) = w.count
+count_of (Ends w v) = w.count
+count_of Empty = 0
 
-abbrev pub given : {A : Type 0} → Bool → A → Option A
-given there x = cond there (some x) none
+abbrev pub end_of : std.Option ℕ → List (Option ℕ)
+end_of None = []
+end_of (Some v) = some v ∷ []
 
 -- r is what there is, if there is anything, and has at most n values
-pub record ClueGiven (r : ClueBefore) (k : Option patterns.Clue) (n : ℕ) : Type 0 where
-  pub clue : given r.there (clue_of r.clue) ≡ k
-  pub most : r.clue.count ≤ n
+pub record ClueGiven (r : std.Option Clue) (k : Option patterns.Clue) (n : ℕ) : Type 0 where
+  pub clue : given clue_of r ≡ k
+  pub most : IfSome r (λ c. count_of c ≤ n)
 
 pub record ClueFor (r : Clue) (k : patterns.Clue) (n : ℕ) : Type 0 where
   pub clue : clue_of r ≡ k
-  pub most : r.count ≤ n
+  pub most : count_of r ≤ n
 
 -- ---- what is asked of the newest message
 
@@ -91,7 +104,7 @@ pub record Inserted (r path : PathReads) (at : ℕ) (read : Read) : Type 0 where
 -- ---- patterns
 
 abbrev pub no_clue : Clue
-no_clue = record { kind = 0; count = 0; last = 0; values = [] }
+no_clue = Empty
 
 abbrev pub no_path : PathReads
 no_path = record { reads = []; count = 0 }
@@ -117,16 +130,16 @@ pub record Stands (s : Shape) (k l : ℕ) (a : Pattern) (e : patterns.Pattern) :
   pub clue : (p v : ℕ) → p < s.processes → v < s.variables → clue_at a.clues p v ≡ e.clue p v
   pub newest : newest_of a.newest ≡ e.newest
   pub path : (p : ℕ) → p < s.processes → path_at a.paths p ≡ e.path p
-  pub words : (i : ℕ) → i < 16 → (get_or a.clues i no_clue).count ≤ k
+  pub words : (i : ℕ) → i < 16 → count_of (get_or a.clues i no_clue) ≤ k
   pub lengths : (p : ℕ) → p < 4 → (get_or a.paths p no_path).count ≤ l
   pub fine : (p : ℕ) → p < 4 → FineReads (get_or a.paths p no_path)
 
 -- r is the one pattern of a list, or the list has none
-pub data GivenBy (s : Shape) (r : Before) : List patterns.Pattern → Type 0 where
-  absent : r.there ≡ false → GivenBy s r []
-  present : {b : patterns.Pattern} → r.there ≡ true → Stands s 9 17 r.pattern b → GivenBy s r (b ∷ [])
+pub data GivenBy (s : Shape) : std.Option Pattern → List patterns.Pattern → Type 0 where
+  absent : GivenBy s None []
+  present : {a : Pattern} {b : patterns.Pattern} → Stands s 9 17 a b → GivenBy s (Some a) (b ∷ [])
 
 -- r is the pattern e with another newest message and other paths, of which a list is made; or the list is empty
-pub data MessageBy (s : Shape) (r : Before) (e : patterns.Pattern) (to : (ℕ → Option ℕ) → (ℕ → List PathRead) → List patterns.Pattern) : List patterns.Pattern → Type 0 where
-  no_message_lem : r.there ≡ false → MessageBy s r e to []
-  message : (newest : ℕ → Option ℕ) (fronts : ℕ → List PathRead) → r.there ≡ true → Stands s 8 16 r.pattern (with_paths (with_newest e newest) fronts) → MessageBy s r e to (to newest fronts)
+pub data MessageBy (s : Shape) (e : patterns.Pattern) (to : (ℕ → Option ℕ) → (ℕ → List PathRead) → List patterns.Pattern) : std.Option Pattern → List patterns.Pattern → Type 0 where
+  no_message_lem : MessageBy s e to None []
+  message : {a : Pattern} (newest : ℕ → Option ℕ) (fronts : ℕ → List PathRead) → Stands s 8 16 a (with_paths (with_newest e newest) fronts) → MessageBy s e to (Some a) (to newest fronts)

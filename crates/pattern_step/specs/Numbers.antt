@@ -1,5 +1,5 @@
 -- The predecessors of a pattern by number, as the code makes them: each number gives one pattern or none. No statement rests on these definitions.
-use Rattle.std.specs.Prelude.{ℕ, zero, suc, ◌*◌, ◌/◌, ◌%◌, ◌<◌, ◌≡◌, Bool, cond, ◌&&◌, not, List, [], ◌∷◌, ◌++◌, map, length, take, drop, eqb, leb}
+use Rattle.std.specs.Prelude.{ℕ, zero, suc, ◌*◌, ◌/◌, ◌%◌, ◌<◌, ◌≤◌, ◌≡◌, Bool, cond, ◌&&◌, not, List, [], ◌∷◌, ◌++◌, map, length, take, drop, eqb, leb}
 use Rattle.std.proofs.Math.Option.{Option, none, some}
 use Rattle.machine_pws.specs.declared.Operation.{Operation}
 use Rattle.machine_pws.specs.declared.Operation.TheVariants.{Nop, Read, Write, Mfence, Sfence, Arw}
@@ -12,7 +12,9 @@ use Rattle.list_theory.specs.Lists.{for_below, for_each, every}
 use Rattle.pattern_theory.specs.Patterns.{PathRead, Pattern}
 use Rattle.pattern_theory.specs.Patterns.{empty}
 use Rattle.pattern_theory.specs.Predecessors.{provided, from_option, agrees, can_empty, waiting, in_front, first_own, Cut, own_cut, joined, with_state, with_clue, with_newest, with_path, with_paths, before_operation, before}
-use Rattle.pattern_step.specs.Meaning.{place_of, starts_at}
+use Rattle.file_records.specs.declared.program.Shape as program
+use Rattle.pattern_step.specs.declared.patterns.Pattern as code
+use Rattle.pattern_step.specs.Meaning.{place_of, starts_at, Stands}
 
 -- ---- reading a message: the read behind the first n reads of the path, own but in front
 
@@ -30,6 +32,11 @@ read_numbered x v path n = elim (first_own x path) [
 -- how many places there are but the first; of p's path one alone
 abbrev pub places_more : (ℕ → List PathRead) → ℕ → ℕ → ℕ
 places_more path p q = cond (eqb q p) 0 (length (path q))
+
+-- n is how many the path of q has
+pub record PlacesMore (s : program.Shape) (a : code.Pattern) (p q n : ℕ) : Type 0 where
+  pub here : (k l : ℕ) (e : Pattern) → Stands s k l a e → q < s.processes → n ≡ places_more e.path p q
+  pub past : s.processes ≤ q → n ≡ 0
 
 -- how many numbers there are for the processes below n
 abbrev pub many : (ℕ → ℕ) → ℕ → ℕ

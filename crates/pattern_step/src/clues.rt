@@ -1,235 +1,185 @@
 // What a queue is asked for.
-ghost use Rattle.std.specs.Prelude.{◌≡◌, ◌∷◌, ◌++◌, ℕ, ◌+◌, ◌≤◌, min};
+ghost use Rattle.std.specs.Prelude.{◌≡◌, [], ◌∷◌, ◌++◌, ◌≤◌, min};
 ghost use Rattle.std.proofs.Math.Option.{some};
 ghost use Rattle.pattern_theory.specs.Within.{covers, subsequence, clue_within};
 ghost use Rattle.pattern_theory.specs.Predecessors.{can_empty, without_end, before_write, waiting, in_front};
 ghost use Rattle.pattern_reading.specs.Records.{asked};
-ghost use Rattle.pattern_step.specs.Meaning.{word_of, clue_of, end_of, ClueGiven, ClueFor};
+ghost use Rattle.pattern_step.specs.Meaning.{word_of, clue_of, count_of, end_of, ClueGiven, ClueFor};
 
-use base::bytes::{least, wide};
-
-// A word of values, 255 for any. Kind 0: the queue contains it; 1: and has `last` as its newest value; else: the queue is empty.
-// There is room for one value more than a pattern of a file has.
+// A word of values, 255 for any. There is room for one value more than a pattern of a file has.
 #[derive(Clone, Copy)]
-pub struct Clue {
-    pub kind: u8,
+pub struct Word {
     pub count: u8,
-    pub last: u8,
     pub values: [u8; 9],
 }
 
-// A clue, if it can be.
 #[derive(Clone, Copy)]
-pub struct ClueBefore {
-    pub there: bool,
-    pub clue: Clue,
-}
-
-// How many values the word has.
-fn size(clue: Clue) -> usize
-    ensures { result ≡ min clue.count 9 }
-{
-    least(wide(clue.count), 9)
+pub enum Clue {
+    // The queue contains the word.
+    Contains(Word),
+    // It has the word, and then `last` as its newest value.
+    Ends { word: Word, last: u8 },
+    // It is empty.
+    Empty,
 }
 
 // Does x of one word go to y of another?
 pub(crate) fn goes_to(x: u8, y: u8) -> bool
     ensures { (result ≡ covers (asked x) (asked y)) × (result ≡ covers (asked x) (some y)) }
 {
-    if x == 255 {
-        return true;
-    }
-    x == y
+    x == 255 || x == y
 }
 
-// Is the word of b a subsequence of that of a, or, with its end, of that and then a's last value?
-fn word_within(a: Clue, end: bool, b: Clue) -> bool
-    ensures { result ≡ subsequence covers (word_of b) (word_of a ++ end_of end a.last) }
+// Is the word of b a subsequence of that of a, or, with an end, of that and then the end?
+fn word_within(a: Word, end: Option<u8>, b: Word) -> bool
+    ensures { result ≡ subsequence covers (word_of b) (word_of a ++ end_of end) }
 {
-    let n = size(a);
-    let m = size(b);
+    let n = a.len();
+    let m = b.len();
     let mut i = 0;
-    let mut j = 0;
-    while j < n {
+    for j in 0..n {
         if m <= i {
             return true;
         }
         if goes_to(b.values[i], a.values[j]) {
             i += 1;
-            j += 1;
-        } else {
-            j += 1;
         }
     }
     if m <= i {
         return true;
     }
-    if !end {
+    let Some(last) = end else {
         return false;
-    }
-    if i + 1 < m {
-        return false;
-    }
-    goes_to(b.values[i], a.last)
+    };
+    i + 1 == m && goes_to(b.values[i], last)
 }
 
-pub(crate) fn clue_within(a: Clue, b: Clue) -> bool
-    ensures { result ≡ clue_within (clue_of a) (clue_of b) }
-{
-    if b.kind == 0 {
-        if b.count == 0 {
-            return true;
+impl Word {
+    pub(crate) fn new() -> Word
+        ensures { (word_of result ≡ []) × (result.count ≡ 0) }
+    {
+        Word {
+            count: 0,
+            values: [0; 9],
         }
-        if a.kind == 0 {
-            return word_within(a, false, b);
+    }
+
+    fn len(self) -> usize
+        ensures { result ≡ min self.count 9 }
+    {
+        usize::from(self.count).min(9)
+    }
+
+    // Without its last value, if that is v or any.
+    fn without_end(self, v: u8) -> Word
+        ensures { self.count ≤ 9 → (word_of result ≡ without_end v (word_of self)) × (result.count ≤ self.count) }
+    {
+        let n = self.len();
+        if n == 0 {
+            return self;
         }
-        if a.kind == 1 {
-            return word_within(a, true, b);
+        if goes_to(self.values[n - 1], v) {
+            Word {
+                count: self.count - 1,
+                ..self
+            }
+        } else {
+            self
         }
-        return false;
     }
-    if b.kind == 1 {
-        if a.kind != 1 {
-            return false;
+
+    // With one value more, the oldest.
+    fn with_front(self, u: u8) -> Word
+        ensures { self.count ≤ 8 → (word_of result ≡ asked u ∷ word_of self) × (result.count ≤ 9) }
+    {
+        if 9 <= self.count {
+            return self;
         }
-        if a.last != b.last {
-            return false;
+        let mut values = self.values;
+        values.copy_within(0..8, 1);
+        values[0] = u;
+        Word {
+            count: self.count + 1,
+            values,
         }
-        return word_within(a, false, b);
-    }
-    if a.kind == 0 {
-        return false;
-    }
-    a.kind != 1
-}
-
-pub(crate) fn can_empty(clue: Clue) -> bool
-    ensures { result ≡ can_empty (clue_of clue) }
-{
-    if clue.kind == 0 {
-        return clue.count == 0;
-    }
-    clue.kind != 1
-}
-
-// ---- before a step
-
-// The word without its last value, if that is v or any.
-fn without_end(v: u8, clue: Clue) -> u8
-    ensures { clue.count ≤ 9 → ((k l : ℕ) → word_of (record { kind = k; count = result; last = l; values = clue.values }) ≡ without_end v (word_of clue)) × (result ≤ clue.count) }
-{
-    let n = clue.count;
-    if n == 0 {
-        return n;
-    }
-    if 9 < n {
-        return n;
-    }
-    if goes_to(clue.values[wide(n) - 1], v) {
-        n - 1
-    } else {
-        n
     }
 }
 
-pub(crate) fn before_write(v: u8, clue: Clue) -> ClueBefore
-    ensures { clue.count ≤ 9 → ClueGiven result (before_write v (clue_of clue)) clue.count }
-{
-    let kind = clue.kind;
-    let mut next = clue;
-    next.kind = 0;
-    if kind == 0 {
-        let n = without_end(v, clue);
-        next.count = n;
-        return ClueBefore {
-            there: true,
-            clue: next,
-        };
+impl Clue {
+    pub(crate) fn within(self, other: Clue) -> bool
+        ensures { result ≡ clue_within (clue_of self) (clue_of other) }
+    {
+        match (self, other) {
+            (Clue::Empty, _) => other.can_empty(),
+            (Clue::Contains(a), Clue::Contains(b)) => word_within(a, None, b),
+            (Clue::Ends { word, last }, Clue::Contains(b)) => word_within(word, Some(last), b),
+            (
+                Clue::Ends { word, last },
+                Clue::Ends {
+                    word: asked,
+                    last: end,
+                },
+            ) => last == end && word_within(word, None, asked),
+            _ => false,
+        }
     }
-    if kind == 1 {
-        return ClueBefore {
-            there: clue.last == v,
-            clue: next,
-        };
-    }
-    ClueBefore {
-        there: false,
-        clue: next,
-    }
-}
 
-// The clue where v is the newest waiting value.
-pub(crate) fn waiting(v: u8, clue: Clue) -> ClueBefore
-    ensures { clue.count ≤ 9 → ClueGiven result (waiting v (clue_of clue)) clue.count }
-{
-    let kind = clue.kind;
-    if kind == 0 {
-        let n = without_end(v, clue);
-        let mut next = clue;
-        next.kind = 1;
-        next.last = v;
-        next.count = n;
-        return ClueBefore {
-            there: true,
-            clue: next,
-        };
+    pub(crate) fn can_empty(self) -> bool
+        ensures { result ≡ can_empty (clue_of self) }
+    {
+        match self {
+            Clue::Contains(word) => word.count == 0,
+            Clue::Ends { .. } => false,
+            Clue::Empty => true,
+        }
     }
-    if kind == 1 {
-        return ClueBefore {
-            there: clue.last == v,
-            clue: clue,
-        };
-    }
-    ClueBefore {
-        there: false,
-        clue: clue,
-    }
-}
 
-// With u, or any value, in front of the word.
-pub(crate) fn in_front(u: u8, clue: Clue) -> Clue
-    ensures { clue.count ≤ 8 → ClueFor result (in_front (asked u) (clue_of clue)) 9 }
-{
-    let kind = clue.kind;
-    if kind == 0 {
-        return pushed(u, clue);
-    }
-    if kind == 1 {
-        return pushed(u, clue);
-    }
-    let none = [255u8; 9];
-    if u == 255 {
-        return Clue {
-            kind: 0,
-            count: 1,
-            last: 0,
-            values: none,
-        };
-    }
-    Clue {
-        kind: 1,
-        count: 0,
-        last: u,
-        values: none,
-    }
-}
+    // ---- before a step
 
-// With one value more, the oldest.
-fn pushed(u: u8, clue: Clue) -> Clue
-    ensures { clue.count ≤ 8 → (result.kind ≡ clue.kind) × (result.last ≡ clue.last) × (word_of result ≡ asked u ∷ word_of clue) × (result.count ≤ 9) }
-{
-    let n = clue.count;
-    if 9 <= n {
-        return clue;
+    pub(crate) fn before_write(self, v: u8) -> Option<Clue>
+        ensures { count_of self ≤ 9 → ClueGiven result (before_write v (clue_of self)) (count_of self) }
+    {
+        match self {
+            Clue::Contains(word) => Some(Clue::Contains(word.without_end(v))),
+            Clue::Ends { word, last } => (last == v).then_some(Clue::Contains(word)),
+            Clue::Empty => None,
+        }
     }
-    let old = clue.values;
-    let values = [
-        u, old[0], old[1], old[2], old[3], old[4], old[5], old[6], old[7],
-    ];
-    Clue {
-        kind: clue.kind,
-        count: n + 1,
-        last: clue.last,
-        values: values,
+
+    // The clue where v is the newest waiting value.
+    pub(crate) fn waiting(self, v: u8) -> Option<Clue>
+        ensures { count_of self ≤ 9 → ClueGiven result (waiting v (clue_of self)) (count_of self) }
+    {
+        match self {
+            Clue::Contains(word) => Some(Clue::Ends {
+                word: word.without_end(v),
+                last: v,
+            }),
+            Clue::Ends { last, .. } => (last == v).then_some(self),
+            Clue::Empty => None,
+        }
+    }
+
+    // With u, or any value, in front of the word.
+    pub(crate) fn in_front(self, u: u8) -> Clue
+        ensures { count_of self ≤ 8 → ClueFor result (in_front (asked u) (clue_of self)) 9 }
+    {
+        match self {
+            Clue::Contains(word) => Clue::Contains(word.with_front(u)),
+            Clue::Ends { word, last } => Clue::Ends {
+                word: word.with_front(u),
+                last,
+            },
+            Clue::Empty => {
+                if u == 255 {
+                    Clue::Contains(Word::new().with_front(u))
+                } else {
+                    Clue::Ends {
+                        word: Word::new(),
+                        last: u,
+                    }
+                }
+            }
+        }
     }
 }

@@ -1,4 +1,5 @@
 -- There is always one answer, and what kind 0 says.
+use Rattle.std.specs.Prelude.{Result, Ok, Err, ⊤}
 use Prim.Native.Nat.{ℕ, ◌≤◌}
 use mathlib.Core.Path.{◌≡◌, refl, sym, ap, ap₂, subst, ◌∙◌}
 use mathlib.Core.Bool.{Bool, true, false, ◌&&◌, not}
@@ -10,15 +11,13 @@ use Rattle.machine_pws.specs.declared.Step.TheVariants.{Take, Serialise, Update}
 use Rattle.machine_pws.specs.Program as pws
 use Rattle.base.specs.Bytes.{choose}
 use Rattle.file_records.specs.declared.program.Refusal.{Refusal}
-use Rattle.file_records.specs.declared.program.Checked.{Checked}
-use Rattle.file_records.specs.declared.program.Checked.TheVariants.{Fine, Refused}
 use Rattle.file_records.specs.declared.program.Program.{Program}
-use Rattle.file_records.specs.ProgramPart.{program_from, program_of, targets_of}
+use Rattle.file_records.specs.ProgramPart.{program_from, program_of, targets_of, whether, program_read}
 use Rattle.file_contents.specs.declared.evidence.Part.{Part}
 use Rattle.file_contents.specs.declared.evidence.Part.TheVariants.{InProgram, InEvidence}
 use Rattle.file_contents.specs.EvidencePart.{entries_allowed}
 use Rattle.file_contents.specs.Reading.{Input, evidence_at}
-use Rattle.file_again.specs.Offending.{end_of_file, is_of_record, offending_by}
+use Rattle.file_again.specs.Offending.{end_of_file, is_of_record}
 use Rattle.file_again.proofs.OffendingLaws.{of_other}
 use Rattle.list_theory.specs.Verdict as lists
 use Rattle.verdict.specs.declared.answer.Answer.{Answer}
@@ -53,11 +52,11 @@ module _ (x : Input) (area : ℕ) where
   -- ---- kind 0
 
   abbrev p : Program
-  p = (program_from x.alone x.code 0).program
+  p = program_read (program_from x.alone x.code 0)
 
   -- what was read is of the program part that was found fine
   pub record Whole (P : pws.Program) (ts : List (ℕ → ℕ)) : Type 0 where
-    pub fine : (program_from x.alone x.code 0).answer ≡ Fine
+    pub fine : whether (program_from x.alone x.code 0) ≡ Ok tt
     pub program : program_of x.code p ≡ P
     pub targets : targets_of x.code p ≡ ts
 
@@ -71,19 +70,19 @@ module _ (x : Input) (area : ℕ) where
       evidence : PatternsRead
       evidence = evidence_from (entries_allowed area) x.file (evidence_at x p) p
 
-      told : (program_from x.alone x.code 0).answer ≡ Fine → (r : PatternsRead) → evidence_read x p r ≡ patterns P ts ps → Whole P ts
+      told : whether (program_from x.alone x.code 0) ≡ Ok tt → (r : PatternsRead) → evidence_read x p r ≡ patterns P ts ps → Whole P ts
       told q (read qs) e = record { fine = q; program = cc; targets = cc }
       told q (stopped r) e = absurd (never e)
 
-      answers : (c : Checked) → (program_from x.alone x.code 0).answer ≡ c → program_then c (λ _. evidence_read x p evidence) ≡ patterns P ts ps → Whole P ts
-      answers Fine q e = told q evidence e
-      answers (Refused r) q e = absurd (never e)
+      answers : (c : Result ⊤ Refusal) → whether (program_from x.alone x.code 0) ≡ c → program_then c (λ _. evidence_read x p evidence) ≡ patterns P ts ps → Whole P ts
+      answers (Ok _) q e = told q evidence e
+      answers (Err r) q e = absurd (never e)
 
       sized : (b : Bool)
           → choose b (λ _. refused InProgram (record { number = 8; place = 0 })) (λ _. files_read x (entries_allowed area) (program_from x.alone x.code 0)) ≡ patterns P ts ps
           → Whole P ts
       sized true e = absurd (never e)
-      sized false e = answers (program_from x.alone x.code 0).answer refl e
+      sized false e = answers (whether (program_from x.alone x.code 0)) refl e
 
   kind_safe : (v : lists.ListVerdict) → (in_c (of_list v)).kind ≡ 0 → v ≡ lists.safe (in_c (of_list v)).first
   kind_safe (lists.safe n) e = refl
@@ -113,15 +112,11 @@ module _ (x : Input) (area : ℕ) where
 -- ---- what the code shows is what is said
 
 -- an answer that is not of the reading hands back the empty end of the evidence
-none_found : (x : Input) → offending_by x.code x.file InEvidence 0 0 ≡ end_of_file x.code x.file InEvidence
-unfolding is_of_record
-none_found x = of_other x.code x.file InEvidence 0 0 refl (λ e. omega (arith, e))
-
 ends : (x : Input) (a : Answer) → 9 ≤ code (verdict_in a) → offending_in x a ≡ end_of_file x.code x.file InEvidence
 unfolding is_of_record
-ends x (Safe n) l = none_found x
-ends x (Reachable n k) l = none_found x
-ends x (Pso n k) l = none_found x
+ends x (Safe n) l = refl
+ends x (Reachable n k) l = refl
+ends x (Pso n k) l = refl
 ends x (Unread w r) l =
     let past : 8 ≤ r.number = omega (arith, l) in
     let e : (leb 1 r.number && (leb r.number 7 && not (eqb r.number 6))) ≡ false =
@@ -131,11 +126,11 @@ ends x (Unread w r) l =
     and_false : (b : Bool) → (b && false) ≡ false
     and_false true = refl
     and_false false = refl
-ends x (Unheld k) l = none_found x
-ends x (Started k) l = none_found x
-ends x (Entered k s) l = none_found x
-ends x (Stopped k cause) l = none_found x
-ends x (Missed n) l = none_found x
+ends x (Unheld k) l = refl
+ends x (Started k) l = refl
+ends x (Entered k s) l = refl
+ends x (Stopped k cause) l = refl
+ends x (Missed n) l = refl
 
 -- of a refused reading
 pub said_refused : (x : Input) (area : ℕ) (w : Part) (r : Refusal) → read_patterns x area ≡ refused w r

@@ -37,9 +37,6 @@ pub size_is : (f : List ℕ) (at : ℕ) → length (pattern_record_at f at) ≡ 
 unfolding pattern_record_at
 size_is f at = length-take (1 + pattern_body_of (byte f at)) (drop at f) ∙ ap (min (1 + pattern_body_of (byte f at))) (length-drop at f)
 
-pub size_past : (f : List ℕ) (at : ℕ) → length f ≤ at → 0 ≡ length (pattern_record_at f at)
-size_past f at l = omega (arith, size_is f at)
-
 module _ (x : Input) (say : Verdict) (w : Part) (n k : ℕ) where
   abbrev g : List ℕ
   g = x.code

@@ -1,9 +1,8 @@
 -- What C gets for a pattern file, or for a program file and an evidence file (docs/PATTERNS.md, "Records"). The area afterwards is the judge's
 -- areaAfter (verdict, Judge).
-use Rattle.std.specs.Prelude.{ℕ, ◌≡◌, List}
+use Rattle.std.specs.Prelude.{ℕ, ◌≡◌, List, Ok}
 use Rattle.file_records.specs.declared.program.Refusal.{Refusal}
-use Rattle.file_records.specs.declared.program.Checked.TheVariants.{Fine}
-use Rattle.file_records.specs.ProgramPart.{program_from, program_of, targets_of}
+use Rattle.file_records.specs.ProgramPart.{program_from, program_of, targets_of, whether, program_read}
 use Rattle.file_contents.specs.declared.evidence.Part.{Part}
 use Rattle.file_contents.specs.Reading.{Input}
 use Rattle.list_theory.specs.Verdict as lists
@@ -48,10 +47,10 @@ AlwaysAnswered = (x : Input) (area : ℕ) → PatternsAnswered x area (patterns_
 -- Kind 0, safe: the program part was read, and its program, its targets and n patterns are called safe. What that promises is FileSafety and
 -- FilePsoSafety (pattern_reading, Safety).
 pub record CalledSafe (x : Input) (area n : ℕ) : Type 0 where
-  pub fine : (program_from x.alone x.code 0).answer ≡ Fine
+  pub fine : whether (program_from x.alone x.code 0) ≡ Ok tt
   pub list : List Pattern
   pub reads : read_patterns x area
-      ≡ patterns (program_of x.code (program_from x.alone x.code 0).program) (targets_of x.code (program_from x.alone x.code 0).program) list
+      ≡ patterns (program_of x.code (program_read (program_from x.alone x.code 0))) (targets_of x.code (program_read (program_from x.alone x.code 0))) list
   pub answer : pattern_answer x area ≡ judged (lists.safe n)
 
 abbrev pub KindZero : Type 0

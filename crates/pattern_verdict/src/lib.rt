@@ -3,12 +3,12 @@
 
 ghost use Rattle.std.specs.Prelude.{◌≡◌, length};
 ghost use Rattle.file_contents.specs.Reading.{input};
-ghost use Rattle.file_again.specs.Offending.{is_in_program, is_of_record};
+ghost use Rattle.file_again.specs.Offending.{is_of_record};
 ghost use Rattle.verdict.specs.Answers.{with_record};
 ghost use Rattle.pattern_verdict.specs.Offending.{pattern_body_of, pattern_record_at};
 ghost use Rattle.pattern_verdict.specs.Said.{refused_in_c};
 
-use base::bytes::{both, byte_at, least};
+use base::bytes::byte_at;
 use file_contents::evidence::Part;
 use file_records::program::Refusal;
 use verdict::answer::{Answer, Verdict, shown};
@@ -35,34 +35,25 @@ fn body_of(kind: u8) -> usize
 fn record_size(file: &[u8], at: usize) -> usize
     ensures { result ≡ length (pattern_record_at file.now at) }
 {
-    if file.len() <= at {
-        return 0;
-    }
-    least(1 + body_of(byte_at(file, at)), file.len() - at)
+    file.len()
+        .saturating_sub(at)
+        .min(1 + body_of(byte_at(file, at)))
 }
 
 // 1, 2, 3, 4, 5 and 7 are about a record.
 fn is_of_record(number: u8) -> bool
     ensures { result ≡ is_of_record number }
 {
-    both(1 <= number, both(number <= 7, !(number == 6)))
-}
-
-fn in_program(part: Part) -> bool
-    ensures { result ≡ is_in_program part }
-{
-    match part {
-        Part::InProgram => true,
-        Part::InEvidence => false,
-    }
+    1 <= number && number <= 7 && number != 6
 }
 
 fn with_length(verdict: Verdict, length: usize) -> Verdict
     ensures { result ≡ with_record verdict verdict.record_file verdict.record_at length }
 {
-    let mut next = verdict;
-    next.record_length = length as u64;
-    next
+    Verdict {
+        record_length: length as u64,
+        ..verdict
+    }
 }
 
 // A refusal of the reading. `code` is the file that holds the program and `file` the one that holds the patterns: the record is a part of one of them.
@@ -76,22 +67,12 @@ pub fn refused_shown<'a>(
 ) -> Verdict
     ensures { result ≡ refused_in_c (input alone code.now file.now) part refusal }
 {
-    let number = refusal.number;
-    let place = refusal.place;
-    let judged = shown(
-        alone,
-        code,
-        file,
-        Answer::Unread {
-            part: part,
-            refusal: refusal,
-        },
-    );
-    if !is_of_record(number) {
+    let judged = shown(alone, code, file, Answer::Unread { part, refusal });
+    if !is_of_record(refusal.number) {
         return judged;
     }
-    if in_program(part) {
-        return with_length(judged, record_size(code, place));
+    match part {
+        Part::InProgram => with_length(judged, record_size(code, refusal.place)),
+        Part::InEvidence => with_length(judged, record_size(file, refusal.place)),
     }
-    with_length(judged, record_size(file, place))
 }

@@ -1,14 +1,15 @@
 -- How the code holds the configuration of a run of the PSO machine: in the lower 16,384 bytes of the work area, and in a small struct.
 -- specs/Represents.antt says which configuration that is; no statement rests on the other definitions but through it.
-use Rattle.std.specs.Prelude.{ℕ, ◌+◌, ◌*◌, ◌-◌, Bool, cond, ◌&&◌, ◌||◌, not, List, get_or, set, eqb, leb, ltb}
+use Rattle.std.specs.Prelude.{ℕ, ◌+◌, ◌*◌, ◌-◌, min, Bool, cond, ◌&&◌, not, List, get_or, set, eqb, leb, ltb, Option, Some, None}
 use Rattle.machine_pws.specs.declared.Step as pws
 use Rattle.machine_pws.specs.declared.Step.TheVariants as steps
+use Rattle.machine_pws.specs.Machine.{all_below}
 use Rattle.file_records.specs.declared.program.Shape.{Shape}
 use Rattle.file_records.specs.declared.program.Row.{Row}
 use Rattle.base.specs.Bytes.{choose, byte}
 use Rattle.run_layout.specs.Layout.{queue_number, transition_in}
 use Rattle.pso_layout.specs.declared.moves.PsoMove.{PsoMove}
-use Rattle.pso_layout.specs.declared.moves.PsoMove.TheVariants.{Absent, Operate, UpdateVariable, RemoveMark}
+use Rattle.pso_layout.specs.declared.moves.PsoMove.TheVariants.{Operate, UpdateVariable, RemoveMark}
 use Rattle.pso_layout.specs.declared.buffers.PsoRun.{PsoRun}
 
 -- ---- the bytes
@@ -25,10 +26,11 @@ put_item a q k x = set a (item_place q k) x
 
 -- ---- the step's transition
 
-abbrev pub pso_move_of : List ℕ → Row → pws.Step → PsoMove
-pso_move_of f row (steps.Take n) = choose (leb row.count n) (λ _. Absent) (λ _. Operate (transition_in f row n))
-pso_move_of f row (steps.Serialise p v) = UpdateVariable p v
-pso_move_of f row (steps.Update p) = RemoveMark p
+-- a transition that does not exist has no move
+abbrev pub pso_move_of : List ℕ → Row → pws.Step → Option PsoMove
+pso_move_of f row (steps.Take n) = choose (leb row.count n) (λ _. None) (λ _. Some (Operate (transition_in f row n)))
+pso_move_of f row (steps.Serialise p v) = Some (UpdateVariable p v)
+pso_move_of f row (steps.Update p) = Some (RemoveMark p)
 
 -- ---- the buffers
 
@@ -44,17 +46,11 @@ value_first_in run a p v = not (empty_in run p v) && not (eqb (head_item run a p
 unfoldable pub mark_first_in : PsoRun → List ℕ → ℕ → ℕ → Bool
 mark_first_in run a p v = not (empty_in run p v) && eqb (head_item run a p v) 255
 
-unfoldable pub idle_in : PsoRun → Shape → ℕ → ℕ → Bool
-idle_in run s p v = leb s.variables v || empty_in run p v
-
 unfoldable pub no_items_in : PsoRun → Shape → ℕ → Bool
-no_items_in run s p = idle_in run s p 0 && (idle_in run s p 1 && (idle_in run s p 2 && idle_in run s p 3))
-
-unfoldable pub marked_in : PsoRun → List ℕ → Shape → ℕ → ℕ → Bool
-marked_in run a s p v = leb s.variables v || mark_first_in run a p v
+no_items_in run s p = all_below (min s.variables 4) (empty_in run p)
 
 unfoldable pub all_marked_in : PsoRun → List ℕ → Shape → ℕ → Bool
-all_marked_in run a s p = marked_in run a s p 0 && (marked_in run a s p 1 && (marked_in run a s p 2 && marked_in run a s p 3))
+all_marked_in run a s p = all_below (min s.variables 4) (mark_first_in run a p)
 
 unfoldable pub sees_in : PsoRun → List ℕ → ℕ → ℕ → ℕ
 sees_in run a p v =

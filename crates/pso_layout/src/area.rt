@@ -6,16 +6,16 @@
 ghost use Rattle.std.specs.Prelude.{◌≡◌};
 ghost use Rattle.pso_layout.specs.Layout.{item_place, item_at, put_item};
 
-use base::bytes::{byte_at, wide};
-use run_layout::area::widen;
+use base::bytes::byte_at;
 
 fn item_place(q: u8, k: u16) -> usize
     ensures { result ≡ item_place q k }
 {
-    1024 * wide(q) + widen(k)
+    1024 * usize::from(q) + usize::from(k)
 }
 
 // Item k of buffer q.
+#[tactic(auto, unfolding(crate::specs::Layout::item_at))]
 pub(crate) fn item_at(lower: &[u8], q: u8, k: u16) -> u8
     ensures { result ≡ item_at lower.now q k }
 {
@@ -26,8 +26,7 @@ pub fn put_item(lower: &mut [u8], q: u8, k: u16, x: u8)
     ensures { lower.new ≡ put_item lower.old q k x }
 {
     let at = item_place(q, k);
-    if lower.len() <= at {
-        return;
+    if at < lower.len() {
+        lower[at] = x;
     }
-    lower[at] = x;
 }

@@ -6,30 +6,30 @@ use file_records::program::Row;
 use machine_pws::{Step, Transition};
 use run_layout::moves::transition_in;
 
-// A step with its transition; a transition that does not exist is in no local state.
+// A step with its transition.
 #[derive(Clone, Copy)]
 pub enum PsoMove {
-    Absent,
     Operate(Transition),
     UpdateVariable { process: usize, variable: usize },
     RemoveMark { process: usize },
 }
 
-// The steps of a file's kinds 20, 21 and 22.
-pub fn pso_move(file: &[u8], transitions: Row, step: Step) -> PsoMove
+// The steps of a file's kinds 20, 21 and 22. A transition that does not exist has no move.
+pub fn pso_move(file: &[u8], transitions: Row, step: Step) -> Option<PsoMove>
     ensures { result ≡ pso_move_of file.now transitions step }
 {
     match step {
         Step::Take { transition } => {
-            if transitions.count <= transition {
-                return PsoMove::Absent;
+            if transition < transitions.count {
+                Some(PsoMove::Operate(transition_in(file, transitions, transition)))
+            } else {
+                None
             }
-            PsoMove::Operate(transition_in(file, transitions, transition))
         }
-        Step::Serialise { process, variable } => PsoMove::UpdateVariable {
-            process: process,
-            variable: variable,
-        },
-        Step::Update { process } => PsoMove::RemoveMark { process: process },
+        Step::Serialise { process, variable } => Some(PsoMove::UpdateVariable {
+            process,
+            variable,
+        }),
+        Step::Update { process } => Some(PsoMove::RemoveMark { process }),
     }
 }

@@ -18,8 +18,8 @@ use Rattle.machine_pso.specs.declared.PsoStep.{PsoStep}
 use Rattle.machine_pso.specs.declared.PsoStep.TheVariants.{RemoveMark}
 use Rattle.machine_pso.specs.Machine.{PsoConfiguration, pso_may, pso_after}
 use Rattle.machine_pso.specs.Runs.{PsoStart, pso_start_with, PsoTakes, done, step, PsoInTarget, pso_in_target}
-use Rattle.run_causes.specs.declared.Answer.{Answer}
-use Rattle.run_causes.specs.declared.Answer.TheVariants.{Permitted, Refused}
+use Rattle.std.specs.Prelude.{Ok, Err}
+use Rattle.run_causes.specs.Causes.{Answer}
 use Rattle.run_step.specs.declared.last_test.RunAnswer.{RunAnswer}
 use Rattle.run_step.specs.declared.last_test.RunAnswer.TheVariants.{Reachable, Stopped, Missed}
 use Rattle.run_replay.specs.Answers.{last_answer, answer_then}
@@ -96,8 +96,8 @@ module _ (P : Program) (ts : List (ℕ → ℕ)) (n : ℕ) where
   from_answer (u ∷ us) k d = go (pso_step_answer P d u) (answers P d u) (pso_answer_from P ts n (suc k) (pso_after P d u) us) (from_answer us (suc k) (pso_after P d u))
     where
       go : (x : Answer) → Answers P d u x → (r : RunAnswer) → From P ts n (suc k) (pso_after P d u) us r → From P ts n k d (u ∷ us) (answer_then x k (λ _. r))
-      go Permitted t r h = later_from k d u us t r h
-      go (Refused cause) t r h = (0, omega arith, omega arith, d, done, t)
+      go (Ok _) t r h = later_from k d u us t r h
+      go (Err cause) t r h = (0, omega arith, omega arith, d, done, t)
 
   -- the first step of a run that is taken
   first_taken : {d e : PsoConfiguration} {u : PsoStep} {us : List PsoStep} → PsoTakes P d (u ∷ us) e → T (pso_may P d u) × PsoTakes P (pso_after P d u) us e
@@ -133,19 +133,19 @@ module _ (P : Program) (ts : List (ℕ → ℕ)) (n : ℕ) where
   only_answer (u ∷ us) k d (Reachable m j) h =
       let w = first_taken h.2 in
       only_answer us (suc k) (pso_after P d u) (Reachable m j) (h.0, h.1, w.1, h.3, h.4, h.5)
-      ∙ ap (λ (x : Answer). answer_then x k (λ _. pso_answer_from P ts n (suc k) (pso_after P d u) us)) (because_only P d u Permitted w.0)
+      ∙ ap (λ (x : Answer). answer_then x k (λ _. pso_answer_from P ts n (suc k) (pso_after P d u) us)) (because_only P d u (Ok tt) w.0)
   only_answer (u ∷ us) k d (Stopped j cause) (zero, a, b, e, t, y) =
       ap (λ (i : ℕ). Stopped i cause) (omega (arith, a))
       ∙ ap (λ (x : Answer). answer_then x k (λ _. pso_answer_from P ts n (suc k) (pso_after P d u) us))
-      (because_only P d u (Refused cause) (subst (λ (z : PsoConfiguration). Because P z u cause) (sym (none_taken t)) y))
+      (because_only P d u (Err cause) (subst (λ (z : PsoConfiguration). Because P z u cause) (sym (none_taken t)) y))
   only_answer (u ∷ us) k d (Stopped j cause) (suc i, a, b, e, t, y) =
       let w = first_taken t in
       only_answer us (suc k) (pso_after P d u) (Stopped j cause) (i, omega (arith, a), omega (arith, b), e, w.1, y)
-      ∙ ap (λ (x : Answer). answer_then x k (λ _. pso_answer_from P ts n (suc k) (pso_after P d u) us)) (because_only P d u Permitted w.0)
+      ∙ ap (λ (x : Answer). answer_then x k (λ _. pso_answer_from P ts n (suc k) (pso_after P d u) us)) (because_only P d u (Ok tt) w.0)
   only_answer (u ∷ us) k d (Missed m) h =
       let w = first_taken h.2 in
       only_answer us (suc k) (pso_after P d u) (Missed m) (h.0, h.1, w.1, h.3)
-      ∙ ap (λ (x : Answer). answer_then x k (λ _. pso_answer_from P ts n (suc k) (pso_after P d u) us)) (because_only P d u Permitted w.0)
+      ∙ ap (λ (x : Answer). answer_then x k (λ _. pso_answer_from P ts n (suc k) (pso_after P d u) us)) (because_only P d u (Ok tt) w.0)
 
 -- ---- from a start with the memory
 

@@ -18,10 +18,9 @@ use Rattle.machine_pso.specs.declared.PsoStep.{PsoStep}
 use Rattle.machine_pso.specs.declared.PsoStep.TheVariants.{Operate, UpdateVariable, RemoveMark}
 use Rattle.machine_pso.specs.Machine.{Item, value, mark, PsoConfiguration, no_item, value_first, mark_first, oldest_value, without_first, put_buffer, each_buffer, buffer_after, pso_memory_after, may_operate_by, pso_may, pso_after}
 use Rattle.run_causes.specs.declared.Cause.TheVariants.{State}
-use Rattle.run_causes.specs.declared.Answer.{Answer}
-use Rattle.run_causes.specs.declared.Answer.TheVariants.{Permitted, Refused}
+use Rattle.std.specs.Prelude.{Ok, Err}
 use Rattle.run_replay.specs.Answers.{last_answer, answer_then}
-use Rattle.run_causes.specs.Causes.{first_cause}
+use Rattle.run_causes.specs.Causes.{Answer, first_cause}
 use Rattle.pso_step.specs.Causes.{pso_queue_fits, pso_value_fits, pso_step_answer}
 use Rattle.pso_replay.specs.Answers.{pso_lowest_met, pso_answer_from}
 use Rattle.pso_step.proofs.CauseLaws.{Answers, answers}
@@ -85,7 +84,7 @@ module _ (P : Program) (R : WellFormed P) (d e : PsoConfiguration) (A : Alike P.
     | yes l ↦
         let w = transition P n in
         let o = R.transitions n l in
-        ap (λ (x : Answer). cond (ltb n (length P.transitions)) x (Refused State))
+        ap (λ (x : Answer). cond (ltb n (length P.transitions)) x (Err State))
         (rw (A.states w.process o.process, queue_alike w.process w.operation o.process o.operation, value_alike w.process w.operation o.process o.operation))
     | no l ↦ rw (le-ltb n (length P.transitions) (omega arith))
   ]
@@ -162,10 +161,10 @@ answers_alike P R ts n k (u ∷ us) d e A =
     go : (x : Answer) → pso_step_answer P d u ≡ x → (T (pso_may P d u) → pso_answer_from P ts n (suc k) (pso_after P d u) us ≡ pso_answer_from P ts n (suc k) (pso_after P e u) us)
         → answer_then (pso_step_answer P d u) k (λ _. pso_answer_from P ts n (suc k) (pso_after P d u) us)
         ≡ answer_then (pso_step_answer P d u) k (λ _. pso_answer_from P ts n (suc k) (pso_after P e u) us)
-    go Permitted z h =
+    go (Ok _) z h =
         let s : T (pso_may P d u) = subst (Answers P d u) z (answers P d u) in
         ap (λ (x : Answer). answer_then x k (λ _. pso_answer_from P ts n (suc k) (pso_after P d u) us)) z ∙ h s
         ∙ ap (λ (x : Answer). answer_then x k (λ _. pso_answer_from P ts n (suc k) (pso_after P e u) us)) (sym z)
-    go (Refused cause) z h =
+    go (Err cause) z h =
         ap (λ (x : Answer). answer_then x k (λ _. pso_answer_from P ts n (suc k) (pso_after P d u) us)) z
         ∙ ap (λ (x : Answer). answer_then x k (λ _. pso_answer_from P ts n (suc k) (pso_after P e u) us)) (sym z)

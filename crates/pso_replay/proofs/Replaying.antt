@@ -17,22 +17,24 @@ use Rattle.file_records.specs.declared.program.Program.{Program}
 use Rattle.file_records.specs.Records.{step_at}
 use Rattle.file_records.specs.ProgramPart.{shape_of, program_of, targets_of}
 use Rattle.file_contents.specs.EvidencePart.{steps_of}
-use Rattle.run_causes.specs.declared.Answer.{Answer}
-use Rattle.run_causes.specs.declared.Answer.TheVariants.{Permitted, Refused}
+use Rattle.std.specs.Prelude.{Option as Maybe, Some, None, Ok, Err}
+use Rattle.run_causes.specs.Causes.{Answer}
 use Rattle.run_step.specs.declared.last_test.RunAnswer.{RunAnswer}
 use Rattle.run_replay.specs.Replay.{lowest_met}
 use Rattle.run_replay.specs.Answers.{last_answer, answer_then}
-use Rattle.run_replay.specs.Loop.{next_step}
+use Rattle.run_replay.specs.Loop.{next_step, move_then}
 use Rattle.run_replay.proofs.Replaying.{zeros_at, steps_next, steps_length, targets_last}
 use Rattle.pso_layout.specs.declared.buffers.PsoRun.{PsoRun}
 use Rattle.pso_step.specs.Causes.{pso_step_answer}
 use Rattle.pso_replay.specs.Answers.{pso_step, pso_steps, pso_lowest_met, pso_answer_from, pso_run_answer}
 use Rattle.pso_layout.specs.Layout.{pso_move_of}
+use Rattle.pso_layout.specs.declared.moves.PsoMove.{PsoMove}
+use Rattle.pso_step.specs.Answering.{answer_in}
 use Rattle.pso_step.specs.After.{run_after, lower_after_move}
 use Rattle.pso_replay.specs.Loop.{first_run, run_from, replay_in}
 use Rattle.pso_step.proofs.CauseLaws.{Answers, answers}
 use Rattle.pso_layout.proofs.Kept.{Kept}
-use Rattle.pso_replay.proofs.Stepping.{answer_is, step_kept}
+use Rattle.pso_replay.proofs.Stepping.{move_in, answer_of, answer_is, step_kept}
 
 -- ---- the last test looks at local states alone
 
@@ -68,13 +70,16 @@ module _ (g f : List ℕ) (p : Program) (R : pws.ProgramInRange (program_of g p)
   P₁ = program_of g p
 
   -- one step, the others being right
-  one_step : (k : ℕ) (d : PsoConfiguration) (s : Step) (x y : RunAnswer) (z b : Answer) → pso_step_answer P₁ d (pso_step s) ≡ b → z ≡ pso_step_answer P₁ d (pso_step s)
-      → (T (pso_may P₁ d (pso_step s)) → x ≡ y) → answer_then z k (λ _. x) ≡ answer_then (pso_step_answer P₁ d (pso_step s)) k (λ _. y)
-  one_step k d s x y z Permitted e q h =
-      ap (λ (w : Answer). answer_then w k (λ _. x)) (q ∙ e) ∙ h (subst (Answers P₁ d (pso_step s)) e (answers P₁ d (pso_step s)))
+  one_step : (k : ℕ) (run : PsoRun) (a : List ℕ) (d : PsoConfiguration) (s : Step) (x : PsoMove → RunAnswer) (y : RunAnswer) (o : Maybe PsoMove) (b : Answer)
+      → pso_step_answer P₁ d (pso_step s) ≡ b → answer_of run a p.shape o ≡ pso_step_answer P₁ d (pso_step s)
+      → (T (pso_may P₁ d (pso_step s)) → x (move_in o) ≡ y)
+      → move_then o k (λ m. answer_then (answer_in run a p.shape m) k (λ _. x m)) ≡ answer_then (pso_step_answer P₁ d (pso_step s)) k (λ _. y)
+  one_step k run a d s x y None b e q h = ap (λ (w : Answer). answer_then w k (λ _. y)) q
+  one_step k run a d s x y (Some m) (Ok _) e q h =
+      ap (λ (w : Answer). answer_then w k (λ _. x m)) (q ∙ e) ∙ h (subst (Answers P₁ d (pso_step s)) e (answers P₁ d (pso_step s)))
       ∙ ap (λ (w : Answer). answer_then w k (λ _. y)) (sym e)
-  one_step k d s x y z (Refused cause) e q h =
-      ap (λ (w : Answer). answer_then w k (λ _. x)) (q ∙ e) ∙ ap (λ (w : Answer). answer_then w k (λ _. y)) (sym e)
+  one_step k run a d s x y (Some m) (Err cause) e q h =
+      ap (λ (w : Answer). answer_then w k (λ _. x m)) (q ∙ e) ∙ ap (λ (w : Answer). answer_then w k (λ _. y)) (sym e)
 
   all_steps : (m k at : ℕ) (run : PsoRun) (a : List ℕ) (d : PsoConfiguration) → Kept (shape_of p.shape) k run a d → k + m ≤ 1024
       → run_from g f p.shape p.transitions p.targets n k at run a m ≡ pso_answer_from P₁ (targets_of g p) n k d (pso_steps (steps_of f at m))
@@ -84,8 +89,8 @@ module _ (g f : List ℕ) (p : Program) (R : pws.ProgramInRange (program_of g p)
       ∙ ap (last_answer n) (same_lowest (shape_of p.shape) 0 (targets_of g p) d)
   all_steps (suc m) k at run a d K l =
       let s = step_at f at in
-      let w = pso_move_of g p.transitions s in
-      one_step k d s _ _ _ (pso_step_answer P₁ d (pso_step s)) refl (answer_is g p R k run a d K s) (λ t.
+      let w = move_in (pso_move_of g p.transitions s) in
+      one_step k run a d s _ _ (pso_move_of g p.transitions s) (pso_step_answer P₁ d (pso_step s)) refl (answer_is g p R k run a d K s) (λ t.
       let e : suc k ≡ k + 1 = omega arith in
       all_steps m (k + 1) (next_step f at) (run_after run a p.shape w) (lower_after_move a run.tails p.shape w) (pso_after P₁ d (pso_step s))
       (subst (λ (j : ℕ). Kept (shape_of p.shape) j (run_after run a p.shape w) (lower_after_move a run.tails p.shape w) (pso_after P₁ d (pso_step s))) e

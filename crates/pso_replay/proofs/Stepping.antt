@@ -25,14 +25,14 @@ use Rattle.file_records.specs.declared.program.Shape.{Shape}
 use Rattle.file_records.specs.declared.program.Program.{Program}
 use Rattle.file_records.specs.ProgramPart.{shape_of, program_of}
 use Rattle.run_causes.specs.declared.Cause.TheVariants.{State}
-use Rattle.run_causes.specs.declared.Answer.TheVariants.{Refused}
-use Rattle.run_causes.specs.Causes.{first_cause}
+use Rattle.std.specs.Prelude.{Option, Some, None, Err}
+use Rattle.run_causes.specs.Causes.{Answer, first_cause}
 use Rattle.run_layout.specs.Layout.{next_number, advanced}
 use Rattle.run_layout.proofs.ByteLaws.{next_is}
 use Rattle.run_layout.proofs.Kept.{queue_is}
 use Rattle.run_layout.proofs.MoveLaws.{transition_count, transition_is, exists_is, exists_not}
 use Rattle.pso_layout.specs.declared.moves.PsoMove.{PsoMove}
-use Rattle.pso_layout.specs.declared.moves.PsoMove.TheVariants.{Absent, Operate, UpdateVariable, RemoveMark}
+use Rattle.pso_layout.specs.declared.moves.PsoMove.TheVariants.{Operate, UpdateVariable, RemoveMark}
 use Rattle.pso_layout.specs.declared.buffers.PsoRun.{PsoRun}
 use Rattle.pso_step.specs.Causes.{pso_operate_answer, pso_step_answer}
 use Rattle.pso_replay.specs.Answers.{pso_step}
@@ -221,39 +221,48 @@ module _ (s : Shape) (pl : s.processes ≤ 4) (vl : s.variables ≤ 4) (xl : (v 
 
 -- ---- the steps of a program
 
-module _ (f : List ℕ) (p : Program) where
-  move_operate : (n : ℕ) → n < p.transitions.count → pso_move_of f p.transitions (steps.Take n) ≡ Operate (pws.transition (program_of f p) n)
-  move_operate n l = rw (lt-leb p.transitions.count n l) (ap Operate (sym (transition_is f p n l)))
+-- the move, if there is one
+abbrev pub move_in : Option PsoMove → PsoMove
+move_in None = RemoveMark 0
+move_in (Some m) = m
 
-  move_absent : (n : ℕ) → p.transitions.count ≤ n → pso_move_of f p.transitions (steps.Take n) ≡ Absent
+abbrev pub answer_of : PsoRun → List ℕ → Shape → Option PsoMove → Answer
+answer_of run a s None = Err State
+answer_of run a s (Some m) = answer_in run a s m
+
+module _ (f : List ℕ) (p : Program) where
+  move_operate : (n : ℕ) → n < p.transitions.count → pso_move_of f p.transitions (steps.Take n) ≡ Some (Operate (pws.transition (program_of f p) n))
+  move_operate n l = rw (lt-leb p.transitions.count n l) (ap (λ (t : Transition). Some (Operate t)) (sym (transition_is f p n l)))
+
+  move_absent : (n : ℕ) → p.transitions.count ≤ n → pso_move_of f p.transitions (steps.Take n) ≡ None
   move_absent n l = rw (le-leb p.transitions.count n l)
 
   module _ (R : pws.ProgramInRange (program_of f p)) (k : ℕ) (run : PsoRun) (a : List ℕ) (d : PsoConfiguration) (K : Kept (shape_of p.shape) k run a d) where
     -- the step's answer is the machine's
-    pub answer_is : (u : Step) → answer_in run a p.shape (pso_move_of f p.transitions u) ≡ pso_step_answer (program_of f p) d (pso_step u)
+    pub answer_is : (u : Step) → answer_of run a p.shape (pso_move_of f p.transitions u) ≡ pso_step_answer (program_of f p) d (pso_step u)
     answer_is (steps.Take n) = elim (dec_lt n p.transitions.count) [
       | yes l ↦
           let t = R.well_formed.transitions n (omega (arith, transition_count f p)) in
-          ap (answer_in run a p.shape) (move_operate n l)
+          ap (answer_of run a p.shape) (move_operate n l)
           ∙ operate_is p.shape R.shape.processes R.shape.variables k run a d K (pws.transition (program_of f p) n) t.process t.operation
-          ∙ ap (λ (b : Bool). cond b (pso_operate_answer (shape_of p.shape) d (pws.transition (program_of f p) n)) (Refused State)) (sym (exists_is f p n l))
+          ∙ ap (λ (b : Bool). cond b (pso_operate_answer (shape_of p.shape) d (pws.transition (program_of f p) n)) (Err State)) (sym (exists_is f p n l))
       | no l ↦
-          ap (answer_in run a p.shape) (move_absent n (omega arith))
-          ∙ ap (λ (b : Bool). cond b (pso_operate_answer (shape_of p.shape) d (pws.transition (program_of f p) n)) (Refused State)) (sym (exists_not f p n (omega arith)))
+          ap (answer_of run a p.shape) (move_absent n (omega arith))
+          ∙ ap (λ (b : Bool). cond b (pso_operate_answer (shape_of p.shape) d (pws.transition (program_of f p) n)) (Err State)) (sym (exists_not f p n (omega arith)))
     ]
     answer_is (steps.Serialise q v) = ap (first_cause true true true true) (update_is p.shape R.shape.processes R.shape.variables k run a d K q v)
     answer_is (steps.Update q) = ap (first_cause true true true true) (remove_is p.shape R.shape.processes R.shape.variables k run a d K q)
 
     -- a permitted step leaves a representation of the configuration after it
     pub step_kept : k < 1024 → (u : Step) → T (pso_may (program_of f p) d (pso_step u))
-        → Kept (shape_of p.shape) (suc k) (run_after run a p.shape (pso_move_of f p.transitions u)) (lower_after_move a run.tails p.shape (pso_move_of f p.transitions u))
+        → Kept (shape_of p.shape) (suc k) (run_after run a p.shape (move_in (pso_move_of f p.transitions u))) (lower_after_move a run.tails p.shape (move_in (pso_move_of f p.transitions u)))
         (pso_after (program_of f p) d (pso_step u))
     step_kept few (steps.Take n) t =
         let y = and_yes (ltb n (length (program_of f p).transitions)) (may_operate_by (shape_of p.shape) d (pws.transition (program_of f p) n)) t in
         let l = ltb→lt n (length (program_of f p).transitions) y.0 in
         let o = R.well_formed.transitions n l in
         let w = pws.transition (program_of f p) n in
-        subst (λ (m : PsoMove). Kept (shape_of p.shape) (suc k) (run_after run a p.shape m) (lower_after_move a run.tails p.shape m) (after_operate (shape_of p.shape) d w))
+        subst (λ (o : Option PsoMove). Kept (shape_of p.shape) (suc k) (run_after run a p.shape (move_in o)) (lower_after_move a run.tails p.shape (move_in o)) (after_operate (shape_of p.shape) d w))
         (sym (move_operate n (omega (arith, transition_count f p))))
         (kept_operated p.shape R.shape.processes R.shape.variables R.shape.values k run a d K few w o.process o.operation)
     step_kept few (steps.Serialise q v) t =

@@ -8,7 +8,7 @@ use Rattle.file_records.specs.Records.{step_at}
 use Rattle.run_step.specs.declared.last_test.RunAnswer.{RunAnswer}
 use Rattle.run_replay.specs.Answers.{answer_then}
 use Rattle.run_step.specs.LastTest.{last_in}
-use Rattle.run_replay.specs.Loop.{next_step}
+use Rattle.run_replay.specs.Loop.{next_step, move_then}
 use Rattle.pso_layout.specs.declared.buffers.PsoRun.{PsoRun}
 use Rattle.pso_layout.specs.Layout.{pso_move_of}
 use Rattle.pso_step.specs.Answering.{answer_in}
@@ -23,9 +23,9 @@ first_run states memory = record { states = states; memory = memory; heads = rep
 unfoldable pub run_from : List ℕ → List ℕ → Shape → Row → Row → ℕ → ℕ → ℕ → PsoRun → List ℕ → ℕ → RunAnswer
 run_from g f s transitions targets steps k at run a zero = last_in g targets s run.states steps
 run_from g f s transitions targets steps k at run a (suc n) =
-    let m = pso_move_of g transitions (step_at f at) in
+    move_then (pso_move_of g transitions (step_at f at)) k (λ m.
     answer_then (answer_in run a s m) k (λ _.
-    run_from g f s transitions targets steps (k + 1) (next_step f at) (run_after run a s m) (lower_after_move a run.tails s m) n)
+    run_from g f s transitions targets steps (k + 1) (next_step f at) (run_after run a s m) (lower_after_move a run.tails s m) n))
 
 abbrev pub replay_in : List ℕ → List ℕ → Program → List ℕ → ℕ → ℕ → List ℕ → RunAnswer
 replay_in g f p memory at count a =

@@ -8,27 +8,65 @@ ghost use Rattle.pso_replay.specs.Loop.{first_run, replay_in};
 
 use file_contents::steps::step_at;
 use file_records::program::Program;
-use pso_layout::buffers::PsoRun;
+use pso_layout::buffers::{PsoHeld, PsoRun};
 use pso_layout::moves::pso_move;
 use pso_step::answering::step_answer;
 use pso_step::stepping::{run_after, store};
-use run_causes::Answer;
+use run_causes::Cause;
 use run_layout::area::clear;
-use run_replay::run::{next_step, stopped_by};
+use run_replay::run::next_step;
 use run_step::last_test::{RunAnswer, last_answer};
 
 // Initial local states, empty buffers, and this memory.
 fn first_run(states: [u8; 4], memory: [u8; 4]) -> PsoRun
     ensures { result ≡ first_run states memory }
 {
-    let none = [0u16; 16];
     PsoRun {
-        states: states,
-        memory: memory,
-        heads: none,
-        tails: none,
-        lasts: none,
+        states,
+        memory,
+        heads: [0; 16],
+        tails: [0; 16],
+        lasts: [0; 16],
     }
+}
+
+// The replay; the lower part then holds the configuration where it ended. The loop is a twin of run_replay's: one for both would want a trait of
+// machines whose laws say all that the two proofs say of each (start, move, answer, what a step gives and keeps).
+fn replay_held(
+    code: &[u8],
+    file: &[u8],
+    program: Program,
+    memory: [u8; 4],
+    at: usize,
+    count: usize,
+    lower: &mut [u8],
+) -> RunAnswer
+    ensures value { result ≡ replay_in code.now file.now program memory at count lower.old }
+    ensures same { length lower.new ≡ length lower.old }
+{
+    let mut run = first_run(program.initial, memory);
+    let mut k = at;
+    for i in 0..count {
+        let Some(step) = pso_move(code, program.transitions, step_at(file, k)) else {
+            return RunAnswer::Stopped {
+                step: i,
+                cause: Cause::State,
+            };
+        };
+        let held = PsoHeld {
+            run,
+            lower,
+            shape: program.shape,
+        };
+        if let Err(cause) = step_answer(&held, step) {
+            return RunAnswer::Stopped { step: i, cause };
+        }
+        let next = run_after(&held, step);
+        store(lower, run.tails, program.shape, step);
+        run = next;
+        k = next_step(file, k);
+    }
+    last_answer(code, program.targets, program.shape, run.states, count)
 }
 
 // `count` steps from `at` on, from a start with this memory; afterwards the lower part is 0. `code` is the file that holds the program,
@@ -46,30 +84,7 @@ pub fn replay_steps(
     ensures lower_after { lower.new ≡ replicate (length lower.old) 0 }
     ensures value_2 { ProgramInRange (program_of code.now program) → count ≤ 1024 → length lower.old ≡ 16384 → result ≡ pso_run_answer (program_of code.now program) memory (targets_of code.now program) (pso_steps (steps_of file.now at count)) }
 {
-    let shape = program.shape;
-    let transitions = program.transitions;
-    let targets = program.targets;
-    let states = program.initial;
-    let mut run = first_run(states, memory);
-    let mut k = at;
-    let mut i = 0;
-    let verdict = loop {
-        if count <= i {
-            let last = run.states;
-            break last_answer(code, targets, shape, last, count);
-        }
-        let step = pso_move(code, transitions, step_at(file, k));
-        let answer = step_answer(run, &lower[..], shape, step);
-        let Answer::Permitted = answer else {
-            break stopped_by(i, answer);
-        };
-        let tails = run.tails;
-        let next = run_after(run, &lower[..], shape, step);
-        store(lower, tails, shape, step);
-        run = next;
-        k = next_step(file, k);
-        i += 1;
-    };
+    let answer = replay_held(code, file, program, memory, at, count, lower);
     clear(lower);
-    verdict
+    answer
 }

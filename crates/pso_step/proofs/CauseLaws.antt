@@ -18,15 +18,14 @@ use Rattle.machine_pso.specs.declared.PsoStep.{PsoStep}
 use Rattle.machine_pso.specs.declared.PsoStep.TheVariants.{Operate, UpdateVariable, RemoveMark}
 use Rattle.machine_pso.specs.Machine.{Item, PsoConfiguration, no_item, pso_sees, pso_may_operate, may_operate_by, pso_may}
 use Rattle.run_causes.specs.declared.Cause.TheVariants.{State, Queue, Pointer, Value, Nothing}
-use Rattle.run_causes.specs.declared.Answer.{Answer}
-use Rattle.run_causes.specs.declared.Answer.TheVariants.{Permitted, Refused}
-use Rattle.run_causes.specs.Causes.{first_cause}
+use Rattle.std.specs.Prelude.{Ok, Err}
+use Rattle.run_causes.specs.Causes.{Answer, first_cause}
 use Rattle.pso_step.specs.Causes.{PsoInState, NotEmpty, PsoOtherValue, MemoryCause, Because, pso_queue_fits, pso_value_fits, pso_step_answer}
 
 -- what an answer says of a step
 abbrev pub Answers : Program → PsoConfiguration → PsoStep → Answer → Type 0
-Answers P d u Permitted = T (pso_may P d u)
-Answers P d u (Refused cause) = Because P d u cause
+Answers P d u (Ok _) = T (pso_may P d u)
+Answers P d u (Err cause) = Because P d u cause
 
 -- ---- tests
 
@@ -111,7 +110,7 @@ module _ (P : Program) (d : PsoConfiguration) where
 
   operate_answers : (n : ℕ) (e s q v : Bool) → ltb n (length P.transitions) ≡ e → eqb (d.state (transition P n).process) (transition P n).from ≡ s
       → pso_queue_fits P.shape d (transition P n).process (transition P n).operation ≡ q → pso_value_fits d (transition P n).process (transition P n).operation ≡ v
-      → Answers P d (Operate n) (cond e (first_cause s q true v true) (Refused State))
+      → Answers P d (Operate n) (cond e (first_cause s q true v true) (Err State))
   unfolding first_cause
   operate_answers n false s q v ee se qe ve = λ i. not_T (ltb n (length P.transitions)) ee (lt→ltb n (length P.transitions) i.0)
   operate_answers n true false q v ee se qe ve = λ i. eqb_not (d.state (transition P n).process) (transition P n).from se i.1
@@ -166,63 +165,63 @@ module _ (P : Program) (d : PsoConfiguration) where
 
   -- and there is no other
   one_operate : (n : ℕ) (x y : Answer) → Answers P d (Operate n) x → Answers P d (Operate n) y → x ≡ y
-  one_operate n Permitted Permitted s t = refl
-  one_operate n Permitted (Refused State) s t = absurd (t (finds n s).state)
-  one_operate n Permitted (Refused Queue) s t = absurd ((finds n s).queue t.1)
-  one_operate n Permitted (Refused Pointer) s t = absurd t
-  one_operate n Permitted (Refused Value) s t = absurd ((finds n s).value t.2)
-  one_operate n Permitted (Refused Nothing) s t = absurd t
-  one_operate n (Refused State) Permitted s t = absurd (s (finds n t).state)
-  one_operate n (Refused State) (Refused State) s t = refl
-  one_operate n (Refused State) (Refused Queue) s t = absurd (s t.0)
-  one_operate n (Refused State) (Refused Pointer) s t = absurd t
-  one_operate n (Refused State) (Refused Value) s t = absurd (s t.0)
-  one_operate n (Refused State) (Refused Nothing) s t = absurd t
-  one_operate n (Refused Queue) Permitted s t = absurd ((finds n t).queue s.1)
-  one_operate n (Refused Queue) (Refused State) s t = absurd (t s.0)
-  one_operate n (Refused Queue) (Refused Queue) s t = refl
-  one_operate n (Refused Queue) (Refused Pointer) s t = absurd t
-  one_operate n (Refused Queue) (Refused Value) s t = absurd (t.1 s.1)
-  one_operate n (Refused Queue) (Refused Nothing) s t = absurd t
-  one_operate n (Refused Pointer) y s t = absurd s
-  one_operate n (Refused Value) Permitted s t = absurd ((finds n t).value s.2)
-  one_operate n (Refused Value) (Refused State) s t = absurd (t s.0)
-  one_operate n (Refused Value) (Refused Queue) s t = absurd (s.1 t.1)
-  one_operate n (Refused Value) (Refused Pointer) s t = absurd t
-  one_operate n (Refused Value) (Refused Value) s t = refl
-  one_operate n (Refused Value) (Refused Nothing) s t = absurd t
-  one_operate n (Refused Nothing) y s t = absurd s
+  one_operate n (Ok _) (Ok _) s t = refl
+  one_operate n (Ok _) (Err State) s t = absurd (t (finds n s).state)
+  one_operate n (Ok _) (Err Queue) s t = absurd ((finds n s).queue t.1)
+  one_operate n (Ok _) (Err Pointer) s t = absurd t
+  one_operate n (Ok _) (Err Value) s t = absurd ((finds n s).value t.2)
+  one_operate n (Ok _) (Err Nothing) s t = absurd t
+  one_operate n (Err State) (Ok _) s t = absurd (s (finds n t).state)
+  one_operate n (Err State) (Err State) s t = refl
+  one_operate n (Err State) (Err Queue) s t = absurd (s t.0)
+  one_operate n (Err State) (Err Pointer) s t = absurd t
+  one_operate n (Err State) (Err Value) s t = absurd (s t.0)
+  one_operate n (Err State) (Err Nothing) s t = absurd t
+  one_operate n (Err Queue) (Ok _) s t = absurd ((finds n t).queue s.1)
+  one_operate n (Err Queue) (Err State) s t = absurd (t s.0)
+  one_operate n (Err Queue) (Err Queue) s t = refl
+  one_operate n (Err Queue) (Err Pointer) s t = absurd t
+  one_operate n (Err Queue) (Err Value) s t = absurd (t.1 s.1)
+  one_operate n (Err Queue) (Err Nothing) s t = absurd t
+  one_operate n (Err Pointer) y s t = absurd s
+  one_operate n (Err Value) (Ok _) s t = absurd ((finds n t).value s.2)
+  one_operate n (Err Value) (Err State) s t = absurd (t s.0)
+  one_operate n (Err Value) (Err Queue) s t = absurd (s.1 t.1)
+  one_operate n (Err Value) (Err Pointer) s t = absurd t
+  one_operate n (Err Value) (Err Value) s t = refl
+  one_operate n (Err Value) (Err Nothing) s t = absurd t
+  one_operate n (Err Nothing) y s t = absurd s
 
   -- of the memory's own steps
   abbrev MemoryAnswers : PsoStep → Answer → Type 0
-  MemoryAnswers u Permitted = T (pso_may P d u)
-  MemoryAnswers u (Refused cause) = MemoryCause P d u cause
+  MemoryAnswers u (Ok _) = T (pso_may P d u)
+  MemoryAnswers u (Err cause) = MemoryCause P d u cause
 
   one_memory : (u : PsoStep) (x y : Answer) → MemoryAnswers u x → MemoryAnswers u y → x ≡ y
-  one_memory u Permitted Permitted s t = refl
-  one_memory u Permitted (Refused State) s t = absurd t
-  one_memory u Permitted (Refused Queue) s t = absurd t
-  one_memory u Permitted (Refused Pointer) s t = absurd t
-  one_memory u Permitted (Refused Value) s t = absurd t
-  one_memory u Permitted (Refused Nothing) s t = absurd (not_T (pso_may P d u) t s)
-  one_memory u (Refused State) y s t = absurd s
-  one_memory u (Refused Queue) y s t = absurd s
-  one_memory u (Refused Pointer) y s t = absurd s
-  one_memory u (Refused Value) y s t = absurd s
-  one_memory u (Refused Nothing) Permitted s t = absurd (not_T (pso_may P d u) s t)
-  one_memory u (Refused Nothing) (Refused State) s t = absurd t
-  one_memory u (Refused Nothing) (Refused Queue) s t = absurd t
-  one_memory u (Refused Nothing) (Refused Pointer) s t = absurd t
-  one_memory u (Refused Nothing) (Refused Value) s t = absurd t
-  one_memory u (Refused Nothing) (Refused Nothing) s t = refl
+  one_memory u (Ok _) (Ok _) s t = refl
+  one_memory u (Ok _) (Err State) s t = absurd t
+  one_memory u (Ok _) (Err Queue) s t = absurd t
+  one_memory u (Ok _) (Err Pointer) s t = absurd t
+  one_memory u (Ok _) (Err Value) s t = absurd t
+  one_memory u (Ok _) (Err Nothing) s t = absurd (not_T (pso_may P d u) t s)
+  one_memory u (Err State) y s t = absurd s
+  one_memory u (Err Queue) y s t = absurd s
+  one_memory u (Err Pointer) y s t = absurd s
+  one_memory u (Err Value) y s t = absurd s
+  one_memory u (Err Nothing) (Ok _) s t = absurd (not_T (pso_may P d u) s t)
+  one_memory u (Err Nothing) (Err State) s t = absurd t
+  one_memory u (Err Nothing) (Err Queue) s t = absurd t
+  one_memory u (Err Nothing) (Err Pointer) s t = absurd t
+  one_memory u (Err Nothing) (Err Value) s t = absurd t
+  one_memory u (Err Nothing) (Err Nothing) s t = refl
 
   update_memory : (p v : ℕ) (x : Answer) → Answers P d (UpdateVariable p v) x → MemoryAnswers (UpdateVariable p v) x
-  update_memory p v Permitted s = s
-  update_memory p v (Refused cause) s = s
+  update_memory p v (Ok _) s = s
+  update_memory p v (Err cause) s = s
 
   remove_memory : (p : ℕ) (x : Answer) → Answers P d (RemoveMark p) x → MemoryAnswers (RemoveMark p) x
-  remove_memory p Permitted s = s
-  remove_memory p (Refused cause) s = s
+  remove_memory p (Ok _) s = s
+  remove_memory p (Err cause) s = s
 
   pub because_only : (u : PsoStep) (x : Answer) → Answers P d u x → x ≡ pso_step_answer P d u
   because_only (Operate n) x s = one_operate n x (pso_step_answer P d (Operate n)) s (answers (Operate n))

@@ -7,7 +7,7 @@ use Rattle.machine_pws.specs.declared.Operation.{Operation}
 use Rattle.machine_pws.specs.declared.Operation.TheVariants.{Nop, Read, Write, Mfence, Sfence, Arw}
 use Rattle.file_records.specs.declared.program.Shape.{Shape}
 use Rattle.pso_layout.specs.declared.moves.PsoMove.{PsoMove}
-use Rattle.pso_layout.specs.declared.moves.PsoMove.TheVariants.{Absent, Operate, UpdateVariable, RemoveMark}
+use Rattle.pso_layout.specs.declared.moves.PsoMove.TheVariants.{Operate, UpdateVariable, RemoveMark}
 use Rattle.pso_step.specs.After.{marked_below, area_operated, lower_after_move}
 
 pub marked_length : (a tails : List ℕ) (p n : ℕ) → length (marked_below a tails p n) ≡ length a
@@ -24,7 +24,6 @@ operated_length a tails s p Sfence = marked_length a tails p s.variables
 operated_length a tails s p (Arw v old new) = refl
 
 pub area_length : (a tails : List ℕ) (s : Shape) (m : PsoMove) → length (lower_after_move a tails s m) ≡ length a
-area_length a tails s Absent = refl
 area_length a tails s (Operate t) = operated_length a tails s t.process t.operation
 area_length a tails s (UpdateVariable p v) = refl
 area_length a tails s (RemoveMark p) = refl

@@ -6,7 +6,7 @@ use Rattle.machine_pws.specs.declared.Operation.TheVariants.{Nop, Read, Write, M
 use Rattle.file_records.specs.declared.program.Shape.{Shape}
 use Rattle.run_layout.specs.Layout.{next_number, queue_number, advanced}
 use Rattle.pso_layout.specs.declared.moves.PsoMove.{PsoMove}
-use Rattle.pso_layout.specs.declared.moves.PsoMove.TheVariants.{Absent, Operate, UpdateVariable, RemoveMark}
+use Rattle.pso_layout.specs.declared.moves.PsoMove.TheVariants.{Operate, UpdateVariable, RemoveMark}
 use Rattle.pso_layout.specs.declared.buffers.PsoRun.{PsoRun}
 use Rattle.pso_layout.specs.Layout.{put_item, head_item}
 
@@ -16,7 +16,6 @@ advanced_below xs p zero = xs
 advanced_below xs p (suc v) = advanced (advanced_below xs p v) p v
 
 abbrev pub states_after : List ℕ → PsoMove → List ℕ
-states_after states Absent = states
 states_after states (Operate t) = set states t.process t.to
 states_after states (UpdateVariable p v) = states
 states_after states (RemoveMark p) = states
@@ -30,13 +29,11 @@ memory_operated memory Sfence = memory
 memory_operated memory (Arw v old new) = set memory v new
 
 abbrev pub memory_after : PsoRun → List ℕ → PsoMove → List ℕ
-memory_after run a Absent = run.memory
 memory_after run a (Operate t) = memory_operated run.memory t.operation
 memory_after run a (UpdateVariable p v) = set run.memory v (head_item run a p v)
 memory_after run a (RemoveMark p) = run.memory
 
 abbrev pub heads_after : List ℕ → Shape → PsoMove → List ℕ
-heads_after heads s Absent = heads
 heads_after heads s (Operate t) = heads
 heads_after heads s (UpdateVariable p v) = advanced heads p v
 heads_after heads s (RemoveMark p) = advanced_below heads p s.variables
@@ -50,7 +47,6 @@ tails_operated tails s p Sfence = advanced_below tails p s.variables
 tails_operated tails s p (Arw v old new) = tails
 
 abbrev pub tails_after : List ℕ → Shape → PsoMove → List ℕ
-tails_after tails s Absent = tails
 tails_after tails s (Operate t) = tails_operated tails s t.process t.operation
 tails_after tails s (UpdateVariable p v) = tails
 tails_after tails s (RemoveMark p) = tails
@@ -64,7 +60,6 @@ lasts_operated lasts tails p Sfence = lasts
 lasts_operated lasts tails p (Arw v old new) = lasts
 
 abbrev pub lasts_after : List ℕ → List ℕ → PsoMove → List ℕ
-lasts_after lasts tails Absent = lasts
 lasts_after lasts tails (Operate t) = lasts_operated lasts tails t.process t.operation
 lasts_after lasts tails (UpdateVariable p v) = lasts
 lasts_after lasts tails (RemoveMark p) = lasts
@@ -93,7 +88,6 @@ area_operated a tails s p Sfence = marked_below a tails p s.variables
 area_operated a tails s p (Arw v old new) = a
 
 abbrev pub lower_after_move : List ℕ → List ℕ → Shape → PsoMove → List ℕ
-lower_after_move a tails s Absent = a
 lower_after_move a tails s (Operate t) = area_operated a tails s t.process t.operation
 lower_after_move a tails s (UpdateVariable p v) = a
 lower_after_move a tails s (RemoveMark p) = a

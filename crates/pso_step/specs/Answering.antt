@@ -5,12 +5,9 @@ use Rattle.machine_pws.specs.declared.Operation.{Operation}
 use Rattle.machine_pws.specs.declared.Operation.TheVariants.{Nop, Read, Write, Mfence, Sfence, Arw}
 use Rattle.machine_pws.specs.declared.Transition.{Transition}
 use Rattle.file_records.specs.declared.program.Shape.{Shape}
-use Rattle.run_causes.specs.declared.Cause.TheVariants.{State}
-use Rattle.run_causes.specs.declared.Answer.{Answer}
-use Rattle.run_causes.specs.declared.Answer.TheVariants.{Refused}
-use Rattle.run_causes.specs.Causes.{first_cause}
+use Rattle.run_causes.specs.Causes.{Answer, first_cause}
 use Rattle.pso_layout.specs.declared.moves.PsoMove.{PsoMove}
-use Rattle.pso_layout.specs.declared.moves.PsoMove.TheVariants.{Absent, Operate, UpdateVariable, RemoveMark}
+use Rattle.pso_layout.specs.declared.moves.PsoMove.TheVariants.{Operate, UpdateVariable, RemoveMark}
 use Rattle.pso_layout.specs.declared.buffers.PsoRun.{PsoRun}
 use Rattle.pso_layout.specs.Layout.{empty_in, value_first_in, no_items_in, all_marked_in, sees_in}
 
@@ -42,7 +39,6 @@ unfoldable pub may_remove_in : PsoRun → List ℕ → Shape → ℕ → Bool
 may_remove_in run a s p = ltb p s.processes && all_marked_in run a s p
 
 abbrev pub answer_in : PsoRun → List ℕ → Shape → PsoMove → Answer
-answer_in run a s Absent = Refused State
 answer_in run a s (Operate t) = operate_answer_in run a s t
 answer_in run a s (UpdateVariable p v) = first_cause true true true true (may_update_in run a s p v)
 answer_in run a s (RemoveMark p) = first_cause true true true true (may_remove_in run a s p)

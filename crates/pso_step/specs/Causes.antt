@@ -1,7 +1,7 @@
 -- Why the PSO machine refuses a step (request N7, in the order of request N1): the process is in another local state (12), a buffer is not empty
 -- (16), another value is there (15); or there is nothing to update, or a mark heads the buffer, or a mark does not head every buffer (18). A
 -- pointer (17) is never the cause.
-use Rattle.std.specs.Prelude.{ℕ, ◌<◌, ◌≡◌, ◌≢◌, Bool, true, false, cond, ◌&&◌, [], length, get_or, eqb, ltb}
+use Rattle.std.specs.Prelude.{ℕ, ◌<◌, ◌≡◌, ◌≢◌, Bool, true, false, cond, ◌&&◌, [], length, get_or, eqb, ltb, Err}
 use Rattle.machine_pws.specs.declared.Operation.{Operation}
 use Rattle.machine_pws.specs.declared.Operation.TheVariants.{Nop, Read, Write, Mfence, Sfence, Arw}
 use Rattle.machine_pws.specs.declared.Transition.{Transition}
@@ -12,9 +12,7 @@ use Rattle.machine_pso.specs.declared.PsoStep.TheVariants.{Operate, UpdateVariab
 use Rattle.machine_pso.specs.Machine.{PsoConfiguration, no_item, value_first, mark_first, pso_sees, pso_may}
 use Rattle.run_causes.specs.declared.Cause.{Cause}
 use Rattle.run_causes.specs.declared.Cause.TheVariants.{State, Queue, Pointer, Value, Nothing}
-use Rattle.run_causes.specs.declared.Answer.{Answer}
-use Rattle.run_causes.specs.declared.Answer.TheVariants.{Refused}
-use Rattle.run_causes.specs.Causes.{first_cause}
+use Rattle.run_causes.specs.Causes.{Answer, first_cause}
 
 -- ---- the causes, in the machine's words
 
@@ -87,7 +85,7 @@ pso_operate_answer S d t =
     first_cause (eqb (d.state t.process) t.from) (pso_queue_fits S d t.process t.operation) true (pso_value_fits d t.process t.operation) true
 
 abbrev pub pso_step_answer : Program → PsoConfiguration → PsoStep → Answer
-pso_step_answer P d (Operate n) = cond (ltb n (length P.transitions)) (pso_operate_answer P.shape d (transition P n)) (Refused State)
+pso_step_answer P d (Operate n) = cond (ltb n (length P.transitions)) (pso_operate_answer P.shape d (transition P n)) (Err State)
 pso_step_answer P d (UpdateVariable p v) =
     first_cause true true true true ((ltb p P.shape.processes && ltb v P.shape.variables) && value_first (d.buffer p v))
 pso_step_answer P d (RemoveMark p) =

@@ -2,83 +2,75 @@
 ghost use Rattle.std.specs.Prelude.{◌≡◌};
 ghost use Rattle.pso_step.specs.Answering.{queue_fits_in, value_fits_in, operate_answer_in, may_update_in, may_remove_in, answer_in};
 
-use base::bytes::both;
-use file_records::program::{Shape, of_four};
+use base::arrays::at_or;
 use machine_pws::{Operation, Transition};
-use pso_layout::buffers::{PsoRun, all_marked, is_empty, no_items, sees, value_first};
+use pso_layout::buffers::PsoHeld;
 use pso_layout::moves::PsoMove;
-use run_causes::{Answer, Cause, first_cause};
+use run_causes::{Cause, first_cause};
 
 // What an operation asks of the buffers, and of the value.
-fn queue_fits(run: PsoRun, shape: Shape, p: usize, operation: Operation) -> bool
-    ensures { result ≡ queue_fits_in run shape p operation }
+fn queue_fits(held: &PsoHeld, p: usize, operation: Operation) -> bool
+    ensures { result ≡ queue_fits_in held.now.run held.now.shape p operation }
 {
     match operation {
-        Operation::Nop => true,
-        Operation::Read { variable, value } => true,
-        Operation::Write { variable, value } => true,
-        Operation::Mfence => no_items(run, shape, p),
-        Operation::Sfence => true,
-        Operation::Arw { variable, old, new } => is_empty(run, p, variable),
+        Operation::Mfence => held.no_items(p),
+        Operation::Arw { variable, .. } => held.is_empty(p, variable),
+        _ => true,
     }
 }
 
-fn value_fits(run: PsoRun, lower: &[u8], p: usize, operation: Operation) -> bool
-    ensures { result ≡ value_fits_in run lower.now p operation }
+fn value_fits(held: &PsoHeld, p: usize, operation: Operation) -> bool
+    ensures { result ≡ value_fits_in held.now.run held.now.lower.now p operation }
 {
     match operation {
-        Operation::Nop => true,
-        Operation::Read { variable, value } => sees(run, lower, p, variable) == value,
-        Operation::Write { variable, value } => true,
-        Operation::Mfence => true,
-        Operation::Sfence => true,
-        Operation::Arw { variable, old, new } => {
-            let memory = run.memory;
-            of_four(memory, variable) == old
-        }
+        Operation::Read { variable, value } => held.sees(p, variable) == value,
+        Operation::Arw { variable, old, .. } => at_or(held.run.memory, variable, 0) == old,
+        _ => true,
     }
 }
 
-fn operate_answer(run: PsoRun, lower: &[u8], shape: Shape, t: Transition) -> Answer
-    ensures { result ≡ operate_answer_in run lower.now shape t }
+#[tactic(auto, unfolding(crate::specs::Answering::operate_answer_in))]
+fn operate_answer(held: &PsoHeld, t: Transition) -> Result<(), Cause>
+    ensures { result ≡ operate_answer_in held.now.run held.now.lower.now held.now.shape t }
 {
-    let p = t.process;
-    let operation = t.operation;
-    let states = run.states;
-    let state = of_four(states, p) == t.from;
-    let queue = queue_fits(run, shape, p, operation);
-    let value = value_fits(run, lower, p, operation);
+    let state = at_or(held.run.states, t.process, 0) == t.from;
+    let queue = queue_fits(held, t.process, t.operation);
+    let value = value_fits(held, t.process, t.operation);
     first_cause(state, queue, true, value, true)
 }
 
-fn may_update(run: PsoRun, lower: &[u8], shape: Shape, p: usize, v: usize) -> bool
-    ensures { result ≡ may_update_in run lower.now shape p v }
+#[tactic(auto, unfolding(crate::specs::Answering::may_update_in))]
+fn may_update(held: &PsoHeld, p: usize, v: usize) -> bool
+    ensures { result ≡ may_update_in held.now.run held.now.lower.now held.now.shape p v }
 {
-    both(
-        both(p < shape.processes, v < shape.variables),
-        value_first(run, lower, p, v),
-    )
+    (p < held.shape.processes && v < held.shape.variables) && held.value_first(p, v)
 }
 
-fn may_remove(run: PsoRun, lower: &[u8], shape: Shape, p: usize) -> bool
-    ensures { result ≡ may_remove_in run lower.now shape p }
+#[tactic(auto, unfolding(crate::specs::Answering::may_remove_in))]
+fn may_remove(held: &PsoHeld, p: usize) -> bool
+    ensures { result ≡ may_remove_in held.now.run held.now.lower.now held.now.shape p }
 {
-    both(p < shape.processes, all_marked(run, lower, shape, p))
+    p < held.shape.processes && held.all_marked(p)
 }
 
-pub fn step_answer(run: PsoRun, lower: &[u8], shape: Shape, step: PsoMove) -> Answer
-    ensures { result ≡ answer_in run lower.now shape step }
+pub fn step_answer(held: &PsoHeld, step: PsoMove) -> Result<(), Cause>
+    ensures { result ≡ answer_in held.now.run held.now.lower.now held.now.shape step }
 {
     match step {
-        PsoMove::Absent => Answer::Refused(Cause::State),
-        PsoMove::Operate(t) => operate_answer(run, lower, shape, t),
-        PsoMove::UpdateVariable { process, variable } => {
-            let some = may_update(run, lower, shape, process, variable);
-            first_cause(true, true, true, true, some)
-        }
-        PsoMove::RemoveMark { process } => {
-            let some = may_remove(run, lower, shape, process);
-            first_cause(true, true, true, true, some)
-        }
+        PsoMove::Operate(t) => operate_answer(held, t),
+        PsoMove::UpdateVariable { process, variable } => first_cause(
+            true,
+            true,
+            true,
+            true,
+            may_update(held, process, variable),
+        ),
+        PsoMove::RemoveMark { process } => first_cause(
+            true,
+            true,
+            true,
+            true,
+            may_remove(held, process),
+        ),
     }
 }

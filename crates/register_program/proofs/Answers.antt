@@ -1,6 +1,7 @@
 -- What a program that was found fine comes to.
+use Rattle.std.specs.Prelude.{Result, Ok, Err}
 use Prim.Native.Nat.{ℕ, ◌+◌, ◌-◌, ◌*◌, ◌<◌, ◌≤◌}
-use mathlib.Core.Path.{◌≡◌, refl, sym, ap, subst, ◌∙◌}
+use mathlib.Core.Path.{◌≡◌, refl, sym, ap, ◌∙◌}
 use mathlib.Core.Bool.{Bool, true, false}
 use mathlib.Core.List.{List, ◌++◌}
 use native.Mathlib.Omega.{arith}
@@ -11,13 +12,10 @@ use borrow.Author.Tests.{lt-ltb, le-ltb, ltb-false}
 use Rattle.machine_pws.specs.Program as pws
 use Rattle.file_records.specs.declared.program.Program.{Program}
 use Rattle.file_records.specs.declared.program.Refusal.{Refusal}
-use Rattle.file_records.specs.declared.program.Checked.TheVariants.{Refused}
-use Rattle.file_records.specs.declared.program.Counted.{Counted}
-use Rattle.file_records.specs.declared.program.Counted.TheVariants.{Records, Stopped}
 use Rattle.file_records.specs.Records.{state_at}
-use Rattle.file_records.specs.ProgramPart.{table_from, targets_of}
+use Rattle.file_records.specs.ProgramPart.{table_from, targets_of, whether, program_read}
 use Rattle.file_again.proofs.Tables.{table_length}
-use Rattle.drawing.specs.Writing.{Made, made, refused}
+use Rattle.drawing.specs.Writing.{made, refused}
 use Rattle.register_machine.specs.Program.{RegisterProgram, has_register}
 use Rattle.register_machine.specs.Written.{joined, pair_of, states_of, choices, becomes_in, written, target_becomes, written_targets}
 use Rattle.register_program.specs.Form.{shape_record, states_record, transition_record, target_record, program_bytes}
@@ -40,13 +38,13 @@ bytes_length P ts =
     let c = joined target_record ts in
     omega (arith, length-append (shape_record P.shape) (a ++ (b ++ c)), length-append a (b ++ c), length-append b c, joined_length (states_record P) 3 (λ p. refl) (table_from (λ p. p) 0 P.shape.processes), table_length (λ (p : ℕ). p) 0 P.shape.processes, joined_length transition_record 8 transition_eight P.transitions, joined_length target_record 5 (λ t. refl) ts)
 
-records_same : {m n : ℕ} → ◌≡◌ {A = Counted} (Records m) (Records n) → m ≡ n
+records_same : {m n : ℕ} → ◌≡◌ {A = Result ℕ Refusal} (Ok m) (Ok n) → m ≡ n
 records_same e = cc
 
-stopped_same : {r s : Refusal} → ◌≡◌ {A = Counted} (Stopped r) (Stopped s) → r ≡ s
+stopped_same : {r s : Refusal} → ◌≡◌ {A = Result ℕ Refusal} (Err r) (Err s) → r ≡ s
 stopped_same e = cc
 
-records_stopped : {n : ℕ} {r : Refusal} → ◌≡◌ {A = Counted} (Records n) (Stopped r) → ⊥
+records_stopped : {n : ℕ} {r : Refusal} → ◌≡◌ {A = Result ℕ Refusal} (Ok n) (Err r) → ⊥
 records_stopped e = let z : ◌≡◌ {A = ℕ} 0 1 = cc in omega arith
 
 module _ {f : List ℕ} {p : Program} (F : Found f p) {has : List Bool} (e : has ≡ registers_in f p) where
@@ -83,7 +81,7 @@ module _ {f : List ℕ} {p : Program} (F : Found f p) {has : List Bool} (e : has
   unfolding made_of
   made_over l = rw (lt-ltb over p.shape.processes l)
 
-  pub made_many : p.shape.processes ≤ over → (r : Refusal) → counted_of R ≡ Stopped r → made_of R ts ≡ refused r.number r.place
+  pub made_many : p.shape.processes ≤ over → (r : Refusal) → counted_of R ≡ Err r → made_of R ts ≡ refused r.number r.place
   unfolding made_of counted_of
   made_many l r c = go (ltb 256 (length (written R).transitions)) refl
     where
@@ -93,7 +91,7 @@ module _ {f : List ℕ} {p : Program} (F : Found f p) {has : List Bool} (e : has
           rw (le-ltb over p.shape.processes l, d) (ap (λ (r : Refusal). refused r.number r.place) s)
       go false d = absurd (records_stopped (rw d at c))
 
-  pub made_written : p.shape.processes ≤ over → (t : ℕ) → counted_of R ≡ Records t
+  pub made_written : p.shape.processes ≤ over → (t : ℕ) → counted_of R ≡ Ok t
       → (made_of R ts ≡ made (program_bytes (written R) (written_targets R ts))) × (t ≡ length (written R).transitions) × (t ≤ 256)
   unfolding made_of counted_of
   made_written l t c = go (ltb 256 (length (written R).transitions)) refl
@@ -116,11 +114,11 @@ targets_few m c a b = let h : m * c ≤ 16 * 256 = mul-le-mul a b in omega arith
 
 -- ---- the whole file
 
-pub registers_refused : (f : List ℕ) (r : Refusal) → (part_of f).answer ≡ Refused r → registers_of f ≡ refused r.number r.place
+pub registers_refused : (f : List ℕ) (r : Refusal) → whether (part_of f) ≡ Err r → registers_of f ≡ refused r.number r.place
 unfolding registers_of
-registers_refused f r e = ap (of_read f (part_of f).program) e
+registers_refused f r e = ap (of_read f (program_read (part_of f))) e
 
 pub registers_made : {f : List ℕ} {p : Program} → Found f p → registers_of f ≡ made_of (register_program_of f p) (targets_of f p)
 unfolding registers_of
 registers_made {f} {p} F =
-    ap (of_read f (part_of f).program) F.fine ∙ ap (λ (p : Program). made_of (register_program_of f p) (targets_of f p)) (sym F.same)
+    ap (of_read f (program_read (part_of f))) F.fine ∙ ap (λ (p : Program). made_of (register_program_of f p) (targets_of f p)) (sym F.same)

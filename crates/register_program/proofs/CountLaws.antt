@@ -1,8 +1,9 @@
 -- The numbers, as the code goes through the 05s and the processes.
+use Rattle.std.specs.Prelude.{Ok, Err}
 use Prim.Native.Nat.{ℕ, zero, suc, ◌+◌, ◌-◌, ◌*◌, ◌<◌, ◌≤◌}
-use mathlib.Core.Path.{◌≡◌, refl, sym, ap, ap₂, subst, ◌∙◌}
+use mathlib.Core.Path.{◌≡◌, refl, sym, ap, subst, ◌∙◌}
 use mathlib.Core.Bool.{Bool, true, false, cond, ◌&&◌, not}
-use mathlib.Core.List.{List, [], ◌∷◌, ◌++◌, map}
+use mathlib.Core.List.{List}
 use native.Mathlib.Omega.{arith}
 use native.Mathlib.Decide.{ℕ_discrete}
 use lib.ListN.{length, get_or, length-append}
@@ -11,12 +12,10 @@ use borrow.Author.Tests.{lt-ltb, le-ltb, ltb-false}
 use Rattle.machine_pws.specs.declared.Transition.{Transition}
 use Rattle.base.specs.Bytes.{byte}
 use Rattle.file_records.specs.declared.program.Program.{Program}
-use Rattle.file_records.specs.declared.program.Counted.{Counted}
-use Rattle.file_records.specs.declared.program.Counted.TheVariants.{Records, Stopped}
 use Rattle.file_records.specs.ProgramPart.{table_from}
 use Rattle.register_machine.specs.declared.RegisterTransition.{RegisterTransition}
-use Rattle.register_machine.specs.Program.{RegisterProgram, has_register}
-use Rattle.register_machine.specs.Written.{joined, four_values, states_of, written, choices}
+use Rattle.register_machine.specs.Program.{RegisterProgram}
+use Rattle.register_machine.specs.Written.{joined, states_of, written}
 use Rattle.register_program.specs.Reading.{register_transition_at, register_program_of}
 use Rattle.register_program.specs.Registers.{lowest_over, source_of}
 use Rattle.register_program.specs.Parts.{Found, registers_in, counted_of}
@@ -70,19 +69,17 @@ over_none S (suc n) p l q a b = go (λ m. over_none S n (suc p) m q) (ltb 32 (S 
 
 -- ---- transitions
 
-pub record Counting (f : List ℕ) (has : List Bool) (n k₀ k total i : ℕ) : Type 0 where
-  pub place : k ≡ k₀ + 8 * i
+pub record Counting (f : List ℕ) (has : List Bool) (n k₀ total i : ℕ) : Type 0 where
   pub most : i ≤ n
   pub few : total ≤ 256
   pub sum : total + length (joined (expand has) (table_from (transitions_at f k₀) i (n - i))) ≡ length (joined (expand has) (table_from (transitions_at f k₀) 0 n))
   pub source : i + source_of (expand has) (table_from (transitions_at f k₀) i (n - i)) (256 - total) ≡ source_of (expand has) (table_from (transitions_at f k₀) 0 n) 256
 
-pub counting_begin : (f : List ℕ) (has : List Bool) (n k₀ : ℕ) → Counting f has n k₀ k₀ 0 0
+pub counting_begin : (f : List ℕ) (has : List Bool) (n k₀ : ℕ) → Counting f has n k₀ 0 0
 counting_begin f has n k₀ =
     let e = table_all (transitions_at f k₀) n in
     let z : (x : ℕ) → 0 + x ≡ x = λ x. omega arith in
     record {
-      place = omega arith;
       most = omega arith;
       few = omega arith;
       sum = z _ ∙ ap (λ (ts : List RegisterTransition). length (joined (expand has) ts)) e;
@@ -90,13 +87,12 @@ counting_begin f has n k₀ =
     }
 
 -- what the code counts for the 05 at k
-pub expansion : (f : List ℕ) (has : List Bool) (k₀ i k : ℕ) → k ≡ k₀ + 8 * i
-    → states_of (get_or has (byte f (k + 1)) false && not (eqb (byte f (k + 3)) 8)) (states_of (eqb (byte f (k + 3)) 6) 1) ≡ length (expand has (transitions_at f k₀ i))
-expansion f has k₀ i k e =
+pub expansion : (f : List ℕ) (has : List Bool) (k : ℕ)
+    → states_of (get_or has (byte f (k + 1)) false && not (eqb (byte f (k + 3)) 8)) (states_of (eqb (byte f (k + 3)) 6) 1) ≡ length (expand has (register_transition_at f k))
+expansion f has k =
     sym (expands (byte f (k + 4)) (byte f (k + 5)) (byte f (k + 6)) (get_or has (byte f (k + 1)) false) (byte f (k + 1)) (byte f (k + 2)) (byte f (k + 7)) (byte f (k + 3)))
-    ∙ ap (λ (j : ℕ). length (expand has (register_transition_at f j))) e
 
-module _ {f : List ℕ} {has : List Bool} {n k₀ k total i : ℕ} (C : Counting f has n k₀ k total i) where
+module _ {f : List ℕ} {has : List Bool} {n k₀ total i : ℕ} (C : Counting f has n k₀ total i) where
   abbrev rest : ℕ → List RegisterTransition
   rest j = table_from (transitions_at f k₀) j (n - j)
 
@@ -113,14 +109,13 @@ module _ {f : List ℕ} {has : List Bool} {n k₀ k total i : ℕ} (C : Counting
         ap (λ (ts : List RegisterTransition). source_of (expand has) ts (256 - total)) (table_next (transitions_at f k₀) i n l)
         ∙ ap (λ (x : ℕ). cond (ltb (256 - total) x) 0 (suc (source_of (expand has) (rest (i + 1)) (256 - total - x)))) (sym e)
 
-    pub counting_step : total + c ≤ 256 → Counting f has n k₀ (k + 8) (total + c) (i + 1)
+    pub counting_step : total + c ≤ 256 → Counting f has n k₀ (total + c) (i + 1)
     counting_step m =
         let d : 256 - total - c ≡ 256 - (total + c) = omega arith in
         let s : source_of (expand has) (rest i) (256 - total) ≡ suc (source_of (expand has) (rest (i + 1)) (256 - (total + c))) =
         source_more ∙ ap (λ (b : Bool). cond b 0 (suc (source_of (expand has) (rest (i + 1)) (256 - total - c)))) (le-ltb (256 - total) c (omega arith))
         ∙ ap (λ (x : ℕ). suc (source_of (expand has) (rest (i + 1)) x)) d in
         record {
-          place = omega (arith, C.place);
           most = omega arith;
           few = m;
           sum = omega (arith, C.sum, size);
@@ -145,17 +140,17 @@ module _ {f : List ℕ} {p : Program} (F : Found f p) {has : List Bool} (e : has
   R = register_program_of f p
 
   pub said_over : (i : ℕ) → 256 < length (joined (expand has) R.transitions) → i ≡ source_of (expand has) R.transitions 256
-      → Stopped (record { number = 28; place = i }) ≡ counted_of R
+      → Err (record { number = 28; place = i }) ≡ counted_of R
   unfolding counted_of
   said_over i l d =
       let x = expand_is F e in
       let m : 256 < length (written R).transitions = subst (λ (g : RegisterTransition → List Transition). 256 < length (joined g R.transitions)) x l in
       let s : i ≡ source_of _ R.transitions 256 = d ∙ ap (λ (g : RegisterTransition → List Transition). source_of g R.transitions 256) x in
-      rw (lt-ltb 256 (length (written R).transitions) m) (ap (λ (j : ℕ). Stopped (record { number = 28; place = j })) s)
+      rw (lt-ltb 256 (length (written R).transitions) m) (ap (λ (j : ℕ). Err (record { number = 28; place = j })) s)
 
-  pub said_count : (total : ℕ) → total ≤ 256 → total ≡ length (joined (expand has) R.transitions) → Records total ≡ counted_of R
+  pub said_count : (total : ℕ) → total ≤ 256 → total ≡ length (joined (expand has) R.transitions) → Ok total ≡ counted_of R
   unfolding counted_of
   said_count total l d =
       let x = expand_is F e in
       let s : total ≡ length (written R).transitions = d ∙ ap (λ (g : RegisterTransition → List Transition). length (joined g R.transitions)) x in
-      rw (le-ltb 256 (length (written R).transitions) (omega (arith, s))) (ap Records s)
+      rw (le-ltb 256 (length (written R).transitions) (omega (arith, s))) (ap Ok s)

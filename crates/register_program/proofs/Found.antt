@@ -1,7 +1,7 @@
 -- What holds of a program with registers that was found fine.
 use Prim.Native.Nat.{ℕ, ◌+◌, ◌*◌, ◌<◌, ◌≤◌}
-use mathlib.Core.Path.{◌≡◌, refl, sym, ap, subst, ◌∙◌}
-use mathlib.Core.Bool.{Bool, true, false}
+use mathlib.Core.Path.{◌≡◌, refl, sym, subst, ◌∙◌}
+use mathlib.Core.Bool.{true}
 use mathlib.Core.List.{List}
 use native.Mathlib.Omega.{arith}
 use native.Mathlib.Decide.{dec_lt}
@@ -18,7 +18,6 @@ use Rattle.file_contents.proofs.ReadingLaws.{ProgramFine, program_fine}
 use Rattle.file_again.proofs.Tables.{of_four}
 use Rattle.file_again.proofs.Names.{PartsNamed, parts_named}
 use Rattle.file_again.proofs.ProgramPart.{ShapeRange, shape_in, states_most, initial_below, transition_named, target_named, targets_least}
-use Rattle.register_program.specs.Registers.{part_of}
 use Rattle.register_program.specs.Parts.{Found, Named}
 
 -- nothing is told of a process that the shape does not have

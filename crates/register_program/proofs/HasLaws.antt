@@ -1,20 +1,20 @@
 -- Which processes have a register, as the code goes through the 05s.
 use Prim.Native.Nat.{ℕ, zero, suc, ◌+◌, ◌-◌, ◌*◌, ◌<◌, ◌≤◌}
-use mathlib.Core.Path.{◌≡◌, refl, sym, ap, ap₂, subst, ◌∙◌}
-use mathlib.Core.Bool.{Bool, true, false, cond, ◌&&◌, ◌||◌}
-use mathlib.Core.List.{List, [], ◌∷◌, ◌++◌}
+use mathlib.Core.Path.{◌≡◌, refl, sym, ap, ◌∙◌}
+use mathlib.Core.Bool.{Bool, true, false, ◌&&◌, ◌||◌}
+use mathlib.Core.List.{List}
 use native.Mathlib.Omega.{arith}
 use native.Mathlib.Decide.{dec_lt}
 use lib.ListN.{length, get_or, get_or-eq_default}
 use lib.Dec.{eqb, leb}
-use borrow.Author.Tests.{ne_eqb}
+use borrow.Author.Tests.{eq-eqb, ne_eqb}
 use Rattle.machine_pws.specs.declared.Transition.{Transition}
 use Rattle.base.specs.Bytes.{byte}
 use Rattle.file_records.specs.declared.program.Program.{Program}
 use Rattle.file_records.specs.ProgramPart.{table_from}
 use Rattle.file_again.proofs.Tables.{of_four}
 use Rattle.register_machine.specs.declared.RegisterTransition.{RegisterTransition}
-use Rattle.register_machine.specs.Program.{uses_register, some_uses, has_register}
+use Rattle.register_machine.specs.Program.{some_uses, has_register}
 use Rattle.register_machine.specs.Written.{becomes, becomes_in}
 use Rattle.register_program.specs.Reading.{register_transition_at, register_program_of}
 use Rattle.register_program.specs.Parts.{Found, registers_in}
@@ -26,14 +26,23 @@ use Rattle.register_program.proofs.Found.{found_read}
 abbrev pub transitions_at : List ℕ → ℕ → ℕ → RegisterTransition
 transitions_at f k₀ j = register_transition_at f (k₀ + 8 * j)
 
-module _ (f : List ℕ) (k₀ n i p k : ℕ) (e : k ≡ k₀ + 8 * i) (l : i < n) where
+module _ (f : List ℕ) (k₀ n i p : ℕ) (l : i < n) where
+  abbrev k : ℕ
+  k = k₀ + 8 * i
+
   abbrev Test : Bool
   Test = eqb (byte f (k + 1)) p && (leb 6 (byte f (k + 3)) && leb (byte f (k + 3)) 8)
 
   more : some_uses (table_from (transitions_at f k₀) i (n - i)) p ≡ Test || some_uses (table_from (transitions_at f k₀) (i + 1) (n - (i + 1))) p
   more =
       ap (λ (ts : List RegisterTransition). some_uses ts p) (table_next (transitions_at f k₀) i n l)
-      ∙ rw (sym e, uses_is (byte f (k + 4)) (byte f (k + 5)) (byte f (k + 6)) (byte f (k + 3)))
+      ∙ rw (uses_is (byte f (k + 4)) (byte f (k + 5)) (byte f (k + 6)) (byte f (k + 3)))
+
+  pub test_own : {b : Bool} → byte f (k + 1) ≡ p → leb 6 (byte f (k + 3)) && leb (byte f (k + 3)) 8 ≡ b → Test ≡ b
+  test_own e d = rw (eq-eqb (byte f (k + 1)) p e) d
+
+  pub test_other : (byte f (k + 1) ≡ p → ⊥) → Test ≡ false
+  test_other h = rw (ne_eqb (byte f (k + 1)) p h)
 
   pub uses_here : Test ≡ true → some_uses (table_from (transitions_at f k₀) i (n - i)) p ≡ true
   uses_here t = more ∙ rw t

@@ -6,7 +6,7 @@ use native.Mathlib.Omega.{arith}
 use lib.ListN.{length, get_or, length-append, get_or-append}
 use lib.Seq.{get_or-append-add}
 use Rattle.file_records.specs.ProgramPart.{table_from}
-use Rattle.drawing.specs.Parts.{placed, Put}
+use Rattle.drawing.specs.Parts.{Put}
 use Rattle.drawing.proofs.PutLaws.{placed_length, then_put, put_as, put_none}
 use Rattle.register_machine.specs.Written.{joined}
 

@@ -1,6 +1,6 @@
 -- The rows of the 02s, 03s and 04s, by the table of registers.
 use Prim.Native.Nat.{ℕ, zero, suc, ◌+◌, ◌-◌, ◌*◌, ◌<◌, ◌≤◌}
-use mathlib.Core.Path.{◌≡◌, refl, sym, ap, ap₂, ◌∙◌}
+use mathlib.Core.Path.{◌≡◌, refl, sym, ap, ◌∙◌}
 use mathlib.Core.Bool.{Bool, false}
 use mathlib.Core.List.{List, [], ◌∷◌, ◌++◌}
 use native.Mathlib.Omega.{arith}
@@ -21,7 +21,7 @@ use Rattle.register_program.specs.Reading.{register_program_of}
 use Rattle.register_program.specs.Parts.{Found, registers_in, chosen}
 use Rattle.register_program.proofs.Joined.{joined_joined, joined_map}
 use Rattle.register_program.proofs.Found.{found_read}
-use Rattle.register_program.proofs.HasLaws.{transitions_at, has_all, has_function, expand, expand_is, no_register}
+use Rattle.register_program.proofs.HasLaws.{has_all, has_function, expand, expand_is, no_register}
 use Rattle.register_program.proofs.TargetLaws.{over_all, rows_chosen, choices_more, four_bytes}
 
 abbrev pub states_row : List Bool → List ℕ → List ℕ → ℕ → List ℕ

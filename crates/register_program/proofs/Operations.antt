@@ -1,14 +1,13 @@
 -- Operations by their number.
 use Prim.Native.Nat.{ℕ, ◌+◌, ◌-◌, ◌<◌}
-use mathlib.Core.Path.{◌≡◌, refl, sym, ap, ap₂, subst, ◌∙◌}
+use mathlib.Core.Path.{◌≡◌, refl, sym, subst, ◌∙◌}
 use mathlib.Core.Bool.{Bool, true, false, cond, ◌&&◌, not}
-use mathlib.Core.List.{List, [], ◌∷◌, ◌++◌}
+use mathlib.Core.List.{[], ◌∷◌}
 use native.Mathlib.Omega.{arith}
 use native.Mathlib.Decide.{ℕ_discrete, dec_lt}
 use lib.ListN.{length}
 use lib.Dec.{eqb, leb, ltb}
 use borrow.Author.Tests.{eqb-true, ltb-true, ne_eqb, lt-leb, le-leb}
-use Rattle.base.specs.Bytes.{byte}
 use Rattle.file_records.specs.declared.program.Format.TheVariants.{Registers}
 use Rattle.file_records.specs.declared.program.Shape.{Shape}
 use Rattle.file_records.specs.Records.{all_zero, value_exists, names_of, operation_names}
@@ -18,7 +17,6 @@ use Rattle.file_again.proofs.Tables.{of_four}
 use Rattle.file_again.proofs.Names.{value_exists_lem}
 use Rattle.register_machine.specs.declared.RegisterOperation.{RegisterOperation}
 use Rattle.register_machine.specs.declared.RegisterOperation.TheVariants.{Nop}
-use Rattle.register_machine.specs.declared.RegisterTransition.{RegisterTransition}
 use Rattle.register_machine.specs.Program.{uses_register, RegisterOperationOf}
 use Rattle.register_machine.specs.Written.{four_values, starting_values, read_values, plain_operation, held, states_of, becomes}
 use Rattle.register_program.specs.Form.{operation_bytes}

@@ -1,13 +1,14 @@
 -- A program and its targets are read back from their records.
-use Prim.Native.Nat.{ℕ, zero, suc, ◌+◌, ◌-◌, ◌*◌, ◌<◌, ◌≤◌}
-use mathlib.Core.Path.{◌≡◌, refl, sym, ap, ap₂, subst, ◌∙◌}
-use mathlib.Core.Bool.{Bool, true, false, cond, ◌&&◌, not}
+use Rattle.std.specs.Prelude.{Result, Ok}
+use Rattle.file_records.specs.declared.program.Refusal.{Refusal}
+use Prim.Native.Nat.{ℕ, ◌+◌, ◌-◌, ◌*◌, ◌<◌, ◌≤◌}
+use mathlib.Core.Path.{◌≡◌, refl, sym, ap, ap₂, ◌∙◌}
+use mathlib.Core.Bool.{Bool, true, false, ◌&&◌, not}
 use mathlib.Core.List.{List, [], ◌∷◌, ◌++◌}
 use native.Mathlib.Omega.{arith}
 use native.Mathlib.Decide.{dec_lt}
-use lib.ListN.{length, get_or, length-append, get_or-append, get_or-eq_default}
+use lib.ListN.{length, get_or, get_or-append, get_or-eq_default}
 use lib.Seq.{get_or-append-add}
-use lib.Dec.{eqb, leb, ltb}
 use borrow.Author.Tests.{eq-eqb, ne_eqb, lt-ltb, le-ltb, le-leb, lt-leb}
 use Rattle.machine_pws.specs.declared.Operation.{Operation}
 use Rattle.machine_pws.specs.declared.Operation.TheVariants.{Nop, Read, Write, Mfence, Sfence, Arw}
@@ -18,10 +19,6 @@ use Rattle.base.specs.Bytes.{byte, cut}
 use Rattle.file_records.specs.declared.program.Format.TheVariants.{Plain}
 use Rattle.file_records.specs.declared.program.Shape.{Shape}
 use Rattle.file_records.specs.declared.program.Program.{Program}
-use Rattle.file_records.specs.declared.program.ProgramRead.{ProgramRead}
-use Rattle.file_records.specs.declared.program.Checked.{Checked}
-use Rattle.file_records.specs.declared.program.Checked.TheVariants.{Fine}
-use Rattle.file_records.specs.declared.program.Counted.TheVariants.{Records}
 use Rattle.file_records.specs.Records.{
   first_number,
   checked,
@@ -48,7 +45,7 @@ use Rattle.file_records.specs.Records.{
   state_at,
   target_number,
 }
-use Rattle.file_records.specs.ProgramPart.{unless_end, states_from, of_process, of_processes, transitions_from, at_end, targets_from, rows_from, rest_from, program_with, table_from, shape_of, program_of, targets_of}
+use Rattle.file_records.specs.ProgramPart.{unless_end, states_from, of_process, of_processes, transitions_from, at_end, targets_from, rows_from, rest_from, program_with, table_from, program_of, targets_of, whether, program_read}
 use Rattle.file_records.proofs.RecordLaws.{unless_not}
 use Rattle.file_again.specs.Contents.{ProgramPartRead}
 use Rattle.file_again.proofs.Tables.{table_length, table_number, table_of, of_four}
@@ -76,7 +73,7 @@ number_zero : {a b c d e : Bool} → a ≡ false → b ≡ false → c ≡ false
 unfolding first_number
 number_zero p q r s t = rw (p, q, r, s, t)
 
-is_fine : (n k : ℕ) → n ≡ 0 → checked n k ≡ Fine
+is_fine : (n k : ℕ) → n ≡ 0 → checked n k ≡ Ok tt
 unfolding checked
 is_fine n k e = rw e
 
@@ -244,7 +241,7 @@ module _ (P : pws.Program) (ts : List (ℕ → ℕ)) (I : ProgramPartRead P ts) 
       (ap not (in_range_lem (byte w (7 + 3 * p + 1)) 32 (omega (arith, b₁, i)) (omega (arith, b₁, I.states p l))))
       (ap not (lt-ltb (byte w (7 + 3 * p + 2)) (byte w (7 + 3 * p + 1)) (omega (arith, b₁, b₂, i))))
 
-  states_fine : states_from w 7 n ≡ Fine
+  states_fine : states_from w 7 n ≡ Ok tt
   states_fine = states_all w n 7 (λ p l. unless_not w (7 + 3 * p) _ (omega (arith, size)) ∙ is_fine _ (7 + 3 * p) (states_zero p l))
 
   abbrev st : List ℕ
@@ -407,7 +404,7 @@ module _ (P : pws.Program) (ts : List (ℕ → ℕ)) (I : ProgramPartRead P ts) 
       let e = sym (ap (byte w) z) ∙ c₀ 0 I.some_target in
       ne_eqb (byte w (7 + 3 * n + 8 * t)) 3 (λ d. omega arith)
 
-  transitions_read : transitions_from Plain s st w (7 + 3 * n) ≡ Records t
+  transitions_read : transitions_from Plain s st w (7 + 3 * n) ≡ Ok t
   unfolding transitions_from
   transitions_read =
       let z : 0 + t ≡ t = omega arith in
@@ -415,9 +412,9 @@ module _ (P : pws.Program) (ts : List (ℕ → ℕ)) (I : ProgramPartRead P ts) 
       (λ i l. rw (place_eight (7 + 3 * n) i) (ap not (is_kind_lem w (7 + 3 * n + 8 * i) 3 (b₀ i l))))
       (λ i l. rw (place_eight (7 + 3 * n) i) (is_fine _ (7 + 3 * n + 8 * i) (transition_zero i l)))
       (rw (place_eight (7 + 3 * n) t) (ap not first_target))
-      ∙ ap Records z
+      ∙ ap Ok z
 
-  targets_read : targets_from Plain true s st w (7 + 3 * n + 8 * t) ≡ Records m
+  targets_read : targets_from Plain true s st w (7 + 3 * n + 8 * t) ≡ Ok m
   unfolding targets_from at_end
   targets_read =
       let z : 0 + m ≡ m = omega arith in
@@ -426,7 +423,7 @@ module _ (P : pws.Program) (ts : List (ℕ → ℕ)) (I : ProgramPartRead P ts) 
       (λ i l. rw (place_five (7 + 3 * n + 8 * t) i, lt-leb (length w) (7 + 3 * n + 8 * t + 5 * i) (omega (arith, size))))
       (λ i l. rw (place_five (7 + 3 * n + 8 * t) i) (unless_not w (7 + 3 * n + 8 * t + 5 * i) _ (omega (arith, size)) ∙ is_fine _ (7 + 3 * n + 8 * t + 5 * i) (target_zero i l)))
       (rw (place_five (7 + 3 * n + 8 * t) m, le-leb (length w) (7 + 3 * n + 8 * t + 5 * m) (omega (arith, size)), le-leb 1 (0 + m) (omega (arith, I.some_target))))
-      ∙ ap Records z
+      ∙ ap Ok z
 
   -- ---- the whole
 
@@ -441,18 +438,18 @@ module _ (P : pws.Program) (ts : List (ℕ → ℕ)) (I : ProgramPartRead P ts) 
         claim = 7 + 3 * n + 8 * t + 5 * m;
       }
 
-  rows_read : rows_from Plain true w (7 + 3 * n) s st it ≡ record { answer = Fine; program = program }
+  rows_read : rows_from Plain true w (7 + 3 * n) s st it ≡ Ok program
   unfolding rows_from
   rows_read = rw (transitions_read, targets_read)
 
-  rest_read : rest_from Plain true w 7 s ≡ record { answer = Fine; program = program }
+  rest_read : rest_from Plain true w 7 s ≡ Ok program
   unfolding rest_from
   rest_read = rw states_fine (ap₂ (rows_from Plain true w (7 + 3 * n) s) states_list initial_list ∙ rows_read)
 
-  all_read : program_with Plain true w 0 ≡ record { answer = Fine; program = program }
+  all_read : program_with Plain true w 0 ≡ Ok program
   unfolding program_with
   all_read =
-      let a : unless_end w 0 (checked (shape_number Plain w 0) 0) ≡ Fine = unless_not w 0 _ (omega (arith, size)) ∙ is_fine _ 0 shape_zero in
+      let a : unless_end w 0 (checked (shape_number Plain w 0) 0) ≡ Ok tt = unless_not w 0 _ (omega (arith, size)) ∙ is_fine _ 0 shape_zero in
       rw a (ap (rest_from Plain true w 7) shape_is ∙ rest_read)
 
   moves_back : table_from (λ i. transition_at w (7 + 3 * n + 8 * i)) 0 t ≡ P.transitions
@@ -477,7 +474,7 @@ module _ (P : pws.Program) (ts : List (ℕ → ℕ)) (I : ProgramPartRead P ts) 
   pub bytes_read : ReadAs w P ts
   bytes_read =
       record {
-        fine = ap (λ (r : ProgramRead). r.answer) all_read;
-        program = ap (λ (r : ProgramRead). program_of w r.program) all_read ∙ program_back;
-        targets = ap (λ (r : ProgramRead). targets_of w r.program) all_read ∙ aims_back;
+        fine = ap (λ (r : Result Program Refusal). whether r) all_read;
+        program = ap (λ (r : Result Program Refusal). program_of w (program_read r)) all_read ∙ program_back;
+        targets = ap (λ (r : Result Program Refusal). targets_of w (program_read r)) all_read ∙ aims_back;
       }

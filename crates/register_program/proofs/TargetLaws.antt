@@ -1,6 +1,6 @@
 -- The 04s of what a target becomes.
-use Prim.Native.Nat.{ℕ, zero, suc, ◌+◌, ◌-◌, ◌*◌, ◌<◌, ◌≤◌}
-use mathlib.Core.Path.{◌≡◌, refl, sym, ap, ap₂, subst, ◌∙◌}
+use Prim.Native.Nat.{ℕ, zero, suc, ◌+◌, ◌-◌, ◌<◌, ◌≤◌}
+use mathlib.Core.Path.{◌≡◌, refl, sym, ap, ap₂, ◌∙◌}
 use mathlib.Core.Bool.{Bool, true, false, cond}
 use mathlib.Core.List.{List, [], ◌∷◌, ◌++◌, map, append-nil}
 use native.Mathlib.Omega.{arith}
@@ -14,10 +14,10 @@ use Rattle.base.specs.Bytes.{byte}
 use Rattle.file_records.specs.Records.{state_at}
 use Rattle.file_again.proofs.Tables.{of_four}
 use Rattle.register_machine.specs.Program.{RegisterProgram, has_register}
-use Rattle.register_machine.specs.Written.{joined, four_values, pair_of, states_of, choices, target_becomes}
+use Rattle.register_machine.specs.Written.{joined, four_values, pair_of, states_of, choices}
 use Rattle.register_program.specs.Form.{target_record}
 use Rattle.register_program.specs.Parts.{chosen, product}
-use Rattle.register_program.proofs.Joined.{joined_append, joined_joined, joined_map}
+use Rattle.register_program.proofs.Joined.{joined_joined, joined_map}
 
 -- the registers of processes below p as they were chosen, the others by c
 abbrev pub over : (ℕ → ℕ) → ℕ → (ℕ → ℕ) → ℕ → ℕ

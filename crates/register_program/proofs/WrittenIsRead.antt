@@ -1,35 +1,33 @@
 -- The bytes that are written are read, by the judge's own reader, as the program and the targets that are written.
-use Prim.Native.Nat.{ℕ, zero, suc, ◌+◌, ◌-◌, ◌*◌, ◌<◌, ◌≤◌}
-use mathlib.Core.Path.{◌≡◌, refl, sym, ap, ap₂, subst, ◌∙◌}
+use Rattle.std.specs.Prelude.{Result, Ok, Err, ⊤}
+use Rattle.file_records.specs.declared.program.Refusal.{Refusal}
+use Prim.Native.Nat.{ℕ, zero, suc, ◌+◌, ◌*◌, ◌<◌, ◌≤◌}
+use mathlib.Core.Path.{◌≡◌, refl, sym, ap, ap₂, subst}
 use mathlib.Core.Bool.{Bool, true, false, cond}
 use mathlib.Core.List.{List, [], ◌∷◌, ◌++◌, map}
 use native.Mathlib.Omega.{arith}
 use native.Mathlib.Nat.{mul-le-mul}
 use native.Mathlib.Decide.{dec_lt}
-use lib.ListN.{length, get_or, take, get_or-eq_default}
+use lib.ListN.{length, get_or, get_or-eq_default}
 use lib.Dec.{eqb, ltb}
 use borrow.Author.Tests.{ltb-false}
-use Rattle.machine_pws.specs.Program as pws
 use Rattle.machine_pws.specs.Program.{ShapeInRange}
 use Rattle.machine_pws.specs.Machine.{put}
 use Rattle.machine_pws.specs.Configurations.{StatesOf}
 use Rattle.base.specs.Bytes.{byte, choose}
-use Rattle.file_records.specs.declared.program.Checked.{Checked}
-use Rattle.file_records.specs.declared.program.Checked.TheVariants.{Fine, Refused}
 use Rattle.file_records.specs.declared.program.Program.{Program}
 use Rattle.file_records.specs.declared.program.Shape.{Shape}
 use Rattle.file_records.specs.Records.{value_count, state_at}
-use Rattle.file_records.specs.ProgramPart.{table_from, shape_of, targets_of}
+use Rattle.file_records.specs.ProgramPart.{table_from, targets_of, whether, program_read}
 use Rattle.file_again.specs.Contents.{ProgramPartRead}
 use Rattle.file_again.proofs.Tables.{table_length, table_number}
 use Rattle.file_again.proofs.Names.{states_of_lem}
 use Rattle.drawing.specs.Writing.{Made, made, refused}
-use Rattle.register_machine.specs.declared.RegisterTransition.{RegisterTransition}
 use Rattle.register_machine.specs.Program.{RegisterProgram, RegisterWellFormed, RegisterTransitionOf, register_transition, no_register_transition, has_register}
 use Rattle.register_machine.specs.Written.{joined, four_values, pair_of, states_of, choices, becomes_in, written, target_becomes, written_targets}
 use Rattle.register_machine.proofs.Stepping.{pair_below, written_in_range}
 use Rattle.register_program.specs.Form.{program_bytes}
-use Rattle.register_program.specs.Reading.{register_transition_at, register_program_of}
+use Rattle.register_program.specs.Reading.{register_program_of}
 use Rattle.register_program.specs.Registers.{lowest_over, source_of, made_of, of_read, part_of, registers_of, program_in, targets_in, ReadAs, WrittenIsRead}
 use Rattle.register_program.specs.Parts.{Found, registers_in, product}
 use Rattle.register_program.proofs.Operations.{named_operation}
@@ -234,8 +232,8 @@ module _ {f : List ℕ} {p : Program} (F : Found f p) where
 
 pub written_is_read : WrittenIsRead
 unfolding registers_of
-written_is_read f w e = go (part_of f).answer refl e
+written_is_read f w e = go (whether (part_of f)) refl e
   where
-    go : (x : Checked) → (part_of f).answer ≡ x → of_read f (part_of f).program x ≡ made w → ReadAs w (written (program_in f)) (written_targets (program_in f) (targets_in f))
-    go Fine d e = found_written (record { fine = d; same = refl }) w e
-    go (Refused r) d e = absurd (let z : ◌≡◌ {A = ℕ} 0 1 = cc in omega arith)
+    go : (x : Result ⊤ Refusal) → whether (part_of f) ≡ x → of_read f (program_read (part_of f)) x ≡ made w → ReadAs w (written (program_in f)) (written_targets (program_in f) (targets_in f))
+    go (Ok _) d e = found_written (record { fine = d; same = refl }) w e
+    go (Err r) d e = absurd (let z : ◌≡◌ {A = ℕ} 0 1 = cc in omega arith)

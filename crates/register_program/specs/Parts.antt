@@ -1,16 +1,14 @@
 -- What the functions of this crate are handed: a program that was found fine, and which processes have a register.
-use Rattle.std.specs.Prelude.{ℕ, zero, suc, ◌+◌, ◌<◌, ◌≡◌, Bool, true, false, cond, List, [], ◌∷◌, ◌++◌, map, length, get_or, ltb}
+use Rattle.file_records.specs.declared.program.Refusal.{Refusal}
+use Rattle.file_records.specs.ProgramPart.{whether, program_read}
+use Rattle.std.specs.Prelude.{ℕ, zero, suc, ◌+◌, ◌<◌, ◌≡◌, Bool, true, false, cond, List, [], ◌∷◌, ◌++◌, map, length, get_or, ltb, Result, Ok, Err}
 use Rattle.base.specs.Bytes.{choose, byte}
 use Rattle.machine_pws.specs.declared.Transition.{Transition}
 use Rattle.machine_pws.specs.Machine.{put}
 use Rattle.file_records.specs.declared.program.Format.TheVariants.{Registers}
 use Rattle.file_records.specs.declared.program.Shape.{Shape}
-use Rattle.file_records.specs.declared.program.Checked.TheVariants.{Fine}
-use Rattle.file_records.specs.declared.program.Counted.{Counted}
-use Rattle.file_records.specs.declared.program.Counted.TheVariants.{Records, Stopped}
 use Rattle.file_records.specs.declared.program.Program.{Program}
 use Rattle.file_records.specs.Records.{operation_names}
-use Rattle.drawing.specs.declared.Written.{Written}
 use Rattle.register_machine.specs.declared.RegisterTransition.{RegisterTransition}
 use Rattle.register_machine.specs.Program.{RegisterProgram, has_register}
 use Rattle.register_machine.specs.Written.{pair_of, states_of, read_values, plain_transition, becomes_in, written}
@@ -20,8 +18,8 @@ use Rattle.register_program.specs.Registers.{source_of, part_of}
 
 -- p is what was read of f
 pub record Found (f : List ℕ) (p : Program) : Type 0 where
-  pub fine : (part_of f).answer ≡ Fine
-  pub same : p ≡ (part_of f).program
+  pub fine : whether (part_of f) ≡ Ok tt
+  pub same : p ≡ program_read (part_of f)
 
 -- has each of four processes a register?
 abbrev pub registers_in : List ℕ → Program → List Bool
@@ -32,17 +30,14 @@ registers_in f p =
     ∷ has_register (register_program_of f p) 3
     ∷ []
 
-abbrev pub said : ℕ → ℕ → Written
-said number value = record { number = number; value = value }
-
 -- ---- numbers
 
 -- the number of transitions, or 28 with the number of the transition that a 257th comes from
-unfoldable pub counted_of : RegisterProgram → Counted
+unfoldable pub counted_of : RegisterProgram → Result ℕ Refusal
 counted_of R =
     choose (ltb 256 (length (written R).transitions))
-    (λ _. Stopped (record { number = 28; place = source_of (becomes_in R) R.transitions 256 }))
-    (λ _. Records (length (written R).transitions))
+    (λ _. Err (record { number = 28; place = source_of (becomes_in R) R.transitions 256 }))
+    (λ _. Ok (length (written R).transitions))
 
 -- how many choices of register values there are
 abbrev pub product : List Bool → ℕ

@@ -1,15 +1,13 @@
 -- What a file of a program with registers comes to (document 02, N8): the bytes of the program without registers, or a refusal. Records are read first;
 -- "after all records have been read, a process that would need over 32 states is refused with 19 and the lowest such process, then a 257th transition
 -- with 28 and the number of the 05 it comes from, then a slice too short with 29 and the bytes needed" (`answered_or 29` of the crate drawing).
-use Rattle.std.specs.Prelude.{ℕ, zero, suc, ◌-◌, ◌≡◌, true, cond, List, [], ◌∷◌, length, ltb}
+use Rattle.file_records.specs.declared.program.Refusal.{Refusal}
+use Rattle.std.specs.Prelude.{ℕ, zero, suc, ◌-◌, ◌≡◌, true, cond, List, [], ◌∷◌, length, ltb, Result, Ok, Err, ⊤}
 use Rattle.base.specs.Bytes.{choose}
 use Rattle.machine_pws.specs.Program as pws
 use Rattle.file_records.specs.declared.program.Format.TheVariants.{Registers}
-use Rattle.file_records.specs.declared.program.Checked.{Checked}
-use Rattle.file_records.specs.declared.program.Checked.TheVariants.{Fine, Refused}
 use Rattle.file_records.specs.declared.program.Program.{Program}
-use Rattle.file_records.specs.declared.program.ProgramRead.{ProgramRead}
-use Rattle.file_records.specs.ProgramPart.{program_with, program_from, program_of, targets_of}
+use Rattle.file_records.specs.ProgramPart.{program_with, program_from, program_of, targets_of, whether, program_read}
 use Rattle.drawing.specs.Writing.{Made, made, refused}
 use Rattle.register_machine.specs.Program.{RegisterProgram}
 use Rattle.register_machine.specs.Written.{becomes_in, written, written_targets}
@@ -35,28 +33,28 @@ made_of R targets =
     (λ _. refused 28 (source_of (becomes_in R) R.transitions 256))
     (λ _. made (program_bytes (written R) (written_targets R targets))))
 
-abbrev pub of_read : List ℕ → Program → Checked → Made
-of_read f p Fine = made_of (register_program_of f p) (targets_of f p)
-of_read f p (Refused r) = refused r.number r.place
+abbrev pub of_read : List ℕ → Program → Result ⊤ Refusal → Made
+of_read f p (Ok _) = made_of (register_program_of f p) (targets_of f p)
+of_read f p (Err r) = refused r.number r.place
 
-abbrev pub part_of : List ℕ → ProgramRead
+abbrev pub part_of : List ℕ → Result Program Refusal
 part_of f = program_with Registers true f 0
 
 unfoldable pub registers_of : List ℕ → Made
-registers_of f = of_read f (part_of f).program (part_of f).answer
+registers_of f = of_read f (program_read (part_of f)) (whether (part_of f))
 
 -- the program and the targets of a file that is fine
 abbrev pub program_in : List ℕ → RegisterProgram
-program_in f = register_program_of f (part_of f).program
+program_in f = register_program_of f (program_read (part_of f))
 
 abbrev pub targets_in : List ℕ → List (ℕ → ℕ)
-targets_in f = targets_of f (part_of f).program
+targets_in f = targets_of f (program_read (part_of f))
 
 -- the judge's own reader reads this program file as this program with these targets
 pub record ReadAs (w : List ℕ) (P : pws.Program) (aims : List (ℕ → ℕ)) : Type 0 where
-  pub fine : (program_from true w 0).answer ≡ Fine
-  pub program : program_of w (program_from true w 0).program ≡ P
-  pub targets : targets_of w (program_from true w 0).program ≡ aims
+  pub fine : whether (program_from true w 0) ≡ Ok tt
+  pub program : program_of w (program_read (program_from true w 0)) ≡ P
+  pub targets : targets_of w (program_read (program_from true w 0)) ≡ aims
 
 -- the bytes written for a file are read as the program written for what it says
 abbrev pub WrittenIsRead : Type 0

@@ -8,10 +8,10 @@ mod has;
 mod put;
 
 ghost use Rattle.std.specs.Prelude.{◌≡◌, length};
-ghost use Rattle.drawing.specs.Writing.{answered_or, left_in};
+ghost use Rattle.drawing.specs.Writing.{told, answered_or, left_in};
 ghost use Rattle.register_program.specs.Registers.{made_of, registers_of};
 ghost use Rattle.register_program.specs.Reading.{register_program_of};
-ghost use Rattle.register_program.specs.Parts.{Found, said};
+ghost use Rattle.register_program.specs.Parts.{Found};
 ghost use Rattle.file_records.specs.ProgramPart.{targets_of};
 
 use crate::count::{choices_of, lowest_over, transitions_of};
@@ -19,41 +19,42 @@ use crate::has::registers_of;
 use crate::put::put_program;
 use drawing::Written;
 use file_program::program::read_with;
-use file_records::program::{Checked, Counted, Format, Program, refusal_of, stop_of};
+use file_records::program::{Format, Program, Refusal};
 
-fn answer(number: u8, value: usize) -> Written
-    ensures { result ≡ said number value }
-{
-    Written {
-        number: number as u64,
-        value: value as u64,
-    }
-}
-
-// A program that was found fine: its numbers first, then its bytes.
-fn write(program: Program, file: &[u8], out: &mut [u8]) -> Written
+// A program that was found fine: its numbers first, then its bytes. The number of bytes written, or the refusal.
+fn write(program: Program, file: &[u8], out: &mut [u8]) -> Result<usize, Refusal>
     requires { Found file.now program }
-    ensures value { result ≡ answered_or 29 (length out.old) (made_of (register_program_of file.now program) (targets_of file.now program)) }
+    ensures value { told result ≡ answered_or 29 (length out.old) (made_of (register_program_of file.now program) (targets_of file.now program)) }
     ensures out_after { out.new ≡ left_in out.old (made_of (register_program_of file.now program) (targets_of file.now program)) }
 {
     let has = registers_of(file, program);
     let processes = program.shape.processes;
     let over = lowest_over(file, program, has);
     if over < processes {
-        return answer(19, over);
+        return Err(Refusal {
+            number: 19,
+            place: over,
+        });
     }
-    let counted = transitions_of(file, program, has);
-    let Counted::Records(transitions) = counted else {
-        let refusal = stop_of(counted);
-        return answer(refusal.number, refusal.place);
-    };
+    let transitions = transitions_of(file, program, has)?;
     let targets = program.targets.count * choices_of(has);
     let needed = 7 + 3 * processes + 8 * transitions + 5 * targets;
     if out.len() < needed {
-        return answer(29, needed);
+        return Err(Refusal {
+            number: 29,
+            place: needed,
+        });
     }
     put_program(out, file, program, has);
-    answer(0, needed)
+    Ok(needed)
+}
+
+fn read_and_write(file: &[u8], out: &mut [u8]) -> Result<usize, Refusal>
+    ensures value { told result ≡ answered_or 29 (length out.old) (registers_of file.now) }
+    ensures out_after { out.new ≡ left_in out.old (registers_of file.now) }
+{
+    let program = read_with(Format::Registers, true, file, 0)?;
+    write(program, file, out)
 }
 
 // The program without registers, in `out`; or a refusal, and nothing is written.
@@ -61,12 +62,5 @@ pub fn registers(file: &[u8], out: &mut [u8]) -> Written
     ensures value { result ≡ answered_or 29 (length out.old) (registers_of file.now) }
     ensures out_after { out.new ≡ left_in out.old (registers_of file.now) }
 {
-    let read = read_with(Format::Registers, true, file, 0);
-    let said = read.answer;
-    let Checked::Fine = said else {
-        let refusal = refusal_of(said);
-        return answer(refusal.number, refusal.place);
-    };
-    let program = read.program;
-    write(program, file, out)
+    Written::from(read_and_write(file, out))
 }

@@ -1,5 +1,5 @@
 // The records of the program without registers, put into a lent slice.
-ghost use Rattle.std.specs.Prelude.{◌≡◌, Bool, ℕ, ◌+◌, ◌-◌, ◌*◌, ◌<◌, ◌≤◌, length, get_or, set};
+ghost use Rattle.std.specs.Prelude.{◌≡◌, Bool, ℕ, ◌+◌, ◌-◌, ◌*◌, ◌<◌, ◌≤◌, length, get_or};
 ghost use Rattle.file_records.specs.ProgramPart.{table_from, targets_of};
 ghost use Rattle.drawing.specs.Parts.{Put};
 ghost use Rattle.register_machine.specs.Written.{joined, plain_transition, becomes, written, written_targets};
@@ -7,10 +7,11 @@ ghost use Rattle.register_program.specs.Form.{shape_record, states_record, trans
 ghost use Rattle.register_program.specs.Reading.{register_transition_at, register_program_of};
 ghost use Rattle.register_program.specs.Parts.{Found, registers_in, chosen, Named, reads, TargetRead, RegistersLow};
 
-use crate::has::{has_at, pair, times};
-use base::bytes::{field, wide};
+use crate::has::{pair, times};
+use base::arrays::{at_or, with_at};
+use base::bytes::{field, four_at};
 use drawing::put::put;
-use file_records::program::{Program, of_four};
+use file_records::program::Program;
 
 // 01
 fn put_shape(out: &mut [u8], file: &[u8], program: Program) -> usize
@@ -37,14 +38,12 @@ fn put_states(out: &mut [u8], start: usize, file: &[u8], program: Program, has: 
     requires { Found file.now program × (has ≡ registers_in file.now program) × (start + length (joined (states_record (written (register_program_of file.now program))) (table_from (λ p. p) 0 program.shape.processes)) ≤ length out.old) }
     ensures { Put out.old out.new start result (joined (states_record (written (register_program_of file.now program))) (table_from (λ p. p) 0 program.shape.processes)) }
 {
-    let n = program.shape.processes;
-    let states = program.states;
-    let initial = program.initial;
     let mut at = start;
-    for p in 0..n {
-        let b = has_at(has, p);
-        let count = times(b, wide(of_four(states, p))) as u8;
-        at = put(out, at, &[2, count, pair(b, of_four(initial, p), 0)]);
+    for p in 0..program.shape.processes {
+        let has_register = at_or(has, p, false);
+        let states = times(has_register, usize::from(at_or(program.states, p, 0)));
+        let initial = pair(has_register, at_or(program.initial, p, 0), 0);
+        at = put(out, at, &[2, states as u8, initial]);
     }
     at
 }
@@ -61,6 +60,7 @@ fn put_one(out: &mut [u8], at: usize, file: &[u8], k: usize, has: bool, r: u8, x
     let operation = field(file, k, 3);
     let variable = field(file, k, 4);
     let state = field(file, k, 7);
+    // (a) the operations are numbers of the file
     match operation {
         6 => put(
             out,
@@ -135,14 +135,11 @@ fn put_transitions(
     requires { Found file.now program × (has ≡ registers_in file.now program) × (start + length (joined transition_record (written (register_program_of file.now program)).transitions) ≤ length out.old) }
     ensures { Put out.old out.new start result (joined transition_record (written (register_program_of file.now program)).transitions) }
 {
-    let row = program.transitions;
-    let n = row.count;
-    let mut k = row.at;
     let mut at = start;
-    for i in 0..n {
-        let b = has_at(has, wide(field(file, k, 1)));
-        at = put_becomes(out, at, file, k, b);
-        k += 8;
+    for i in 0..program.transitions.count {
+        let k = program.transitions.at + 8 * i;
+        let has_register = at_or(has, usize::from(field(file, k, 1)), false);
+        at = put_becomes(out, at, file, k, has_register);
     }
     at
 }
@@ -166,15 +163,6 @@ fn put_target(
     put(out, at, &[4, a, b, c, d])
 }
 
-fn with(registers: [u8; 4], p: usize, r: u8) -> [u8; 4]
-    requires { p < 4 }
-    ensures { result ≡ set registers p r }
-{
-    let mut a = registers;
-    a[p] = r;
-    a
-}
-
 // The registers of the processes below p are chosen; process p's goes through its values, more slowly than those behind it.
 fn put_choices(
     out: &mut [u8],
@@ -190,11 +178,11 @@ fn put_choices(
     if 4 <= p {
         return put_target(out, at, target, has, registers);
     }
-    let a = put_choices(out, at, target, has, p + 1, with(registers, p, 0));
-    if has_at(has, p) {
-        let b = put_choices(out, a, target, has, p + 1, with(registers, p, 1));
-        let c = put_choices(out, b, target, has, p + 1, with(registers, p, 2));
-        return put_choices(out, c, target, has, p + 1, with(registers, p, 3));
+    let a = put_choices(out, at, target, has, p + 1, with_at(registers, p, 0));
+    if at_or(has, p, false) {
+        let b = put_choices(out, a, target, has, p + 1, with_at(registers, p, 1));
+        let c = put_choices(out, b, target, has, p + 1, with_at(registers, p, 2));
+        return put_choices(out, c, target, has, p + 1, with_at(registers, p, 3));
     }
     a
 }
@@ -203,19 +191,10 @@ fn put_targets(out: &mut [u8], start: usize, file: &[u8], program: Program, has:
     requires { Found file.now program × (has ≡ registers_in file.now program) × (start + length (joined target_record (written_targets (register_program_of file.now program) (targets_of file.now program))) ≤ length out.old) }
     ensures { Put out.old out.new start result (joined target_record (written_targets (register_program_of file.now program) (targets_of file.now program))) }
 {
-    let row = program.targets;
-    let n = row.count;
-    let mut k = row.at;
     let mut at = start;
-    for i in 0..n {
-        let target = [
-            field(file, k, 1),
-            field(file, k, 2),
-            field(file, k, 3),
-            field(file, k, 4),
-        ];
-        at = put_choices(out, at, target, has, 0, [0u8; 4]);
-        k += 5;
+    for i in 0..program.targets.count {
+        let target = four_at(file, program.targets.at + 5 * i, 1);
+        at = put_choices(out, at, target, has, 0, [0; 4]);
     }
     at
 }

@@ -11,8 +11,7 @@ ghost use Rattle.report_marks.specs.Copy.{room};
 ghost use Rattle.report_verdict.specs.Answers.{report_said_in_c};
 ghost use Rattle.report_verdict.specs.ByParts.{part_fails, failing_part, said_parts, PartsReady};
 
-use base::bytes::wide;
-use file_records::program::{Checked, Program, refusal_of};
+use file_records::program::Program;
 use judge::{clear_area, judge_pair};
 use report_marks::copy::copied_with;
 use report_marks::marks::{mark_at, mark_bytes, wrong_mark};
@@ -63,9 +62,9 @@ fn run_fails(
     ensures work_after { work.new ≡ area_after work.old }
 {
     let next = evidence_end(file, at);
-    let place = row + 8 * wide(mark_at(marks, i)) + 3;
+    let place = row + 8 * usize::from(mark_at(marks, i)) + 3;
     let verdict = run_verdict(file, end, place, at, next, work);
-    !(verdict.kind == 1)
+    verdict.kind != 1
 }
 
 // The lowest place of a run that fails, of n, the first of which stands at `start`; n if none does.
@@ -122,14 +121,16 @@ fn report_file(file: &[u8], work: &mut [u8]) -> Verdict
     ensures value { result ≡ report_said_in_c file.now (length work.old) }
     ensures work_unchanged { area_after work.new ≡ area_after work.old }
 {
-    let reading = read_report(file, work);
-    let answer = reading.answer;
-    let Checked::Fine = answer else {
-        return unread(file, refusal_of(answer));
-    };
-    let program = reading.program;
-    let marks = reading.marks;
-    judged_parts(file, program, marks.at, marks.count, work)
+    match read_report(file, work) {
+        Ok(reading) => judged_parts(
+            file,
+            reading.program,
+            reading.marks.at,
+            reading.marks.count,
+            work,
+        ),
+        Err(refusal) => unread(file, refusal),
+    }
 }
 
 // And what is left of the work area is as after a list. The crate `exports` hands this function on.

@@ -1,10 +1,10 @@
--- A loop that copies a slice into an array, and what the array's beginning is.
-use Prim.Native.Nat.{ℕ, zero, suc, ◌+◌, ◌<◌, ◌≤◌, min}
-use mathlib.Core.Path.{◌≡◌, refl, sym, ap, ◌∙◌}
-use mathlib.Core.List.{List, [], ◌∷◌}
+-- A slice copied into an array, and what the array's beginning is.
+use Prim.Native.Nat.{ℕ, zero, suc, ◌+◌, ◌≤◌, min}
+use mathlib.Core.Path.{◌≡◌, refl, sym, ap, ap₂, ◌∙◌}
+use mathlib.Core.List.{List, [], ◌∷◌, ◌++◌}
 use native.Mathlib.Omega.{arith}
-use lib.ListN.{length, get_or, set, take, replicate, length-replicate}
-use lib.Seq.{paste, paste-zero, paste-suc, length-paste, take-paste, take_all, set_out}
+use lib.ListN.{length, set, take, drop, replicate, length-replicate}
+use lib.Seq.{paste, length-paste, take-paste, take_all, set_out}
 use Rattle.report_marks.specs.Copy.{copied_in}
 
 take_set : (n : ℕ) (l : List ℕ) (i x : ℕ) → take n (set l i x) ≡ set (take n l) i x
@@ -13,41 +13,24 @@ take_set (suc n) [] i x = refl
 take_set (suc n) (y ∷ l) zero x = refl
 take_set (suc n) (y ∷ l) (suc i) x = ap (λ (r : List ℕ). y ∷ r) (take_set n l i x)
 
--- ---- the loop: the first i bytes stand there
+-- ---- the copy: the first n bytes stand there, and what the array had follows them
 
-pub record Copied (room : ℕ) (g copy : List ℕ) (i : ℕ) : Type 0 where
-  pub fits : i ≤ min (length g) room
-  pub same : copy ≡ paste (replicate room 0) 0 g i
+module _ (room : ℕ) (g front zeros : List ℕ) (n at : ℕ) (z : zeros ≡ replicate room 0) (e : n ≡ min (length g) room) (t : front ≡ take n g) where
+  copy_is : front ++ drop n zeros ≡ paste (replicate room 0) 0 g (min (length g) room)
+  copy_is =
+      let k : n ≡ 0 + min (length g) room = omega (arith, e) in
+      ap₂ (λ (x y : List ℕ). x ++ y) (t ∙ ap (λ (m : ℕ). take m g) e) (ap₂ drop k z)
 
-pub copied_begin : (room : ℕ) (g copy : List ℕ) → copy ≡ replicate room 0 → Copied room g copy 0
-copied_begin room g copy e = record { fits = omega arith; same = e ∙ paste-zero (replicate room 0) 0 g }
-
-module _ {room : ℕ} {g copy : List ℕ} {i : ℕ} (C : Copied room g copy i) where
-  zeros : length (replicate {A = ℕ} room 0) ≡ room
-  zeros = length-replicate room 0
-
-  pub copied_length : length copy ≡ room
-  copied_length =
-      ap length C.same ∙ length-paste (replicate room 0) 0 g i (omega (arith, C.fits, zeros)) (omega (arith, C.fits)) ∙ zeros
-
-  pub copied_next : i < min (length g) room → Copied room g (set copy i (get_or g i 0)) (i + 1)
-  copied_next l =
-      let z : 0 + i ≡ i = omega arith in
-      let y : suc i ≡ i + 1 = omega arith in
-      record {
-        fits = omega arith;
-        same = ap (λ (c : List ℕ). set c i (get_or g i 0)) C.same ∙ ap (λ (k : ℕ). set (paste (replicate room 0) 0 g i) k (get_or g i 0)) (sym z)
-            ∙ paste-suc (replicate room 0) 0 g i 0 (omega (arith, zeros)) (omega arith) ∙ ap (paste (replicate room 0) 0 g) y;
-      }
-
-  pub copied_all : (at n : ℕ) → n ≡ min (length g) room → n ≤ i → set copy at 0 ≡ copied_in room g at
+  pub copied_all : set (front ++ drop n zeros) at 0 ≡ copied_in room g at
   unfolding copied_in
-  copied_all at n e l =
-      let y : i ≡ min (length g) room = omega (arith, C.fits) in
-      ap (λ (c : List ℕ). set c at 0) (C.same ∙ ap (paste (replicate room 0) 0 g) y)
+  copied_all = ap (λ (c : List ℕ). set c at 0) copy_is
 
-  pub copied_past : (at n : ℕ) → n ≡ min (length g) room → n ≤ i → room ≤ at → copy ≡ copied_in room g at
-  copied_past at n e l m = sym (set_out copy at 0 (omega (arith, copied_length))) ∙ copied_all at n e l
+  pub copied_past : room ≤ at → front ++ drop n zeros ≡ copied_in room g at
+  copied_past l =
+      let r : length (replicate {A = ℕ} room 0) ≡ room = length-replicate room 0 in
+      let m : length (front ++ drop n zeros) ≡ room =
+      ap length copy_is ∙ length-paste (replicate room 0) 0 g (min (length g) room) (omega arith) (omega arith) ∙ r in
+      sym (set_out (front ++ drop n zeros) at 0 (omega (arith, m))) ∙ copied_all
 
 -- ---- the beginning, as long as what was copied
 

@@ -1,14 +1,14 @@
 -- The lowest wrong mark by computation is that of the theory.
 use Prim.Native.Nat.{ℕ, ◌+◌, ◌*◌, ◌-◌, ◌<◌, ◌≤◌}
-use mathlib.Core.Path.{◌≡◌, refl, sym, ap, subst, ◌∙◌}
+use mathlib.Core.Path.{◌≡◌, refl, sym, ap, subst}
 use mathlib.Core.Logic.{◌⊎◌, inl, inr, ⊎_elim}
-use mathlib.Core.Bool.{Bool, true, false, ◌&&◌, ◌||◌, not}
+use mathlib.Core.Bool.{Bool, true, false, ◌||◌, not}
 use mathlib.Core.List.{List, [], ◌∷◌}
 use native.Mathlib.Omega.{arith}
 use native.Mathlib.Decide.{dec_lt}
 use lib.ListN.{length, get_or}
-use lib.Dec.{T, eqb, ltb}
-use borrow.Author.Tests.{eqb-true, eqb-false, eq-eqb, ltb-true, ltb-false, lt-ltb, le-ltb}
+use lib.Dec.{T, ltb}
+use borrow.Author.Tests.{eqb-true, eqb-false, ltb-true, ltb-false, lt-ltb, le-ltb}
 use Rattle.machine_pws.specs.declared.Transition.{Transition}
 use Rattle.machine_pws.specs.Program as pws
 use Rattle.machine_pws.specs.Program.{transition, no_transition}
@@ -20,8 +20,8 @@ use Rattle.file_records.proofs.ProgramLaws.{and_true}
 use Rattle.file_again.specs.Again.{transition_of}
 use Rattle.file_again.proofs.Tables.{table_length, table_number, of_four}
 use Rattle.report_theory.specs.Nops.{is_fence, FenceOf}
-use Rattle.report_theory.specs.Report.{mark, DifferentFences}
-use Rattle.report_theory.specs.Verdict.{Repeats, WrongMark, LowestWrong}
+use Rattle.report_theory.specs.Report.{mark}
+use Rattle.report_theory.specs.Verdict.{Repeats, WrongMark}
 use Rattle.report_theory.proofs.Verdict.{right_marks}
 use Rattle.report_marks.specs.Marks.{lowest, earlier_as, repeats_earlier, fence_in, is_wrong, wrong_mark, mark_bytes, fence_of, is_wrong_of, wrong_of, WrongMarkSame, WrongMarkFound}
 use Rattle.report_marks.proofs.Firsts.{lowest_most, lowest_taken, lowest_lower, lowest_same}

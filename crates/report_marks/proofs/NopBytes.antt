@@ -1,4 +1,6 @@
 -- A program file with the operation of one fence set to that of a nop: where everything stands is as before, and the transition there is a nop.
+use Rattle.std.specs.Prelude.{Result, Ok, ⊤}
+use Rattle.file_records.specs.declared.program.Refusal.{Refusal}
 use Prim.Native.Nat.{ℕ, zero, suc, ◌+◌, ◌*◌, ◌<◌, ◌≤◌}
 use mathlib.Core.Path.{◌≡◌, sym, ap, ap₂, subst, ◌∙◌}
 use mathlib.Core.Bool.{Bool, true, cond, not}
@@ -13,8 +15,6 @@ use Rattle.machine_pws.specs.Program as pws
 use Rattle.file_records.specs.declared.program.Format.TheVariants.{Plain}
 use Rattle.file_records.specs.declared.program.Shape.{Shape}
 use Rattle.file_records.specs.declared.program.Program.{Program}
-use Rattle.file_records.specs.declared.program.Checked.{Checked}
-use Rattle.file_records.specs.declared.program.Checked.TheVariants.{Fine}
 use Rattle.base.specs.Bytes.{byte, cut}
 use Rattle.file_records.specs.Records.{
   checked,
@@ -64,7 +64,7 @@ use Rattle.report_marks.specs.Copy.{operation_place}
 
 -- ---- records in a row of which the same is said
 
-module _ (ends ends' : ℕ → ℕ → Bool) (check check' : ℕ → ℕ → Checked) (size : ℕ → ℕ) where
+module _ (ends ends' : ℕ → ℕ → Bool) (check check' : ℕ → ℕ → Result ⊤ Refusal) (size : ℕ → ℕ) where
   row_same : (left at n : ℕ) → ((i : ℕ) → ends (place_of size at i) (n + i) ≡ ends' (place_of size at i) (n + i))
       → ((i : ℕ) → check (place_of size at i) (n + i) ≡ check' (place_of size at i) (n + i)) → row_from ends check size left at n ≡ row_from ends' check' size left at n
   unfolding row_from
@@ -139,7 +139,7 @@ module _ (f g : List ℕ) (c : ℕ) (size : length g ≡ length f) (same : (j : 
   unfolding cut
   cut_same at body = rw size
 
-  unless_same : (at : ℕ) (x : Checked) → unless_end g at x ≡ unless_end f at x
+  unless_same : (at : ℕ) (x : Result ⊤ Refusal) → unless_end g at x ≡ unless_end f at x
   unfolding unless_end
   unless_same at x = rw size
 
@@ -198,12 +198,12 @@ module _ (f g : List ℕ) (c : ℕ) (size : length g ≡ length f) (same : (j : 
   processes_same at k n small a =
       rw (process_same at k n 0 small a, process_same at k n 1 small a, process_same at k n 2 small a, process_same at k n 3 small a)
 
-  states_same : (at n : ℕ) → Apart at (3 * n) → states_from f at n ≡ Fine → states_from g at n ≡ Fine
+  states_same : (at n : ℕ) → Apart at (3 * n) → states_from f at n ≡ Ok tt → states_from g at n ≡ Ok tt
   states_same at n a q =
       states_all g n at (λ p k. ap (λ (x : ℕ). unless_end g (at + 3 * p) (checked x (at + 3 * p))) (states_number_lem (at + 3 * p) (λ j l m. a j (omega arith) (omega arith)))
       ∙ unless_same (at + 3 * p) _ ∙ states_there p k)
     where
-      states_there : (p : ℕ) → p < n → unless_end f (at + 3 * p) (checked (states_number f (at + 3 * p)) (at + 3 * p)) ≡ Fine
+      states_there : (p : ℕ) → p < n → unless_end f (at + 3 * p) (checked (states_number f (at + 3 * p)) (at + 3 * p)) ≡ Ok tt
       states_there p k =
           let e = states_each f at n q p k in
           unless_not f (at + 3 * p) _ (omega (arith, cut_fits f (at + 3 * p) 2 (states_fine f (at + 3 * p) e).whole)) ∙ e
@@ -299,7 +299,7 @@ module _ (f g : List ℕ) (c : ℕ) (size : length g ≡ length f) (same : (j : 
     unfolding program_with
     part_same =
         let k = shape_number_lem 0 (λ j l h e. omega arith) in
-        let a : unless_end g 0 (checked (shape_number Plain g 0) 0) ≡ Fine = ap (λ (x : ℕ). unless_end g 0 (checked x 0)) k.1 ∙ unless_same 0 _ ∙ F.shape in
+        let a : unless_end g 0 (checked (shape_number Plain g 0) 0) ≡ Ok tt = ap (λ (x : ℕ). unless_end g 0 (checked x 0)) k.1 ∙ unless_same 0 _ ∙ F.shape in
         rw (a, F.shape) (ap (rest_from Plain true g (0 + 7)) k.0 ∙ rest_same)
 
   -- ---- what stands there

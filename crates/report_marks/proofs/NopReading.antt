@@ -1,4 +1,6 @@
 -- The copy of a program file with one fence a nop is read as the program with that nop.
+use Rattle.std.specs.Prelude.{Result, Ok}
+use Rattle.file_records.specs.declared.program.Refusal.{Refusal}
 use Prim.Native.Nat.{ℕ, ◌+◌, ◌*◌, ◌<◌}
 use mathlib.Core.Path.{◌≡◌, refl, sym, ap, subst, ◌∙◌}
 use mathlib.Core.Bool.{Bool, true, false, cond, not}
@@ -13,11 +15,9 @@ use Rattle.machine_pws.specs.declared.Transition.{Transition}
 use Rattle.machine_pws.specs.Program as pws
 use Rattle.file_records.specs.declared.program.Format.TheVariants.{Plain}
 use Rattle.file_records.specs.declared.program.Program.{Program}
-use Rattle.file_records.specs.declared.program.ProgramRead.{ProgramRead}
-use Rattle.file_records.specs.declared.program.Checked.TheVariants.{Fine}
 use Rattle.base.specs.Bytes.{byte}
 use Rattle.file_records.specs.Records.{checked, is_kind, shape_at, transition_at, transition_number, memory_at}
-use Rattle.file_records.specs.ProgramPart.{of_processes, transitions_from, program_from, program_of, targets_of}
+use Rattle.file_records.specs.ProgramPart.{of_processes, transitions_from, program_from, program_of, targets_of, whether, program_read}
 use Rattle.base.proofs.ByteLaws.{cut_fits}
 use Rattle.file_records.proofs.RecordLaws.{transition_fine}
 use Rattle.file_contents.specs.Reading.{
@@ -51,9 +51,9 @@ nop_read n (list P ts es) = list (with_nops P (only n)) ts es
 nop_read n (run P ts m ss) = run (with_nops P (only n)) ts m ss
 nop_read n (pso_run P ts m ss) = pso_run (with_nops P (only n)) ts m ss
 
-module _ (f : List ℕ) (n : ℕ) (q : (program_from true f 0).answer ≡ Fine) where
+module _ (f : List ℕ) (n : ℕ) (q : whether (program_from true f 0) ≡ Ok tt) where
   abbrev p : Program
-  p = (program_from true f 0).program
+  p = program_read (program_from true f 0)
 
   abbrev c : ℕ
   c = operation_place p n
@@ -125,8 +125,8 @@ module _ (f : List ℕ) (n : ℕ) (q : (program_from true f 0).answer ≡ Fine) 
       parts = elim (dec_lt area 65536) [
         | yes l ↦ parts_short (pair g e) area l ∙ sym (parts_short (pair f e) area l)
         | no l ↦
-            parts_both (pair g e) area (omega arith) (ap (λ (r : ProgramRead). r.answer) part ∙ q)
-            ∙ ap (λ (r : ProgramRead). two_parts r.program (evidence_from e 0 r.program area)) part ∙ sym (parts_both (pair f e) area (omega arith) q)
+            parts_both (pair g e) area (omega arith) (ap (λ (r : Result Program Refusal). whether r) part ∙ q)
+            ∙ ap (λ (r : Result Program Refusal). two_parts (program_read r) (evidence_from e 0 (program_read r) area)) part ∙ sym (parts_both (pair f e) area (omega arith) q)
       ]
 
       -- a run, of the claim that it has

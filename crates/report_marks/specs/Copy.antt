@@ -5,7 +5,7 @@ use Rattle.std.proofs.Math.Seq.{paste}
 use Rattle.machine_pws.specs.declared.Step.{Step}
 use Rattle.machine_pws.specs.Program.{Program}
 use Rattle.file_records.specs.declared.program.Program as records
-use Rattle.file_records.specs.ProgramPart.{program_from}
+use Rattle.file_records.specs.ProgramPart.{program_from, program_read}
 use Rattle.file_contents.specs.Reading.{pair, run, read_file}
 use Rattle.report_theory.specs.Nops.{with_nops, only, FenceOf}
 
@@ -15,7 +15,7 @@ operation_place p n = p.transitions.at + 8 * n + 3
 
 -- the bytes of a program file, with 0, the number of nop, there
 abbrev pub nopped : List ℕ → ℕ → List ℕ
-nopped g n = set g (operation_place (program_from true g 0).program n) 0
+nopped g n = set g (operation_place (program_read (program_from true g 0)) n) 0
 
 -- A run that is read for a program is read, from the same evidence, for the program in which one of its fences is a nop, where the copy
 -- stands for the program file.

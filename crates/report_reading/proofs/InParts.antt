@@ -1,4 +1,5 @@
 -- A report that is read is read part by part.
+use Rattle.std.specs.Prelude.{Result, Ok, Err, ⊤}
 use Prim.Native.Nat.{ℕ, zero, suc, ◌+◌, ◌*◌, ◌<◌, ◌≤◌}
 use mathlib.Core.Path.{◌≡◌, refl, sym, ap, ap₂, subst, ◌∙◌}
 use mathlib.Core.Bool.{Bool, true, false}
@@ -12,11 +13,9 @@ use Rattle.machine_pws.specs.Program as pws
 use Rattle.machine_pws.specs.Machine.{Configuration}
 use Rattle.base.specs.Bytes.{choose, byte}
 use Rattle.file_records.specs.declared.program.Refusal.{Refusal}
-use Rattle.file_records.specs.declared.program.Checked.{Checked}
-use Rattle.file_records.specs.declared.program.Checked.TheVariants.{Fine, Refused}
 use Rattle.file_records.specs.declared.program.Program.{Program}
 use Rattle.file_records.specs.Records.{transition_at}
-use Rattle.file_records.specs.ProgramPart.{program_from, program_of, targets_of}
+use Rattle.file_records.specs.ProgramPart.{program_from, program_of, targets_of, program_read}
 use Rattle.file_contents.specs.Reading.{pair, FileRead, refused, list, run, pso_run}
 use Rattle.file_again.proofs.Contents.{list_read, run_read_lem}
 use Rattle.file_again.proofs.Tables.{table_length}
@@ -91,10 +90,10 @@ module _ (f : List ℕ) (area n : ℕ) where
   runs_part left k rs y ih (pso_run P ts m ss) d e = absurd (not_bad e)
   runs_part left k rs y ih (run P ts m ss) d e = runs_with left k m ss rs (record { program = P; targets = ts; reads = d }) y ih e
 
-  runs_due : (left k : ℕ) (rs : List Run) (y : RunsRead) → ((us : List Run) → y ≡ these_runs us → RunsFine left (suc k) us) → (c : Checked)
+  runs_due : (left k : ℕ) (rs : List Run) (y : RunsRead) → ((us : List Run) → y ≡ these_runs us → RunsFine left (suc k) us) → (c : Result ⊤ Refusal)
       → run_due c (λ _. run_then f (evidence_place f n k) (read_part f area (evidence_place f n k)) y) ≡ these_runs rs → RunsFine (suc left) k rs
-  runs_due left k rs y ih (Refused r) e = absurd (not_bad e)
-  runs_due left k rs y ih Fine e = runs_part left k rs y ih _ refl e
+  runs_due left k rs y ih (Err r) e = absurd (not_bad e)
+  runs_due left k rs y ih (Ok _) e = runs_part left k rs y ih _ refl e
 
   pub runs_fine : (left k : ℕ) (rs : List Run) → runs_from f area left (evidence_place f n k) ≡ these_runs rs → RunsFine left k rs
   unfolding runs_from evidence_place
@@ -149,10 +148,10 @@ module _ (f : List ℕ) (area : ℕ) (P : pws.Program) (ts : List (ℕ → ℕ))
       fine = runs_fine f area n n 1 runs R.rest
 
       inside : program_end f + 2 * n ≤ length f
-      inside = marks_inside (program_from true g 0).program.transitions.count f (program_end f) n F.marks (program_most f)
+      inside = marks_inside (program_read (program_from true g 0)).transitions.count f (program_end f) n F.marks (program_most f)
 
       -- the program of a part is that of the report
-      same_program : {Q : pws.Program} {us : List (ℕ → ℕ)} → (Q ≡ program_of g (program_from true g 0).program) × (us ≡ targets_of g (program_from true g 0).program) → (Q ≡ P) × (us ≡ ts)
+      same_program : {Q : pws.Program} {us : List (ℕ → ℕ)} → (Q ≡ program_of g (program_read (program_from true g 0))) × (us ≡ targets_of g (program_read (program_from true g 0))) → (Q ≡ P) × (us ≡ ts)
       same_program e =
           (e.0 ∙ ap (program_of g) F.same ∙ R.program, e.1 ∙ ap (targets_of g) F.same ∙ R.targets)
 
@@ -171,7 +170,7 @@ module _ (f : List ℕ) (area : ℕ) (P : pws.Program) (ts : List (ℕ → ℕ))
           let e = same_program (run_of_program (pair g (evidence_part f (evidence_place f n (suc i)))) area r.reads) in
           r.reads ∙ ap₂ (λ Q us. run Q us (theory.run runs i).memory (theory.run runs i).steps) e.0 e.1
 
-      transitions : length P.transitions ≡ (program_from true g 0).program.transitions.count
+      transitions : length P.transitions ≡ (program_read (program_from true g 0)).transitions.count
       transitions =
           ap (λ (Q : pws.Program). length Q.transitions) (sym R.program)
           ∙ table_length (λ i. transition_at g (p.transitions.at + 8 * i)) 0 p.transitions.count ∙ ap (λ (q : Program). q.transitions.count) (sym F.same)
@@ -193,10 +192,10 @@ module _ (f : List ℕ) (area : ℕ) (P : pws.Program) (ts : List (ℕ → ℕ))
             list_in_range = list_read (pair g (evidence_part f (program_end f + 2 * n))) area list_part_lem;
             run_in_range = λ i l. let m : i < n = omega (arith, count) in run_read_lem (pair g (evidence_part f (evidence_place f n (suc i)))) area (run_part i m);
             count = fine.count ∙ sym count;
-            few = omega (arith, count, marks_most (program_from true g 0).program.transitions.count f (program_end f) n F.marks);
+            few = omega (arith, count, marks_most (program_read (program_from true g 0)).transitions.count f (program_end f) n F.marks);
             exist = λ i l.
                 let m : i < n = omega (arith, count) in
-                let e = mark_exists (program_from true g 0).program.transitions.count f (program_end f) n F.marks i m in
+                let e = mark_exists (program_read (program_from true g 0)).transitions.count f (program_end f) n F.marks i m in
                 omega (arith, transitions, ap (λ (ms : List ℕ). get_or ms i 0) R.numbers, e);
             enough = F.enough;
             end = subst (λ (k : ℕ). evidence_place f k (suc k) ≡ length f) (sym count) end;

@@ -1,5 +1,6 @@
 -- A refusal in a file of evidence has a place in it, or its end.
-use Prim.Native.Nat.{ℕ, zero, suc, ◌+◌, ◌-◌, ◌<◌, ◌≤◌}
+use Rattle.std.specs.Prelude.{Result, Ok, Err, ⊤}
+use Prim.Native.Nat.{ℕ, zero, suc, ◌+◌, ◌<◌, ◌≤◌}
 use mathlib.Core.Path.{◌≡◌, refl, sym, ap, ◌∙◌}
 use mathlib.Core.Bool.{Bool, true, false, cond, ◌||◌}
 use mathlib.Core.List.{List, [], ◌∷◌, ◌++◌}
@@ -13,13 +14,9 @@ use Rattle.machine_pws.specs.Machine.{Configuration}
 use Rattle.base.specs.Bytes.{choose, byte}
 use Rattle.file_records.specs.declared.program.Shape.{Shape}
 use Rattle.file_records.specs.declared.program.Refusal.{Refusal}
-use Rattle.file_records.specs.declared.program.Checked.{Checked}
-use Rattle.file_records.specs.declared.program.Checked.TheVariants.{Fine, Refused}
-use Rattle.file_records.specs.declared.program.Counted.{Counted}
-use Rattle.file_records.specs.declared.program.Counted.TheVariants.{Records, Stopped}
 use Rattle.file_records.specs.declared.program.Program.{Program}
 use Rattle.file_records.specs.Records.{checked, is_kind, claim_number, start_number, memory_at, step_body, step_number, entry_number}
-use Rattle.file_records.specs.ProgramPart.{unless_end, count_then, row_from, program_from}
+use Rattle.file_records.specs.ProgramPart.{unless_end, row_from, program_from, whether, program_read, and_then}
 use Rattle.file_contents.specs.EvidencePart.{steps_from, extended, body_size, body_number, complete, EntryRead, whole, bad, at_boundary, finished, body_then, entry_from, entry_read, EntriesRead, head_then, entry_then, entries_from, entries_allowed}
 use Rattle.file_contents.specs.Reading.{Input, evidence_at, Evidence, refusal, entries, steps, claim_then, run_evidence, evidence_from, refused, run, pso_run, list_read, evidence_read, parts_read, read_file}
 use Rattle.file_contents.specs.declared.evidence.Part.{Part}
@@ -27,11 +24,11 @@ use Rattle.file_contents.proofs.ReadingLaws.{parts_both}
 
 -- ---- of one record
 
-checked_place : (n k : ℕ) (r : Refusal) → checked n k ≡ Refused r → r.place ≡ k
+checked_place : (n k : ℕ) (r : Refusal) → checked n k ≡ Err r → r.place ≡ k
 unfolding checked
 checked_place n k r e = go (eqb n 0) e
   where
-    go : (b : Bool) → cond b Fine (Refused (record { number = n; place = k })) ≡ Refused r → r.place ≡ k
+    go : (b : Bool) → cond {A = Result ⊤ Refusal} b (Ok tt) (Err (record { number = n; place = k })) ≡ Err r → r.place ≡ k
     go true e = let z : ◌≡◌ {A = ℕ} 0 1 = cc in absurd (omega arith)
     go false e = let z : record { number = n; place = k } ≡ r = cc in ap (λ (q : Refusal). q.place) (sym z)
 
@@ -42,8 +39,8 @@ no_run P ts m ss w q false e = let z : ◌≡◌ {A = ℕ} 0 1 = cc in omega ari
 
 module _ (f : List ℕ) where
   -- every refusal
-  abbrev CheckInside : Checked → Type 0
-  CheckInside x = (r : Refusal) → x ≡ Refused r → r.place ≤ length f
+  abbrev CheckInside : Result ⊤ Refusal → Type 0
+  CheckInside x = (r : Refusal) → x ≡ Err r → r.place ≤ length f
 
   checked_inside : (n at : ℕ) → at ≤ length f → CheckInside (checked n at)
   checked_inside n at l r e = omega (arith, checked_place n at r e)
@@ -52,20 +49,20 @@ module _ (f : List ℕ) where
   unfolding unless_end
   unless_inside n at r e = go (leb (length f) at) refl e
     where
-      go : (b : Bool) → leb (length f) at ≡ b → cond b (Refused (record { number = 6; place = length f })) (checked n at) ≡ Refused r → r.place ≤ length f
+      go : (b : Bool) → leb (length f) at ≡ b → cond b (Err (record { number = 6; place = length f })) (checked n at) ≡ Err r → r.place ≤ length f
       go true d e = let z : record { number = 6; place = length f } ≡ r = cc in omega (arith, ap (λ (q : Refusal). q.place) z)
       go false d e = checked_inside n at (omega (arith, leb-false (length f) at d)) r e
 
   -- ---- steps
 
-  abbrev CountInside : Counted → Type 0
-  CountInside x = (r : Refusal) → x ≡ Stopped r → r.place ≤ length f
+  abbrev CountInside : Result ℕ Refusal → Type 0
+  CountInside x = (r : Refusal) → x ≡ Err r → r.place ≤ length f
 
-  count_choose : (at n k : ℕ) (x : Counted) → CountInside x → (b : Bool) → leb (length f) at ≡ b → (c : Checked) → checked n at ≡ c
-      → CountInside (choose b (λ _. Records k) (λ _. count_then c (λ _. x)))
+  count_choose : (at n k : ℕ) (x : Result ℕ Refusal) → CountInside x → (b : Bool) → leb (length f) at ≡ b → (c : Result ⊤ Refusal) → checked n at ≡ c
+      → CountInside (choose b (λ _. Ok k) (λ _. and_then c (λ _. x)))
   count_choose at n k x ih true d c h r e = let z : ◌≡◌ {A = ℕ} 0 1 = cc in absurd (omega arith)
-  count_choose at n k x ih false d Fine h r e = ih r e
-  count_choose at n k x ih false d (Refused q) h r e =
+  count_choose at n k x ih false d (Ok _) h r e = ih r e
+  count_choose at n k x ih false d (Err q) h r e =
       let z : q ≡ r = cc in
       omega (arith, checked_place n at q h, ap (λ (q : Refusal). q.place) z, leb-false (length f) at d)
 
@@ -73,7 +70,7 @@ module _ (f : List ℕ) where
     row_inside : (left at n : ℕ) → CountInside (row_from (λ k n. leb (length f) k) (λ k n. checked (number k n) k) size left at n)
     unfolding row_from
     row_inside zero at n =
-        count_choose at (number at n) n (Records n) (λ r e. let z : ◌≡◌ {A = ℕ} 0 1 = cc in absurd (omega arith)) (leb (length f) at) refl (checked (number at n) at) refl
+        count_choose at (number at n) n (Ok n) (λ r e. let z : ◌≡◌ {A = ℕ} 0 1 = cc in absurd (omega arith)) (leb (length f) at) refl (checked (number at n) at) refl
     row_inside (suc left) at n =
         count_choose at (number at n) n (row_from (λ k n. leb (length f) k) (λ k n. checked (number k n) k) size left (at + size at) (suc n))
         (row_inside left (at + size at) (suc n)) (leb (length f) at) refl (checked (number at n) at) refl
@@ -103,11 +100,11 @@ module _ (f : List ℕ) where
       go false d e = leb-false (length f) at d
       go true d e = let z : ◌≡◌ {A = ℕ} 0 1 = cc in absurd (omega arith)
 
-  body_inside : (at n : ℕ) (x y : EntryRead) → EntryInside x → EntryInside y → (b : Bool) → at_boundary f at ≡ b → (c : Checked) → checked n at ≡ c
+  body_inside : (at n : ℕ) (x y : EntryRead) → EntryInside x → EntryInside y → (b : Bool) → at_boundary f at ≡ b → (c : Result ⊤ Refusal) → checked n at ≡ c
       → EntryInside (choose b (λ _. x) (λ _. body_then c (λ _. y)))
   body_inside at n x y i j true d c h r e = i r e
-  body_inside at n x y i j false d Fine h r e = j r e
-  body_inside at n x y i j false d (Refused q) h r e =
+  body_inside at n x y i j false d (Ok _) h r e = j r e
+  body_inside at n x y i j false d (Err q) h r e =
       let z : q ≡ r = cc in
       omega (arith, checked_place n at q h, ap (λ (q : Refusal). q.place) z, boundary_inside at d)
 
@@ -124,13 +121,13 @@ module _ (f : List ℕ) where
 
   module _ (os : List ℕ) (es : List Configuration) where
     abbrev so_far : EntriesRead
-    so_far = record { offsets = os; entries = es; answer = Fine }
+    so_far = record { offsets = os; entries = es; answer = Ok tt }
 
-    head_inside : (at n : ℕ) (x : EntriesRead) → (at < length f → CheckInside x.answer) → (b : Bool) → leb (length f) at ≡ b → (c : Checked) → checked n at ≡ c
+    head_inside : (at n : ℕ) (x : EntriesRead) → (at < length f → CheckInside x.answer) → (b : Bool) → leb (length f) at ≡ b → (c : Result ⊤ Refusal) → checked n at ≡ c
         → CheckInside (choose b (λ _. so_far) (λ _. head_then c os es (λ _. x))).answer
     head_inside at n x ih true d c h r e = let z : ◌≡◌ {A = ℕ} 0 1 = cc in absurd (omega arith)
-    head_inside at n x ih false d Fine h r e = ih (leb-false (length f) at d) r e
-    head_inside at n x ih false d (Refused q) h r e =
+    head_inside at n x ih false d (Ok _) h r e = ih (leb-false (length f) at d) r e
+    head_inside at n x ih false d (Err q) h r e =
         let z : q ≡ r = cc in
         omega (arith, checked_place n at q h, ap (λ (q : Refusal). q.place) z, leb-false (length f) at d)
 
@@ -142,7 +139,7 @@ module _ (f : List ℕ) where
   entries_inside : (left : ℕ) (s : Shape) (states : List ℕ) (at : ℕ) (os : List ℕ) (es : List Configuration) → CheckInside (entries_from left s states f at os es).answer
   unfolding entries_from
   entries_inside zero s states at os es =
-      head_inside os es at (entry_number s states f at true) (record { offsets = os; entries = es; answer = Fine })
+      head_inside os es at (entry_number s states f at true) (record { offsets = os; entries = es; answer = Ok tt })
       (λ l r e. let z : ◌≡◌ {A = ℕ} 0 1 = cc in absurd (omega arith)) (leb (length f) at) refl (checked (entry_number s states f at true) at) refl
   entries_inside (suc left) s states at os es =
       head_inside os es at (entry_number s states f at false)
@@ -158,9 +155,9 @@ module _ (f : List ℕ) where
   EvidenceInside (entries r) = CheckInside r.answer
   EvidenceInside (steps claim m n) = CountInside n
 
-  claim_inside : (x : Checked) → CheckInside x → (e : Evidence) → EvidenceInside e → EvidenceInside (claim_then x (λ _. e))
-  claim_inside Fine h e i = i
-  claim_inside (Refused r) h e i = h r refl
+  claim_inside : (x : Result ⊤ Refusal) → CheckInside x → (e : Evidence) → EvidenceInside e → EvidenceInside (claim_then x (λ _. e))
+  claim_inside (Ok _) h e i = i
+  claim_inside (Err r) h e i = h r refl
 
   run_inside : (claim at : ℕ) (p : Program) → EvidenceInside (run_evidence f claim at p)
   unfolding run_evidence
@@ -184,17 +181,17 @@ module _ (f : List ℕ) where
   said_inside x p (refusal r) i w q d = let z : r ≡ q = cc in omega (arith, ap (λ (r : Refusal). r.place) z, i)
   said_inside x p (entries r) i w q d = go r.answer i d
     where
-      go : (y : Checked) → CheckInside y → list_read x p y r ≡ refused w q → q.place ≤ length f
-      go Fine i d = let z : ◌≡◌ {A = ℕ} 0 1 = cc in absurd (omega arith)
-      go (Refused r) i d = let z : r ≡ q = cc in omega (arith, ap (λ (r : Refusal). r.place) z, i r refl)
-  said_inside x p (steps claim m (Records n)) i w q d = absurd (no_run _ _ _ _ w q (eqb claim 1) d)
-  said_inside x p (steps claim m (Stopped r)) i w q d = let z : r ≡ q = cc in omega (arith, ap (λ (r : Refusal). r.place) z, i r refl)
+      go : (y : Result ⊤ Refusal) → CheckInside y → list_read x p y r ≡ refused w q → q.place ≤ length f
+      go (Ok _) i d = let z : ◌≡◌ {A = ℕ} 0 1 = cc in absurd (omega arith)
+      go (Err r) i d = let z : r ≡ q = cc in omega (arith, ap (λ (r : Refusal). r.place) z, i r refl)
+  said_inside x p (steps claim m (Ok n)) i w q d = absurd (no_run _ _ _ _ w q (eqb claim 1) d)
+  said_inside x p (steps claim m (Err r)) i w q d = let z : r ≡ q = cc in omega (arith, ap (λ (r : Refusal). r.place) z, i r refl)
 
 -- where the program is fine and the area is not refused
-pub place_inside : (x : Input) (area : ℕ) → 65536 ≤ area → (program_from x.alone x.code 0).answer ≡ Fine → (w : Part) (q : Refusal) → read_file x area ≡ refused w q
+pub place_inside : (x : Input) (area : ℕ) → 65536 ≤ area → whether (program_from x.alone x.code 0) ≡ Ok tt → (w : Part) (q : Refusal) → read_file x area ≡ refused w q
     → q.place ≤ length x.file
 unfolding read_file
 place_inside x area l e w q d =
-    let p = (program_from x.alone x.code 0).program in
+    let p = program_read (program_from x.alone x.code 0) in
     said_inside x.file x p (evidence_from x.file (evidence_at x p) p area) (evidence_inside x.file (evidence_at x p) p area) w q
     (sym (ap (parts_read x) (parts_both x area l e)) ∙ d)

@@ -1,10 +1,8 @@
 -- The records that a report alone has, and the parts that it is made of (document 02, N10): the program, which ends at the first
 -- mark or claim; the marks; and evidence, each part of which ends where the next claim stands.
-use Rattle.std.specs.Prelude.{ℕ, zero, suc, ◌+◌, ◌*◌, ◌-◌, Bool, true, false, cond, ◌&&◌, ◌||◌, not, List, [], length, take, drop, eqb, leb, ltb}
+use Rattle.std.specs.Prelude.{ℕ, zero, suc, ◌+◌, ◌*◌, ◌-◌, Bool, true, false, cond, ◌&&◌, ◌||◌, not, List, [], length, take, drop, eqb, leb, ltb, Result, ⊤}
 use Rattle.base.specs.Bytes.{choose, byte, cut}
 use Rattle.file_records.specs.declared.program.Refusal.{Refusal}
-use Rattle.file_records.specs.declared.program.Checked.{Checked}
-use Rattle.file_records.specs.declared.program.Counted.{Counted}
 use Rattle.file_records.specs.Records.{first_number, checked, is_kind}
 use Rattle.file_records.specs.ProgramPart.{unless_end, row_from, table_from}
 use Rattle.file_again.specs.Offending.{record_at, is_of_record}
@@ -15,7 +13,7 @@ unfoldable pub mark_number : ℕ → List ℕ → ℕ → ℕ → ℕ
 mark_number transitions f at n = first_number (not (is_kind f at 48)) (cut f at 1) (leb 8 n) false (not (ltb (byte f (at + 1)) transitions))
 
 -- all that stand here
-unfoldable pub marks_from : ℕ → List ℕ → ℕ → Counted
+unfoldable pub marks_from : ℕ → List ℕ → ℕ → Result ℕ Refusal
 marks_from transitions f at = row_from (λ i n. not (is_kind f i 48)) (λ i n. checked (mark_number transitions f i n) i) (λ i. 2) 8 at 0
 
 -- the transition numbers of n of them
@@ -28,7 +26,7 @@ marks_of f at n = table_from (λ i. byte f (at + 2 * i + 1)) 0 n
 unfoldable pub due_number : ℕ → List ℕ → ℕ → ℕ
 due_number claim f at = first_number (not (is_kind f at 15)) (cut f at 1) false false (not (eqb (byte f (at + 1)) claim))
 
-unfoldable pub due_claim : ℕ → List ℕ → ℕ → Checked
+unfoldable pub due_claim : ℕ → List ℕ → ℕ → Result ⊤ Refusal
 due_claim claim f at = unless_end f at (checked (due_number claim f at) at)
 
 -- one that is too many, whatever it claims

@@ -1,18 +1,13 @@
 -- The reading of a report (document 02, N10): "the program, up to 8 marks, evidence with claim 0 for the program, then for each
 -- mark in turn evidence with claim 1". The program and each part of evidence are read as the judge reads a program file and an
 -- evidence file (N6).
-use Rattle.std.specs.Prelude.{ℕ, zero, suc, ◌+◌, ◌*◌, true, List, [], ◌∷◌, length, leb, ltb}
+use Rattle.std.specs.Prelude.{ℕ, zero, suc, ◌+◌, ◌*◌, true, List, [], ◌∷◌, length, leb, ltb, Result, Ok, Err, ⊤}
 use Rattle.machine_pws.specs.Program as pws
 use Rattle.machine_pws.specs.Machine.{Configuration}
 use Rattle.base.specs.Bytes.{choose}
 use Rattle.file_records.specs.declared.program.Refusal.{Refusal}
-use Rattle.file_records.specs.declared.program.Checked.{Checked}
-use Rattle.file_records.specs.declared.program.Checked.TheVariants.{Fine, Refused}
-use Rattle.file_records.specs.declared.program.Counted.{Counted}
-use Rattle.file_records.specs.declared.program.Counted.TheVariants.{Records, Stopped}
 use Rattle.file_records.specs.declared.program.Program.{Program}
-use Rattle.file_records.specs.declared.program.ProgramRead.{ProgramRead}
-use Rattle.file_records.specs.ProgramPart.{no_program, program_from, program_of, targets_of}
+use Rattle.file_records.specs.ProgramPart.{program_from, program_of, targets_of, program_read}
 use Rattle.file_contents.specs.Reading.{pair, FileRead, refused, list, run, pso_run, parts_of, read_file, area_read}
 use Rattle.report_theory.specs.Report.{Run}
 use Rattle.report_reading.specs.declared.ReportReading.{ReportReading}
@@ -31,20 +26,17 @@ pub data Opened : Type 0 where
   -- the program, and how many marks
   opened : Program → ℕ → Opened
 
-abbrev pub program_then : List ℕ → ProgramRead → (Program → Opened) → Opened
-program_then f r x = answered r.answer
-  where
-    answered : Checked → Opened
-    answered Fine = x r.program
-    answered (Refused q) = shut (in_report f 0 (program_end f) q)
+abbrev pub program_then : List ℕ → Result Program Refusal → (Program → Opened) → Opened
+program_then f (Ok p) x = x p
+program_then f (Err q) x = shut (in_report f 0 (program_end f) q)
 
-abbrev pub marks_then : Counted → (ℕ → Opened) → Opened
-marks_then (Records n) x = x n
-marks_then (Stopped r) x = shut r
+abbrev pub marks_then : Result ℕ Refusal → (ℕ → Opened) → Opened
+marks_then (Ok n) x = x n
+marks_then (Err r) x = shut r
 
-abbrev pub list_due : Checked → Opened → Opened
-list_due Fine x = x
-list_due (Refused r) x = shut r
+abbrev pub list_due : Result ⊤ Refusal → Opened → Opened
+list_due (Ok _) x = x
+list_due (Err r) x = shut r
 
 -- 8 comes first
 unfoldable pub open_report : List ℕ → ℕ → Opened
@@ -78,9 +70,9 @@ run_then f at (list P ts es) x = bad_run (out_of_turn at)
 run_then f at (run P ts m ss) x = with_run (record { memory = m; steps = ss }) x
 run_then f at (pso_run P ts m ss) x = bad_run (out_of_turn at)
 
-abbrev pub run_due : Checked → (Unit {0} → RunsRead) → RunsRead
-run_due Fine x = x tt
-run_due (Refused r) x = bad_run r
+abbrev pub run_due : Result ⊤ Refusal → (Unit {0} → RunsRead) → RunsRead
+run_due (Ok _) x = x tt
+run_due (Err r) x = bad_run r
 
 -- n runs from `at` on, and then the file's end
 unfoldable pub runs_from : List ℕ → ℕ → ℕ → ℕ → RunsRead
@@ -116,18 +108,15 @@ read_report f area = opened_read f area (open_report f area)
 
 -- ---- what the code hands on, and what it leaves in the work area
 
-abbrev pub report_refused : Refusal → ReportReading
-report_refused r = record { answer = Refused r; program = no_program; marks = record { at = 0; count = 0 } }
-
-abbrev pub report_opened : List ℕ → Opened → ReportReading
-report_opened f (shut r) = report_refused r
-report_opened f (opened p n) = record { answer = Fine; program = p; marks = record { at = program_end f; count = n } }
+abbrev pub report_opened : List ℕ → Opened → Result ReportReading Refusal
+report_opened f (shut r) = Err r
+report_opened f (opened p n) = Ok (record { program = p; marks = record { at = program_end f; count = n } })
 
 -- the program's record, where the marks begin (and the program ends), and how many there are
-abbrev pub report_reading : List ℕ → ReportRead → ReportReading
-report_reading f (unread r) = report_refused r
+abbrev pub report_reading : List ℕ → ReportRead → Result ReportReading Refusal
+report_reading f (unread r) = Err r
 report_reading f (report P ts marks es rs) =
-    record { answer = Fine; program = (program_from true (program_part f) 0).program; marks = record { at = program_end f; count = length marks } }
+    Ok (record { program = program_read (program_from true (program_part f) 0); marks = record { at = program_end f; count = length marks } })
 
 -- the offsets of entries, in the part that the list is, if it is read
 abbrev pub opened_area : List ℕ → Opened → List ℕ → List ℕ

@@ -2,7 +2,7 @@
 ghost use Rattle.std.specs.Prelude.{◌≡◌, ◌+◌, ◌*◌, length};
 ghost use Rattle.file_contents.specs.Reading.{pair, parts_of, area_read};
 ghost use Rattle.report_reading.specs.Parts.{program_part, evidence_part};
-ghost use Rattle.report_reading.specs.Reading.{open_report, read_part, runs_from, read_report, report_refused, report_opened, report_reading, report_area};
+ghost use Rattle.report_reading.specs.Reading.{open_report, read_part, runs_from, read_report, report_opened, report_reading, report_area};
 ghost use Rattle.report_reading.specs.Answers.{part_answer, runs_answer, evidence_answer, PartReady, EvidenceReady};
 
 use crate::ReportReading;
@@ -10,133 +10,82 @@ use crate::parts::{evidence_end, program_end};
 use crate::records::{due_claim, in_report, marks_from, over_number};
 use file_program::program::read_program;
 use file_reading::evidence::read;
-use file_records::program::{Checked, Counted, Program, Refusal, Row, Shape, refusal_of, stop_of};
-
-fn report_refused(refusal: Refusal) -> ReportReading
-    ensures { result ≡ report_refused refusal }
-{
-    let none = [0u8; 4];
-    ReportReading {
-        answer: Checked::Refused(refusal),
-        program: Program {
-            shape: Shape {
-                processes: 0,
-                variables: 0,
-                values: none,
-            },
-            states: none,
-            initial: none,
-            transitions: Row { at: 0, count: 0 },
-            targets: Row { at: 0, count: 0 },
-            claim: 0,
-        },
-        marks: Row { at: 0, count: 0 },
-    }
-}
+use file_records::program::{Refusal, Row};
 
 // Up to the claim of the list, with a work area of so many bytes.
-fn open_report(file: &[u8], area: usize) -> ReportReading
+fn open_report(file: &[u8], area: usize) -> Result<ReportReading, Refusal>
     ensures { result ≡ report_opened file.now (open_report file.now area) }
 {
     if area < 65536 {
-        return report_refused(Refusal {
+        return Err(Refusal {
             number: 8,
             place: 0,
         });
     }
     let end = program_end(file);
-    let part = read_program(true, &file[..end], 0);
-    let answer = part.answer;
-    let Checked::Fine = answer else {
-        return report_refused(in_report(file, 0, end, refusal_of(answer)));
+    let program = match read_program(true, &file[..end], 0) {
+        Ok(program) => program,
+        Err(refusal) => return Err(in_report(file, 0, end, refusal)),
     };
-    let program = part.program;
-    let transitions = program.transitions;
-    let marks = marks_from(file, end, transitions.count);
-    let Counted::Records(n) = marks else {
-        return report_refused(stop_of(marks));
-    };
-    let due = due_claim(file, end + 2 * n, 0);
-    let Checked::Fine = due else {
-        return report_refused(refusal_of(due));
-    };
-    ReportReading {
-        answer: Checked::Fine,
-        program: program,
+    let n = marks_from(file, end, program.transitions.count)?;
+    due_claim(file, end + 2 * n, 0)?;
+    Ok(ReportReading {
+        program,
         marks: Row { at: end, count: n },
-    }
+    })
 }
 
 // The evidence whose 0F stands at a place, as the judge reads it for the program, which ends at `end`.
-fn read_part(file: &[u8], end: usize, at: usize, work: &mut [u8]) -> Checked
+fn read_part(file: &[u8], end: usize, at: usize, work: &mut [u8]) -> Result<(), Refusal>
     requires { PartReady file.now (length work.old) end at }
     ensures value { result ≡ part_answer file.now at (read_part file.now (length work.old) at) }
     ensures work_after { work.new ≡ area_read (parts_of (pair (program_part file.now) (evidence_part file.now at)) (length work.old)) work.old }
 {
     let next = evidence_end(file, at);
-    let reading = read(true, &file[..end], &file[at..next], work);
-    let answer = reading.answer;
-    let Checked::Fine = answer else {
-        return Checked::Refused(in_report(file, at, next, refusal_of(answer)));
-    };
-    Checked::Fine
+    match read(true, &file[..end], &file[at..next], work) {
+        Ok(_) => Ok(()),
+        Err(unread) => Err(in_report(file, at, next, unread.refusal)),
+    }
 }
 
 // So many runs from a place on, and then the file's end.
-fn runs_from(file: &[u8], end: usize, at: usize, n: usize, work: &mut [u8]) -> Checked
+fn runs_from(file: &[u8], end: usize, at: usize, n: usize, work: &mut [u8]) -> Result<(), Refusal>
     requires { PartReady file.now (length work.old) end at }
     ensures value { result ≡ runs_answer (runs_from file.now (length work.old) n at) }
     ensures work_unchanged { work.new ≡ work.old }
 {
     let mut k = at;
-    for i in 0..n {
-        let due = due_claim(file, k, 1);
-        let Checked::Fine = due else {
-            return due;
-        };
-        let answer = read_part(file, end, k, work);
-        let Checked::Fine = answer else {
-            return answer;
-        };
+    for _ in 0..n {
+        due_claim(file, k, 1)?;
+        read_part(file, end, k, work)?;
         k = evidence_end(file, k);
     }
     if file.len() <= k {
-        return Checked::Fine;
+        return Ok(());
     }
-    Checked::Refused(Refusal {
+    Err(Refusal {
         number: over_number(file, k),
         place: k,
     })
 }
 
 // The list, whose claim is fine, and the runs after it.
-fn read_evidence(file: &[u8], end: usize, n: usize, work: &mut [u8]) -> Checked
+fn read_evidence(file: &[u8], end: usize, n: usize, work: &mut [u8]) -> Result<(), Refusal>
     requires { EvidenceReady file.now (length work.old) end n }
     ensures value { result ≡ evidence_answer file.now (length work.old) n }
     ensures work_after { work.new ≡ area_read (parts_of (pair (program_part file.now) (evidence_part file.now (end + 2 * n))) (length work.old)) work.old }
 {
     let at = end + 2 * n;
-    let list = read_part(file, end, at, work);
-    let Checked::Fine = list else {
-        return list;
-    };
+    read_part(file, end, at, work)?;
     runs_from(file, end, evidence_end(file, at), n, work)
 }
 
 // What a report holds, or the first refusal. The offsets of the list's entries go into the work area, from byte 16,384 on.
-pub fn read_report(file: &[u8], work: &mut [u8]) -> ReportReading
+pub fn read_report(file: &[u8], work: &mut [u8]) -> Result<ReportReading, Refusal>
     ensures value { result ≡ report_reading file.now (read_report file.now (length work.old)) }
     ensures work_after { work.new ≡ report_area file.now work.old }
 {
-    let opened = open_report(file, work.len());
-    let answer = opened.answer;
-    let Checked::Fine = answer else {
-        return opened;
-    };
-    let marks = opened.marks;
-    let said = read_evidence(file, marks.at, marks.count, work);
-    let Checked::Fine = said else {
-        return report_refused(refusal_of(said));
-    };
-    opened
+    let opened = open_report(file, work.len())?;
+    read_evidence(file, opened.marks.at, opened.marks.count, work)?;
+    Ok(opened)
 }

@@ -3,48 +3,45 @@ ghost use Rattle.std.specs.Prelude.{◌≡◌, ◌+◌, ◌<◌};
 ghost use Rattle.file_records.specs.Records.{checked};
 ghost use Rattle.report_reading.specs.Parts.{mark_number, marks_from, due_claim, over_number, in_report};
 
-use base::bytes::{both, cut, field, wide};
-use file_records::program::{Checked, Counted, Refusal, refusal_of, unless_end};
-use file_records::record::{answer, first_number, is_kind};
+use base::bytes::{both, cut, field};
+use file_records::program::{Refusal, unless_end};
+use file_records::record::{checked, first_number, is_kind};
 
 // n of them stand before it.
-fn check_mark(file: &[u8], at: usize, transitions: usize, n: usize) -> Checked
+fn check_mark(file: &[u8], at: usize, transitions: usize, n: usize) -> Result<(), Refusal>
     ensures { result ≡ checked (mark_number transitions file.now at n) at }
 {
-    answer(
+    checked(
         first_number(
             !is_kind(file, at, 48),
             cut(file, at, 1),
             8 <= n,
             false,
-            !(wide(field(file, at, 1)) < transitions),
+            !(usize::from(field(file, at, 1)) < transitions),
         ),
         at,
     )
 }
 
 // The 30s that stand here in a row.
-pub(crate) fn marks_from(file: &[u8], at: usize, transitions: usize) -> Counted
+pub(crate) fn marks_from(file: &[u8], at: usize, transitions: usize) -> Result<usize, Refusal>
     ensures { result ≡ marks_from transitions file.now at }
 {
     let mut k = at;
     let mut n = 0;
     while is_kind(file, k, 48) {
-        let answer = check_mark(file, k, transitions, n);
-        let Checked::Fine = answer else {
-            return Counted::Stopped(refusal_of(answer));
-        };
+        check_mark(file, k, transitions, n)?;
         k += 2;
         n += 1;
     }
-    Counted::Records(n)
+    Ok(n)
 }
 
 // The claim that is due here.
-pub(crate) fn due_claim(file: &[u8], at: usize, claim: u8) -> Checked
+pub(crate) fn due_claim(file: &[u8], at: usize, claim: u8) -> Result<(), Refusal>
     ensures { result ≡ due_claim claim file.now at }
 {
-    let said = answer(
+    let said = checked(
         first_number(
             !is_kind(file, at, 15),
             cut(file, at, 1),

@@ -1,4 +1,5 @@
 -- The judge's answers to the parts of a report give the report's answer.
+use Rattle.std.specs.Prelude.{Result, Ok, Err}
 use Prim.Native.Nat.{ℕ, zero, suc, ◌+◌, ◌*◌, ◌<◌, ◌≤◌}
 use mathlib.Core.Path.{◌≡◌, refl, sym, ap, ap₂, subst, ◌∙◌}
 use mathlib.Core.Bool.{Bool, true, false, cond, not}
@@ -14,9 +15,8 @@ use Rattle.list_theory.specs.Decision as decision
 use Rattle.base.specs.Bytes.{choose, byte}
 use Rattle.file_records.specs.declared.program.Program.{Program}
 use Rattle.file_records.specs.declared.program.Refusal.{Refusal}
-use Rattle.file_records.specs.declared.program.Checked.TheVariants.{Fine, Refused}
 use Rattle.file_records.proofs.RecordLaws.{fine_refused, refused_same}
-use Rattle.file_records.specs.ProgramPart.{refusal_of, program_from, program_of, targets_of}
+use Rattle.file_records.specs.ProgramPart.{program_from, program_of, targets_of, whether, program_read}
 use Rattle.file_contents.specs.Reading.{pair, FileRead, refused, list, run, pso_run, read_file}
 use Rattle.file_again.proofs.Contents.{Outcome, outcome_refused, outcome_list, outcome_run, outcome, file_run}
 use Rattle.file_records.specs.declared.program.Format.TheVariants.{Plain}
@@ -104,7 +104,7 @@ module _ (f : List ℕ) (area : ℕ) (P : pws.Program) (ts : List (ℕ → ℕ))
   g = program_part f
 
   abbrev p : Program
-  p = (program_from true g 0).program
+  p = program_read (program_from true g 0)
 
   abbrev n : ℕ
   n = length marks
@@ -123,10 +123,10 @@ module _ (f : List ℕ) (area : ℕ) (P : pws.Program) (ts : List (ℕ → ℕ))
   program : P ≡ program_of g p
   program = (list_program (pair g (evidence_part f (evidence_place f n 0))) area list_read).0
 
-  fine : (program_from true g 0).answer ≡ Fine
+  fine : whether (program_from true g 0) ≡ Ok tt
   fine = go (outcome (pair g (evidence_part f (evidence_place f n 0))) area)
     where
-      go : Outcome (pair g (evidence_part f (evidence_place f n 0))) area → (program_from true g 0).answer ≡ Fine
+      go : Outcome (pair g (evidence_part f (evidence_place f n 0))) area → whether (program_from true g 0) ≡ Ok tt
       go (outcome_refused w s a b) = let z : ◌≡◌ {A = FileRead} (refused w s) (list P ts es) = sym b ∙ list_read in let y : ◌≡◌ {A = ℕ} 0 1 = cc in absurd (omega arith)
       go (outcome_list L) = L.fine
       go (outcome_run L) = L.fine
@@ -202,29 +202,30 @@ module _ (f : List ℕ) (area : ℕ) (P : pws.Program) (ts : List (ℕ → ℕ))
 
 -- ---- what the reading hands on
 
-module _ (f : List ℕ) (area : ℕ) (r : ReportReading) (e : r ≡ report_reading f (read_report f area)) where
-  pub read_fine : r.answer ≡ Fine
+module _ (f : List ℕ) (area : ℕ) (x : Result ReportReading Refusal) (e : x ≡ report_reading f (read_report f area)) where
+  pub read_fine : (r : ReportReading) → x ≡ Ok r
       → PartsReady f r.marks.at r.marks.count r.program.transitions.at × (said_parts f r.program r.marks.count area ≡ report_said_in_c f area)
   unfolding report_said_in_c
-  read_fine a = go (read_report f area) refl
+  read_fine r a = go (read_report f area) refl
     where
-      go : (x : ReportRead) → read_report f area ≡ x
+      go : (y : ReportRead) → read_report f area ≡ y
           → PartsReady f r.marks.at r.marks.count r.program.transitions.at × (said_parts f r.program r.marks.count area ≡ report_in_c f (read_report f area))
-      go (unread q) d = absurd (fine_refused {r = q} (sym a ∙ ap (λ (y : ReportReading). y.answer) (e ∙ ap (report_reading f) d)))
+      go (unread q) d = let z : ◌≡◌ {A = Result ReportReading Refusal} (Ok r) (Err q) = sym a ∙ e ∙ ap (report_reading f) d in absurd cc
       go (report P ts marks es runs) d =
-          let h : r ≡ report_reading f (report P ts marks es runs) = e ∙ ap (report_reading f) d in (
+          let z : ◌≡◌ {A = Result ReportReading Refusal} (Ok r) (report_reading f (report P ts marks es runs)) = sym a ∙ e ∙ ap (report_reading f) d in
+          let h : r ≡ record { program = program_read (program_from true (program_part f) 0); marks = record { at = program_end f; count = length marks } } = cc in (
             subst (λ (y : ReportReading). PartsReady f y.marks.at y.marks.count y.program.transitions.at) (sym h) (parts_ready f area P ts marks es runs d),
             ap (λ (y : ReportReading). said_parts f y.program y.marks.count area) h ∙ parts_said f area P ts marks es runs d ∙ ap (report_in_c f) (sym d),
           )
 
-  pub read_refused : (q : Refusal) → r.answer ≡ Refused q → unread_in_c f q ≡ report_said_in_c f area
+  pub read_refused : (q : Refusal) → x ≡ Err q → unread_in_c f q ≡ report_said_in_c f area
   unfolding report_said_in_c
   read_refused q a = go (read_report f area) refl
     where
-      go : (x : ReportRead) → read_report f area ≡ x → unread_in_c f q ≡ report_in_c f (read_report f area)
+      go : (y : ReportRead) → read_report f area ≡ y → unread_in_c f q ≡ report_in_c f (read_report f area)
       go (unread s) d =
-          ap (unread_in_c f) (refused_same (sym a ∙ ap (λ (y : ReportReading). y.answer) (e ∙ ap (report_reading f) d))) ∙ ap (report_in_c f) (sym d)
-      go (report P ts marks es runs) d = absurd (fine_refused {r = q} (sym (sym a ∙ ap (λ (y : ReportReading). y.answer) (e ∙ ap (report_reading f) d))))
-
-  pub unread_said : (q : Refusal) → r.answer ≡ Refused q → (s : Refusal) → s ≡ refusal_of r.answer → (v : declared.Verdict) → v ≡ unread_in_c f s → v ≡ report_said_in_c f area
-  unread_said q a s d v e = e ∙ ap (unread_in_c f) (d ∙ ap refusal_of a) ∙ read_refused q a
+          let z : ◌≡◌ {A = Result ReportReading Refusal} (Err q) (Err s) = sym a ∙ e ∙ ap (report_reading f) d in
+          let h : q ≡ s = cc in
+          ap (unread_in_c f) h ∙ ap (report_in_c f) (sym d)
+      go (report P ts marks es runs) d =
+          let z : ◌≡◌ {A = Result ReportReading Refusal} (Err q) (report_reading f (report P ts marks es runs)) = sym a ∙ e ∙ ap (report_reading f) d in absurd cc

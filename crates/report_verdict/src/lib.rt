@@ -6,7 +6,6 @@ ghost use Rattle.verdict.specs.Answers.{stepless, with_record};
 ghost use Rattle.report_reading.specs.Parts.{report_offending, report_offending_at};
 ghost use Rattle.report_verdict.specs.Answers.{unread_in_c};
 
-use base::bytes::least;
 use file_again::offending::{offending, offending_place};
 use file_contents::evidence::Part;
 use file_records::program::Refusal;
@@ -14,13 +13,14 @@ use file_records::record::is_kind;
 use verdict::answer::Verdict;
 
 // A verdict with no step, and the record of this place and length in the report.
+// The verdict of a refused step has a function of its own, with a file and a step besides: each of these would be a constant here.
 fn with_record(kind: u64, first: u64, second: u64, at: u64, length: u64) -> Verdict
     ensures { result ≡ with_record (stepless kind first second) 0 at length }
 {
     Verdict {
-        kind: kind,
-        first: first,
-        second: second,
+        kind,
+        first,
+        second,
         step_kind: 0,
         step_first: 0,
         step_second: 0,
@@ -46,7 +46,7 @@ fn record_length(file: &[u8], number: u8, place: usize) -> usize
         if size == 0 {
             return 0;
         }
-        return least(2, file.len() - place);
+        return usize::min(2, file.len() - place);
     }
     size
 }
@@ -62,9 +62,8 @@ fn record_place(file: &[u8], number: u8, place: usize) -> usize
 pub fn unread(file: &[u8], refusal: Refusal) -> Verdict
     ensures { result ≡ unread_in_c file.now refusal }
 {
-    let number = refusal.number;
-    let place = refusal.place;
+    let Refusal { number, place } = refusal;
     let at = record_place(file, number, place);
     let size = record_length(file, number, place);
-    with_record(2, number as u64, place as u64, at as u64, size as u64)
+    with_record(2, u64::from(number), place as u64, at as u64, size as u64)
 }

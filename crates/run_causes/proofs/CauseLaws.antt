@@ -10,10 +10,9 @@ use Rattle.machine_pws.specs.declared.Step.{Step}
 use Rattle.machine_pws.specs.declared.Step.TheVariants.{Take, Serialise, Update}
 use Rattle.machine_pws.specs.Program.{Shape, Program, transition}
 use Rattle.machine_pws.specs.Machine.{Configuration, is_empty, none_waiting, at_newest, sees, newest, may_operate, may_take, may}
-use Rattle.run_causes.specs.declared.Answer.{Answer}
-use Rattle.run_causes.specs.declared.Answer.TheVariants.{Refused}
+use Rattle.std.specs.Prelude.{Err}
 use Rattle.run_causes.specs.declared.Cause.TheVariants.{State}
-use Rattle.run_causes.specs.Causes.{first_cause, queue_fits, pointer_fits, value_fits, take_answer, step_answer, is_permitted}
+use Rattle.run_causes.specs.Causes.{Answer, first_cause, queue_fits, pointer_fits, value_fits, take_answer, step_answer, is_permitted}
 
 first_all : (a b c d e : Bool) → is_permitted (first_cause a b c d e) ≡ (a && (b && (c && (d && e))))
 unfolding first_cause
@@ -53,7 +52,7 @@ take_all S c P n =
     first_all (eqb (c.state p) t.from) (queue_fits S c p o) (pointer_fits c p o) (value_fits c p o) true
     ∙ ap (λ (b : Bool). eqb (c.state p) t.from && b) (operate_all S c p o)
 
-exists_all : (b : Bool) (x : Answer) (y : Bool) → is_permitted x ≡ y → is_permitted (cond b x (Refused State)) ≡ (b && y)
+exists_all : (b : Bool) (x : Answer) (y : Bool) → is_permitted x ≡ y → is_permitted (cond b x (Err State)) ≡ (b && y)
 exists_all true x y e = e
 exists_all false x y e = refl
 

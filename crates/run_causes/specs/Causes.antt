@@ -1,5 +1,5 @@
 -- Why the machine refuses a step (document 01, "The machine"; document 02, N1): the first of five causes, in this order.
-use Rattle.std.specs.Prelude.{ℕ, Bool, true, false, cond, ◌&&◌, not, length, get_or, eqb, ltb}
+use Rattle.std.specs.Prelude.{ℕ, Bool, true, false, cond, ◌&&◌, not, length, get_or, eqb, ltb, Result, Ok, Err, ⊤}
 use Rattle.machine_pws.specs.declared.Operation.{Operation}
 use Rattle.machine_pws.specs.declared.Operation.TheVariants.{Nop, Read, Write, Mfence, Sfence, Arw}
 use Rattle.machine_pws.specs.declared.Transition.{Transition}
@@ -9,8 +9,10 @@ use Rattle.machine_pws.specs.Program.{Shape, Program, transition}
 use Rattle.machine_pws.specs.Machine.{Configuration, is_empty, none_waiting, at_newest, sees, newest}
 use Rattle.run_causes.specs.declared.Cause.{Cause}
 use Rattle.run_causes.specs.declared.Cause.TheVariants.{State, Queue, Pointer, Value, Nothing}
-use Rattle.run_causes.specs.declared.Answer.{Answer}
-use Rattle.run_causes.specs.declared.Answer.TheVariants.{Permitted, Refused}
+
+-- the answer to a step: it is permitted, or refused for a cause
+abbrev pub Answer : Type 0
+Answer = Result ⊤ Cause
 
 -- the refusal table's number of each
 abbrev pub cause_number : Cause → ℕ
@@ -23,7 +25,7 @@ cause_number Nothing = 18
 -- each argument says that one of the causes does not apply
 unfoldable pub first_cause : Bool → Bool → Bool → Bool → Bool → Answer
 first_cause state queue pointer value some =
-    cond state (cond queue (cond pointer (cond value (cond some Permitted (Refused Nothing)) (Refused Value)) (Refused Pointer)) (Refused Queue)) (Refused State)
+    cond state (cond queue (cond pointer (cond value (cond some (Ok tt) (Err Nothing)) (Err Value)) (Err Pointer)) (Err Queue)) (Err State)
 
 -- what an operation asks of the queues, of the pointer, and of the value that is there
 abbrev pub queue_fits : Shape → Configuration → ℕ → Operation → Bool
@@ -57,12 +59,12 @@ take_answer S c t =
 
 -- a transition that does not exist is in no local state
 abbrev pub step_answer : Program → Configuration → Step → Answer
-step_answer P c (Take n) = cond (ltb n (length P.transitions)) (take_answer P.shape c (transition P n)) (Refused State)
+step_answer P c (Take n) = cond (ltb n (length P.transitions)) (take_answer P.shape c (transition P n)) (Err State)
 step_answer P c (Serialise p v) =
     first_cause true true true true ((ltb p P.shape.processes && ltb v P.shape.variables) && not (is_empty (c.queue p v)))
 step_answer P c (Update p) = first_cause true true true true (ltb p P.shape.processes && ltb (c.memory.pointer p) (length c.memory.channel))
 
 -- `answer_may` says that a step is permitted exactly if the machine may take it
 abbrev pub is_permitted : Answer → Bool
-is_permitted Permitted = true
-is_permitted (Refused cause) = false
+is_permitted (Ok _) = true
+is_permitted (Err cause) = false

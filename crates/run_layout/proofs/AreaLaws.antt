@@ -1,43 +1,15 @@
 -- Laws of the lower part's bytes.
-use Prim.Native.Nat.{ℕ, ◌+◌, ◌*◌, ◌<◌, ◌≤◌}
-use mathlib.Core.Path.{◌≡◌, refl, sym, ◌∙◌}
+use Prim.Native.Nat.{ℕ, ◌+◌, ◌*◌, ◌≤◌}
+use mathlib.Core.Path.{◌≡◌, refl}
 use mathlib.Core.Bool.{Bool, true, false}
 use mathlib.Core.List.{List}
 use native.Mathlib.Omega.{arith}
-use lib.ListN.{get_or-eq_default, length, length-set, length-replicate, get_or, get_or-replicate, set, replicate}
-use lib.Seq.{ext_get_or, get_or-set_same, get_or-set_other}
+use lib.ListN.{get_or-eq_default, length, length-set, get_or, set}
 use lib.Dec.{ltb}
 use Rattle.machine_pws.specs.declared.Operation.TheVariants.{Nop}
 use Rattle.run_layout.specs.Layout.{put_snapshot}
 use Rattle.base.specs.Bytes.{choose, byte}
 use Rattle.file_records.specs.Records.{transition_at, operation_of}
-use native.Mathlib.Decide.{ℕ_discrete}
-
--- ---- cleared up to i
-
-pub record Cleared (old new : List ℕ) (i : ℕ) : Type 0 where
-  pub same : length new ≡ length old
-  pub most : i ≤ length old
-  pub zeros : (j : ℕ) → j < i → get_or new j 0 ≡ 0
-
-pub cleared_begin : (old : List ℕ) → Cleared old old 0
-cleared_begin old = record { same = refl; most = omega arith; zeros = λ j l. omega arith }
-
-pub cleared_next : {old new : List ℕ} {i : ℕ} → Cleared old new i → i < length old → Cleared old (set new i 0) (i + 1)
-cleared_next {old} {new} {i} c l =
-    record {
-      same = length-set new i 0 ∙ c.same;
-      most = omega arith;
-      zeros = λ j k. elim (ℕ_discrete j i) [
-        | yes e ↦ rw e (get_or-set_same new i 0 0 (omega (arith, c.same)))
-        | no e ↦ get_or-set_other new i j 0 0 e ∙ c.zeros j (omega arith)
-      ];
-    }
-
-pub cleared_all : {old new : List ℕ} {i : ℕ} → Cleared old new i → length old ≤ i → new ≡ replicate (length old) 0
-cleared_all {old} {new} {i} c l =
-    ext_get_or 0 new (replicate (length old) 0) (c.same ∙ sym (length-replicate (length old) 0)) (λ j k.
-    c.zeros j (omega (arith, c.same)) ∙ sym (get_or-replicate (length old) j 0 0 (omega (arith, c.same))))
 
 -- ---- past the end of a file everything is 0
 

@@ -7,15 +7,16 @@ use mathlib.Core.List.{List, [], ◌∷◌}
 use native.Mathlib.Omega.{arith}
 use native.Mathlib.Decide.{ℕ_discrete}
 use lib.ListN.{length, length-set, get_or, set}
-use lib.Seq.{get_or-set_same, get_or-set_other}
+use lib.Seq.{get_or-set_same, get_or-set_other, paste, paste-zero, paste-suc}
+use Rattle.std.proofs.Math.Nat.{add-zero}
 use lib.Dec.{eqb}
-use borrow.Author.Tests.{le-ltb, lt-ltb, eq-eqb, ne_eqb}
+use borrow.Author.Tests.{le-ltb, eq-eqb, ne_eqb}
 use Rattle.base.specs.Bytes.{byte}
 use Rattle.run_layout.specs.Layout.{next_number, snapshot_at, put_snapshot, waiting_place, waiting_at, halves, put_waiting}
 
 pub next_is : (x : ℕ) → x < 65535 → next_number x ≡ suc x
 unfolding next_number
-next_is x l = rw (lt-ltb x 65535 l)
+next_is x l = omega arith
 
 -- ---- a snapshot
 
@@ -73,9 +74,25 @@ four_list (x ∷ y ∷ z ∷ []) e = absurd (omega arith)
 four_list (x ∷ y ∷ z ∷ w ∷ []) e = refl
 four_list (x ∷ y ∷ z ∷ w ∷ u ∷ us) e = absurd (omega arith)
 
+-- one store of the four after another is a copy of them
+four_pasted : (a : List ℕ) (b : ℕ) (s : List ℕ) → b + 4 ≤ length a → length s ≡ 4 → paste a b s 4 ≡ four a b s
+four_pasted a b s room e = sym (
+    ap (λ (x : List ℕ). set (set (set x (b + 1) (get_or s 1 0)) (b + 2) (get_or s 2 0)) (b + 3) (get_or s 3 0)) one
+    ∙ ap (λ (x : List ℕ). set (set x (b + 2) (get_or s 2 0)) (b + 3) (get_or s 3 0)) (paste-suc a b s 1 0 (omega arith) (omega arith))
+    ∙ ap (λ (x : List ℕ). set x (b + 3) (get_or s 3 0)) (paste-suc a b s 2 0 (omega arith) (omega arith))
+    ∙ paste-suc a b s 3 0 (omega arith) (omega arith))
+  where
+    one : four1 a b s ≡ paste a b s 1
+    one =
+        ap (λ (k : ℕ). set a k (get_or s 0 0)) (sym (add-zero b)) ∙ ap (λ (x : List ℕ). set x (b + 0) (get_or s 0 0)) (paste-zero a b s)
+        ∙ paste-suc a b s 0 0 (omega arith) (omega arith)
+
 put_fits : (a : List ℕ) (i : ℕ) (s : List ℕ) → 4 * i + 4 ≤ length a → put_snapshot a i s ≡ four a (4 * i) s
 unfolding put_snapshot
 put_fits a i s l = rw (le-ltb (length a) (4 * i + 4) l)
+
+pub put_copied : (a : List ℕ) (i : ℕ) (s : List ℕ) → 4 * i + 4 ≤ length a → length s ≡ 4 → paste a (4 * i) s 4 ≡ put_snapshot a i s
+put_copied a i s l e = four_pasted a (4 * i) s l e ∙ sym (put_fits a i s l)
 
 pub snapshot_same : (a : List ℕ) (i : ℕ) (s : List ℕ) → 4 * i + 4 ≤ length a → length s ≡ 4 → snapshot_at (put_snapshot a i s) i ≡ s
 unfolding snapshot_at

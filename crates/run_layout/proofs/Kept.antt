@@ -1,7 +1,6 @@
 -- What is kept of the bytes and arrays of a run, and laws of the numbers and tables in them.
 use Prim.Native.Nat.{ℕ, zero, suc, ◌+◌, ◌*◌, ◌-◌, ◌<◌, ◌≤◌}
-use mathlib.Core.Path.{◌≡◌, refl, sym, ap, ◌∙◌}
-use mathlib.Core.Bool.{Bool, true, false, ◌&&◌, ◌||◌}
+use mathlib.Core.Path.{◌≡◌, sym, ap, ◌∙◌}
 use mathlib.Core.Option.{some}
 use mathlib.Core.List.{List, []}
 use native.Mathlib.Omega.{arith}
@@ -10,7 +9,7 @@ use lib.ListN.{length, get_or}
 use lib.Dec.{leb}
 use borrow.Author.Tests.{le-leb, lt-leb}
 use Rattle.machine_pws.specs.Program as pws
-use Rattle.machine_pws.specs.Machine.{Configuration, is_empty, newest_waiting, all_below}
+use Rattle.machine_pws.specs.Machine.{Configuration, is_empty, newest_waiting}
 use Rattle.file_records.specs.ProgramPart.{table_from}
 use Rattle.run_layout.specs.declared.arrays.Run.{Run}
 use Rattle.run_layout.specs.Layout.{queue_number, pointer_of, last_write_of}
@@ -18,14 +17,14 @@ use Rattle.run_layout.specs.Represents.{Represents}
 
 -- ---- what else holds of the bytes and arrays after k steps
 
-pub record Kept (S : pws.Shape) (k : ℕ) (run : Run) (rows : List (List ℕ)) (a : List ℕ) (c : Configuration) : Type 0 where
-  pub represents : Represents S run rows a c
+pub record Kept (S : pws.Shape) (k : ℕ) (run : Run) (a : List ℕ) (c : Configuration) : Type 0 where
+  pub represents : Represents S run a c
   pub area : length a ≡ 16384
   pub states : length run.states ≡ 4
   pub heads : length run.heads ≡ 16
   pub tails : length run.tails ≡ 16
-  pub row_count : length rows ≡ 4
-  pub row_length : (p : ℕ) → p < 4 → length (get_or rows p []) ≡ 5
+  pub row_count : length run.rows ≡ 4
+  pub row_length : (p : ℕ) → p < 4 → length (get_or run.rows p []) ≡ 5
   pub order : (q : ℕ) → get_or run.heads q 0 ≤ get_or run.tails q 0
   pub most : (q : ℕ) → get_or run.tails q 0 ≤ k
   pub some : 1 ≤ run.messages
@@ -44,30 +43,6 @@ table_empty g h t = elim (dec_le t h) [
 pub table_newest : (g : ℕ → ℕ) (h n : ℕ) → newest_waiting (table_from g h (suc n)) ≡ some (g (h + n))
 table_newest g h zero = ap (λ (i : ℕ). some (g i)) (omega arith)
 table_newest g h (suc n) = table_newest g (suc h) n ∙ ap (λ (i : ℕ). some (g i)) (omega arith)
-
--- ---- at most four
-
-and_true : (a : Bool) → (a && true) ≡ a
-and_true true = refl
-and_true false = refl
-
-and_assoc : (a b c : Bool) → ((a && b) && c) ≡ (a && (b && c))
-and_assoc true b c = refl
-and_assoc false b c = refl
-
-abbrev each : ℕ → (ℕ → Bool) → Bool
-each n g = (leb n 0 || g 0) && ((leb n 1 || g 1) && ((leb n 2 || g 2) && (leb n 3 || g 3)))
-
-pub all_four : (n : ℕ) → n ≤ 4 → (g f : ℕ → Bool) → ((v : ℕ) → v < n → g v ≡ f v) → each n g ≡ all_below n f
-all_four zero l g f h = refl
-all_four (suc zero) l g f h = rw (h 0 (omega arith)) (and_true (f 0))
-all_four (suc (suc zero)) l g f h = rw (h 0 (omega arith), h 1 (omega arith)) (ap (λ (b : Bool). f 0 && b) (and_true (f 1)))
-all_four (suc (suc (suc zero))) l g f h =
-    rw (h 0 (omega arith), h 1 (omega arith), h 2 (omega arith)) (ap (λ (b : Bool). f 0 && (f 1 && b)) (and_true (f 2)) ∙ sym (and_assoc (f 0) (f 1) (f 2)))
-all_four (suc (suc (suc (suc zero)))) l g f h =
-    rw (h 0 (omega arith), h 1 (omega arith), h 2 (omega arith), h 3 (omega arith))
-    (sym (and_assoc (f 0) (f 1) (f 2 && f 3)) ∙ sym (and_assoc (f 0 && f 1) (f 2) (f 3)))
-all_four (suc (suc (suc (suc (suc n))))) l g f h = absurd (omega arith)
 
 -- ---- numbers
 

@@ -8,11 +8,13 @@ use lib.ListN.{length, get_or}
 use lib.Dec.{ltb}
 use borrow.Author.Tests.{le-leb, lt-leb, lt-ltb, le-ltb}
 use Rattle.machine_pws.specs.declared.Step.TheVariants as step
+use Rattle.machine_pws.specs.declared.Transition.{Transition}
 use Rattle.machine_pws.specs.Program as pws
+use Rattle.std.specs.Prelude.{Some, None}
 use Rattle.file_records.specs.declared.program.Program.{Program}
 use Rattle.file_records.specs.Records.{transition_at}
 use Rattle.file_records.specs.ProgramPart.{table_from, program_of}
-use Rattle.run_layout.specs.declared.moves.Move.TheVariants.{Absent, Take}
+use Rattle.run_layout.specs.declared.moves.Move.TheVariants.{Take}
 use Rattle.run_layout.specs.Layout.{move_of}
 
 table_length {ℓ} : {A : Type ℓ} (g : ℕ → A) (i n : ℕ) → length (table_from g i n) ≡ n
@@ -33,10 +35,10 @@ module _ (f : List ℕ) (p : Program) where
       table_at (λ i. transition_at f (p.transitions.at + 8 * i)) 0 p.transitions.count n pws.no_transition l
       ∙ ap (λ (i : ℕ). transition_at f (p.transitions.at + 8 * i)) (omega arith)
 
-  pub move_take : (n : ℕ) → n < p.transitions.count → move_of f p.transitions (step.Take n) ≡ Take (pws.transition (program_of f p) n)
-  move_take n l = rw (lt-leb p.transitions.count n l) (ap Take (sym (transition_is n l)))
+  pub move_take : (n : ℕ) → n < p.transitions.count → move_of f p.transitions (step.Take n) ≡ Some (Take (pws.transition (program_of f p) n))
+  move_take n l = rw (lt-leb p.transitions.count n l) (ap (λ (t : Transition). Some (Take t)) (sym (transition_is n l)))
 
-  pub move_absent : (n : ℕ) → p.transitions.count ≤ n → move_of f p.transitions (step.Take n) ≡ Absent
+  pub move_absent : (n : ℕ) → p.transitions.count ≤ n → move_of f p.transitions (step.Take n) ≡ None
   move_absent n l = rw (le-leb p.transitions.count n l)
 
   pub exists_is : (n : ℕ) → n < p.transitions.count → ltb n (length (program_of f p).transitions) ≡ true

@@ -1,6 +1,6 @@
 -- How the code holds the configuration of a run: in the lower 16,384 bytes of the work area, in a small struct and in an array of arrays.
 -- specs/Represents.antt says which configuration that is; no statement rests on the other definitions but through it.
-use Rattle.std.specs.Prelude.{ℕ, suc, ◌+◌, ◌*◌, ◌/◌, ◌%◌, cond, List, [], ◌∷◌, length, get_or, set, eqb, leb, ltb}
+use Rattle.std.specs.Prelude.{ℕ, min, ◌+◌, ◌*◌, ◌/◌, ◌%◌, cond, List, [], ◌∷◌, length, get_or, set, eqb, leb, ltb, Option, Some, None}
 use Rattle.machine_pws.specs.declared.Transition.{Transition}
 use Rattle.machine_pws.specs.declared.Step as pws
 use Rattle.machine_pws.specs.declared.Step.TheVariants as steps
@@ -8,13 +8,13 @@ use Rattle.file_records.specs.declared.program.Row.{Row}
 use Rattle.base.specs.Bytes.{choose, byte}
 use Rattle.file_records.specs.Records.{transition_at}
 use Rattle.run_layout.specs.declared.moves.Move.{Move}
-use Rattle.run_layout.specs.declared.moves.Move.TheVariants.{Absent, Take, Serialise, Update}
+use Rattle.run_layout.specs.declared.moves.Move.TheVariants.{Take, Serialise, Update}
 
 -- ---- numbers
 
 -- one more; there is no number past 65,535
 unfoldable pub next_number : ℕ → ℕ
-next_number x = cond (ltb x 65535) (suc x) x
+next_number x = min (x + 1) 65535
 
 -- the queue of process p and variable v; 16 where there is none
 unfoldable pub queue_number : ℕ → ℕ → ℕ
@@ -51,10 +51,11 @@ put_waiting a q k x = set a (waiting_place q k) (halves (byte a (waiting_place q
 abbrev pub transition_in : List ℕ → Row → ℕ → Transition
 transition_in f row n = transition_at f (row.at + 8 * n)
 
-abbrev pub move_of : List ℕ → Row → pws.Step → Move
-move_of f row (steps.Take n) = choose (leb row.count n) (λ _. Absent) (λ _. Take (transition_in f row n))
-move_of f row (steps.Serialise p v) = Serialise p v
-move_of f row (steps.Update p) = Update p
+-- a transition that does not exist has no move
+abbrev pub move_of : List ℕ → Row → pws.Step → Option Move
+move_of f row (steps.Take n) = choose (leb row.count n) (λ _. None) (λ _. Some (Take (transition_in f row n)))
+move_of f row (steps.Serialise p v) = Some (Serialise p v)
+move_of f row (steps.Update p) = Some (Update p)
 
 -- ---- the arrays
 

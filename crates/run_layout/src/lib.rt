@@ -3,7 +3,6 @@
 
 #![tactic(auto)]
 
-mod after;
 pub mod area;
 pub mod arrays;
 pub mod moves;

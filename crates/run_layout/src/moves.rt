@@ -6,10 +6,9 @@ use file_records::program::Row;
 use file_records::record::transition_at;
 use machine_pws::{Operation, Step, Transition};
 
-// A step with its transition; a transition that does not exist is in no local state.
+// A step with its transition.
 #[derive(Clone, Copy)]
 pub enum Move {
-    Absent,
     Take(Transition),
     Serialise { process: usize, variable: usize },
     Update { process: usize },
@@ -34,20 +33,19 @@ pub fn transition_in(file: &[u8], row: Row, n: usize) -> Transition
     transition_at(file, row.at + 8 * n)
 }
 
-pub fn move_of(file: &[u8], transitions: Row, step: Step) -> Move
+// A transition that does not exist has no move.
+pub fn move_of(file: &[u8], transitions: Row, step: Step) -> Option<Move>
     ensures { result ≡ move_of file.now transitions step }
 {
     match step {
         Step::Take { transition } => {
-            if transitions.count <= transition {
-                return Move::Absent;
+            if transition < transitions.count {
+                Some(Move::Take(transition_in(file, transitions, transition)))
+            } else {
+                None
             }
-            Move::Take(transition_in(file, transitions, transition))
         }
-        Step::Serialise { process, variable } => Move::Serialise {
-            process: process,
-            variable: variable,
-        },
-        Step::Update { process } => Move::Update { process: process },
+        Step::Serialise { process, variable } => Some(Move::Serialise { process, variable }),
+        Step::Update { process } => Some(Move::Update { process }),
     }
 }

@@ -22,12 +22,11 @@ use Rattle.machine_pws.specs.Sequences.{Takes, done, step, Replay, ended, stoppe
 use Rattle.machine_pws.proofs.Starts.{start_is, start_exists}
 use Rattle.machine_pws.proofs.Facts.{put_each, T_eq}
 use Rattle.machine_pws.proofs.Cases.{all_yes}
-use Rattle.run_causes.specs.declared.Answer.{Answer}
-use Rattle.run_causes.specs.declared.Answer.TheVariants.{Refused}
+use Rattle.std.specs.Prelude.{Err}
 use Rattle.run_causes.specs.declared.Cause.TheVariants.{State}
 use Rattle.run_step.specs.declared.last_test.RunAnswer.{RunAnswer}
 use Rattle.run_replay.specs.Replay as run
-use Rattle.run_causes.specs.Causes.{first_cause, queue_fits, pointer_fits, value_fits, take_answer, step_answer, is_permitted}
+use Rattle.run_causes.specs.Causes.{Answer, first_cause, queue_fits, pointer_fits, value_fits, take_answer, step_answer, is_permitted}
 use Rattle.run_replay.specs.Answers.{last_answer, answer_then, answer_from, run_answer}
 use Rattle.run_causes.proofs.CauseLaws.{answer_may}
 
@@ -162,7 +161,7 @@ module _ (P : Program) (R : WellFormed P) (c d : Configuration) (l : Like P c d)
   value_like p (Arw v old new) e = ap (λ (s : List ℕ). eqb (get_or s v 0) old) newest_like
 
   take_like : (n : ℕ) (b : Bool) → ltb n (length P.transitions) ≡ b
-      → cond b (take_answer P.shape c (transition P n)) (Refused State) ≡ cond b (take_answer P.shape d (transition P n)) (Refused State)
+      → cond b (take_answer P.shape c (transition P n)) (Err State) ≡ cond b (take_answer P.shape d (transition P n)) (Err State)
   take_like n false e = refl
   take_like n true e =
       let t = transition P n in

@@ -4,17 +4,17 @@ use mathlib.Core.Path.{◌≡◌, refl, sym, ap, ap₂, subst, ◌∙◌}
 use mathlib.Core.Logic.{◌≢◌}
 use mathlib.Core.List.{List, [], ◌∷◌, ◌++◌}
 use native.Mathlib.Omega.{arith}
-use native.Mathlib.Decide.{dec_le, dec_lt, ℕ_discrete}
+use native.Mathlib.Decide.{dec_le, ℕ_discrete}
 use lib.ListN.{length, length-set, get_or, set}
 use lib.Seq.{get_or-set_same, get_or-set_other}
-use borrow.Author.Tests.{lt-ltb, le-ltb, eq-eqb, ne_eqb}
+use borrow.Author.Tests.{lt-ltb, eq-eqb, ne_eqb}
 use Rattle.machine_pws.specs.declared.Message.{Message}
 use Rattle.machine_pws.specs.Program.{Shape}
 use Rattle.machine_pws.specs.Machine.{Memory, put, put_queue, message, newest, last_labelled, last_write, copy_with, append, point, without_oldest}
 use Rattle.machine_pws.proofs.Facts.{put_same, put_other, put_each, put_queue_each, last_is}
 use Rattle.file_records.specs.ProgramPart.{table_from}
 use Rattle.run_layout.specs.Layout.{next_number, queue_number, snapshot_at, put_snapshot, waiting_at, put_waiting, pointer_of, last_write_of, advanced}
-use Rattle.run_step.specs.Rows.{pointed, put_last, later, updated_row, updated}
+use Rattle.run_step.specs.Rows.{pointed, put_last, updated_row, updated}
 use Rattle.run_step.specs.Stored.{appended}
 use Rattle.run_layout.proofs.ByteLaws.{next_is, snapshot_same, snapshot_other, waiting_same, waiting_other, waiting_before}
 use Rattle.run_layout.proofs.Kept.{queue_is, pointer_is, last_write_is}
@@ -82,19 +82,12 @@ five_at k (suc (suc zero)) l = refl
 five_at k (suc (suc (suc zero))) l = refl
 five_at k (suc (suc (suc (suc v)))) l = absurd (omega arith)
 
-updated_at : (rows : List (List ℕ)) (p k v : ℕ) → v < 4 → get_or (updated_row rows p k) (v + 1) 0 ≡ later (last_write_of rows p v) k
+updated_at : (rows : List (List ℕ)) (p k v : ℕ) → v < 4 → get_or (updated_row rows p k) (v + 1) 0 ≡ max (last_write_of rows p v) k
 updated_at rows p k zero l = refl
 updated_at rows p k (suc zero) l = refl
 updated_at rows p k (suc (suc zero)) l = refl
 updated_at rows p k (suc (suc (suc zero))) l = refl
 updated_at rows p k (suc (suc (suc (suc v)))) l = absurd (omega arith)
-
-later_is : (x y : ℕ) → later x y ≡ max x y
-unfolding later
-later_is x y = elim (dec_lt x y) [
-  | yes l ↦ rw (lt-ltb x y l) (omega arith)
-  | no l ↦ rw (le-ltb x y (omega arith)) (omega arith)
-]
 
 -- ---- LastWrite after a message of the label (p, v)
 
@@ -184,7 +177,7 @@ module _ (S : Shape) (pl : S.processes ≤ 4) (vl : S.variables ≤ 4) (n : ℕ)
             (λ e. sym (put_same m.pointer p k)) (λ d e. M.pointers q e ∙ sym (put_other m.pointer p k q d)) qe;
         last_writes = λ q u qe ue. row_each (λ q r. q < S.processes → get_or r (u + 1) 0 ≡ last_write (point m p k) q u) rows p q new M.row_count (omega arith)
             (λ e.
-            updated_at rows p k u (omega arith) ∙ later_is (last_write_of rows p u) k
+            updated_at rows p k u (omega arith)
             ∙ ap (λ (z : ℕ). max z k) (last_write_is rows p u (omega arith) (omega arith) ∙ M.last_writes p u e ue) ∙ passed u
             ∙ ap (λ (z : ℕ). max z (last_labelled m.channel p u)) (sym (put_same m.pointer p k)))
             (λ d e. M.last_writes q u e ue ∙ ap (λ (z : ℕ). max z (last_labelled m.channel q u)) (sym (put_other m.pointer p k q d))) qe;

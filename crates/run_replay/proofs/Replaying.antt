@@ -9,6 +9,7 @@ use native.Mathlib.Omega.{arith}
 use native.Mathlib.Decide.{dec_le}
 use lib.ListN.{get_or-eq_default, length, get_or, replicate, get_or-replicate}
 use lib.Dec.{T, eqb, ltb}
+use Rattle.std.specs.Prelude.{Option as Maybe, Some, None, Ok, Err}
 use borrow.Author.Tests.{le-leb, lt-leb, lt-ltb}
 use Rattle.machine_pws.specs.declared.Step.{Step}
 use Rattle.machine_pws.specs.Program as pws
@@ -20,37 +21,36 @@ use Rattle.base.specs.Bytes.{choose, byte}
 use Rattle.file_records.specs.Records.{is_kind, state_at, step_body, step_at}
 use Rattle.file_records.specs.ProgramPart.{table_from, shape_of, program_of, targets_of}
 use Rattle.file_contents.specs.EvidencePart.{steps_of}
-use Rattle.run_causes.specs.declared.Answer.{Answer}
-use Rattle.run_causes.specs.declared.Answer.TheVariants.{Permitted, Refused}
 use Rattle.run_layout.specs.declared.arrays.Run.{Run}
+use Rattle.run_layout.specs.declared.moves.Move.{Move}
+use Rattle.base.proofs.Tests.{all_equal, few_all}
 use Rattle.run_step.specs.declared.last_test.RunAnswer.{RunAnswer}
 use Rattle.run_step.specs.declared.last_test.RunAnswer.TheVariants.{Reachable}
 use Rattle.run_replay.specs.Replay as run
-use Rattle.run_causes.specs.Causes.{step_answer, is_permitted}
+use Rattle.run_causes.specs.Causes.{Answer, step_answer, is_permitted}
 use Rattle.run_replay.specs.Answers.{verdict_of_run, last_answer, answer_then, answer_from, run_answer, RunOf}
 use Rattle.run_layout.specs.Layout.{put_snapshot, move_of}
 use Rattle.run_step.specs.Answering.{answer_in}
-use Rattle.run_layout.specs.After.{run_after}
-use Rattle.run_step.specs.Rows.{rows_after}
+use Rattle.run_step.specs.After.{run_after}
 use Rattle.run_step.specs.Stored.{lower_after}
-use Rattle.run_step.specs.LastTest.{agrees_in, in_target_in, next_target, last_from}
-use Rattle.run_replay.specs.Loop.{next_step, first_run, first_rows, run_from, replay_in}
+use Rattle.run_step.specs.LastTest.{target_at, in_target_in, next_target, last_from}
+use Rattle.run_replay.specs.Loop.{next_step, first_run, first_rows, move_then, run_from, replay_in}
 use Rattle.run_layout.proofs.AreaLaws.{snapshot_length}
 use Rattle.run_layout.proofs.ByteLaws.{snapshot_same}
 use Rattle.run_causes.proofs.CauseLaws.{answer_may}
-use Rattle.run_layout.proofs.Kept.{Kept, all_four}
+use Rattle.run_layout.proofs.Kept.{Kept}
 use Rattle.run_replay.proofs.Holding.{MemoryHeld, QueuesHeld}
-use Rattle.run_replay.proofs.Stepping.{kept_of, answer_is, step_kept}
+use Rattle.run_replay.proofs.Stepping.{kept_of, move_in, answer_of, answer_is, step_kept}
 
 -- ---- the verdict without the cause
 
 then_verdict : (S : pws.Shape) (ts : List (ℕ → ℕ)) (n k : ℕ) (x : Answer) (y : RunAnswer) (z : sequences.Replay) (b : Bool) → is_permitted x ≡ b
     → verdict_of_run y ≡ run.verdict_of S ts n z
     → verdict_of_run (answer_then x k (λ _. y)) ≡ run.verdict_of S ts n (elim b [ true ↦ z | false ↦ sequences.stopped k ])
-then_verdict S ts n k Permitted y z true e h = h
-then_verdict S ts n k Permitted y z false e h = absurd (subst T e tt)
-then_verdict S ts n k (Refused cause) y z true e h = absurd (subst T (sym e) tt)
-then_verdict S ts n k (Refused cause) y z false e h = refl
+then_verdict S ts n k (Ok _) y z true e h = h
+then_verdict S ts n k (Ok _) y z false e h = absurd (subst T e tt)
+then_verdict S ts n k (Err cause) y z true e h = absurd (subst T (sym e) tt)
+then_verdict S ts n k (Err cause) y z false e h = refl
 
 last_verdict : (n : ℕ) (o : Option ℕ) → verdict_of_run (last_answer n o) ≡ run.last_test n o
 last_verdict n none = refl
@@ -114,12 +114,20 @@ module _ (f : List ℕ) (p : Program) (few : p.shape.processes ≤ 4) (states : 
   state_byte : (at q : ℕ) → q < 4 → state_at f at q ≡ byte f (at + (1 + q))
   state_byte at q l = rw (lt-ltb q 4 l)
 
+  target_byte : (at q : ℕ) → q < 4 → get_or (target_at f at) q 0 ≡ byte f (at + (1 + q))
+  target_byte at zero l = refl
+  target_byte at (suc zero) l = refl
+  target_byte at (suc (suc zero)) l = refl
+  target_byte at (suc (suc (suc zero))) l = refl
+  target_byte at (suc (suc (suc (suc q)))) l = absurd (omega arith)
+
   -- the states are those of the target
   met_is : (at : ℕ) → in_target_in f at p.shape states ≡ in_target (shape_of p.shape) (state_at f at) c
-  unfolding in_target_in agrees_in
+  unfolding in_target_in
   met_is at =
-      all_four p.shape.processes few (λ q. eqb (get_or states q 0) (byte f (at + (1 + q)))) (λ q. eqb (c.state q) (state_at f at q)) (λ q l.
-      ap₂ eqb (held q l) (sym (state_byte at q (omega arith))))
+      let g : ℕ → Bool = λ q. eqb (get_or states q 0) (get_or (target_at f at) q 0) in
+      few_all p.shape.processes g few ∙ all_equal p.shape.processes g (λ q. eqb (c.state q) (state_at f at q)) (λ q l.
+      ap₂ eqb (held q l) (target_byte at q (omega arith) ∙ sym (state_byte at q (omega arith))))
 
   state_past : (x y q : ℕ) → length f ≤ x → length f ≤ y → state_at f x q ≡ state_at f y q
   state_past x y q a b = ap (λ (z : ℕ). cond (ltb q 4) z 0) (byte_past f (x + (1 + q)) (omega arith) ∙ sym (byte_past f (y + (1 + q)) (omega arith)))
@@ -212,49 +220,50 @@ module _ (g : List ℕ) (p : Program) (R : pws.ProgramInRange (program_of g p)) 
         most = λ q. omega (arith, zeros_at 16 q);
       }
 
-  first_kept : Kept S₀ 0 (first_run p.initial) first_rows (put_snapshot a 1 memory) c₀
+  first_kept : Kept S₀ 0 (first_run p.initial) (put_snapshot a 1 memory) c₀
   first_kept =
       kept_of (λ q e. sym (rw (lt-ltb q p.shape.processes e))) four first_memory first_queues (snapshot_length a 1 memory ∙ room) (omega arith)
 
 -- ---- all steps
 
 module _ (g f : List ℕ) (p : Program) (R : pws.ProgramInRange (program_of g p)) (steps : ℕ) where
-  abbrev rest : ℕ → ℕ → Run → List (List ℕ) → List ℕ → ℕ → RunAnswer
-  rest k at run rows a n = run_from g f p.shape p.transitions p.targets steps k at run rows a n
+  abbrev rest : ℕ → ℕ → Run → List ℕ → ℕ → RunAnswer
+  rest k at run a n = run_from g f p.shape p.transitions p.targets steps k at run a n
 
   abbrev P₁ : pws.Program
   P₁ = program_of g p
 
   -- one step, the others being right
-  one_step : (k at : ℕ) (run : Run) (rows : List (List ℕ)) (a : List ℕ) (c : Configuration) (n : ℕ) (s : Step) (x y : RunAnswer) (b : Answer) → step_answer P₁ c s ≡ b
-      → answer_in run rows a p.shape (move_of g p.transitions s) ≡ step_answer P₁ c s → (T (may P₁ c s) → x ≡ y)
-      → answer_then (answer_in run rows a p.shape (move_of g p.transitions s)) k (λ _. x) ≡ answer_then (step_answer P₁ c s) k (λ _. y)
-  one_step k at run rows a c n s x y Permitted e q h =
-      ap (λ (z : Answer). answer_then z k (λ _. x)) (q ∙ e) ∙ h (subst T (ap is_permitted (sym e) ∙ answer_may P₁ c s) tt)
+  one_step : (k : ℕ) (run : Run) (a : List ℕ) (c : Configuration) (s : Step) (x : Move → RunAnswer) (y : RunAnswer) (o : Maybe Move) (b : Answer) → step_answer P₁ c s ≡ b
+      → answer_of run a p.shape o ≡ step_answer P₁ c s → (T (may P₁ c s) → x (move_in o) ≡ y)
+      → move_then o k (λ m. answer_then (answer_in run a p.shape m) k (λ _. x m)) ≡ answer_then (step_answer P₁ c s) k (λ _. y)
+  one_step k run a c s x y None b e q h = ap (λ (z : Answer). answer_then z k (λ _. y)) q
+  one_step k run a c s x y (Some m) (Ok _) e q h =
+      ap (λ (z : Answer). answer_then z k (λ _. x m)) (q ∙ e) ∙ h (subst T (ap is_permitted (sym e) ∙ answer_may P₁ c s) tt)
       ∙ ap (λ (z : Answer). answer_then z k (λ _. y)) (sym e)
-  one_step k at run rows a c n s x y (Refused cause) e q h =
-      ap (λ (z : Answer). answer_then z k (λ _. x)) (q ∙ e) ∙ ap (λ (z : Answer). answer_then z k (λ _. y)) (sym e)
+  one_step k run a c s x y (Some m) (Err cause) e q h =
+      ap (λ (z : Answer). answer_then z k (λ _. x m)) (q ∙ e) ∙ ap (λ (z : Answer). answer_then z k (λ _. y)) (sym e)
 
-  all_steps : (n k at : ℕ) (run : Run) (rows : List (List ℕ)) (a : List ℕ) (c : Configuration) → Kept (shape_of p.shape) k run rows a c → k + n ≤ 1024
-      → rest k at run rows a n ≡ answer_from P₁ (targets_of g p) steps k c (steps_of f at n)
+  all_steps : (n k at : ℕ) (run : Run) (a : List ℕ) (c : Configuration) → Kept (shape_of p.shape) k run a c → k + n ≤ 1024
+      → rest k at run a n ≡ answer_from P₁ (targets_of g p) steps k c (steps_of f at n)
   unfolding run_from steps_of
-  all_steps zero k at run rows a c K l =
+  all_steps zero k at run a c K l =
       targets_last g p R.shape.processes run.states c K.represents.states steps p.targets.count p.targets.at 0 (inl (omega arith))
-  all_steps (suc n) k at run rows a c K l =
+  all_steps (suc n) k at run a c K l =
       let s = step_at f at in
-      let m = move_of g p.transitions s in
-      one_step k at run rows a c n s _ _ (step_answer P₁ c s) refl (answer_is g p R k run rows a c K s) (λ t.
+      let m = move_in (move_of g p.transitions s) in
+      one_step k run a c s _ _ (move_of g p.transitions s) (step_answer P₁ c s) refl (answer_is g p R k run a c K s) (λ t.
       let e : suc k ≡ k + 1 = omega arith in
-      all_steps n (k + 1) (next_step f at) (run_after run m) (rows_after rows run.messages m) (lower_after a run m) (after P₁ c s)
-      (subst (λ (j : ℕ). Kept (shape_of p.shape) j (run_after run m) (rows_after rows run.messages m) (lower_after a run m) (after P₁ c s)) e
-      (step_kept g p R k run rows a c K (omega arith) s t)) (omega arith)
+      all_steps n (k + 1) (next_step f at) (run_after run m) (lower_after a run m) (after P₁ c s)
+      (subst (λ (j : ℕ). Kept (shape_of p.shape) j (run_after run m) (lower_after a run m) (after P₁ c s)) e
+      (step_kept g p R k run a c K (omega arith) s t)) (omega arith)
       ∙ ap₂ (λ (j : ℕ) (ss : List Step). answer_from P₁ (targets_of g p) steps j (after P₁ c s) ss) (sym e) (sym (steps_next f n at)))
 
 -- the code's answer is that of the machine's run, from a start with the memory over the steps of the evidence
 pub replay_right : (g f : List ℕ) (p : Program) → pws.ProgramInRange (program_of g p) → length p.initial ≡ 4 → (memory : List ℕ) → length memory ≡ 4 → (at count : ℕ)
     → count ≤ 1024 → (a : List ℕ) → length a ≡ 16384 → replay_in g f p memory at count a ≡ run_answer (program_of g p) (targets_of g p) memory (steps_of f at count)
 replay_right g f p R four memory values at count few a room =
-    all_steps g f p R count count 0 at (first_run p.initial) first_rows (put_snapshot a 1 memory) (start_with (program_of g p) memory 0 0) (first_kept g p R four memory values a room) (omega arith)
+    all_steps g f p R count count 0 at (first_run p.initial) (put_snapshot a 1 memory) (start_with (program_of g p) memory 0 0) (first_kept g p R four memory values a room) (omega arith)
     ∙ ap (λ (n : ℕ). answer_from (program_of g p) (targets_of g p) n 0 (start_with (program_of g p) memory 0 0) (steps_of f at count)) (sym (steps_length f count at))
 
 pub run_of : {r : RunAnswer} (P : pws.Program) (ts : List (ℕ → ℕ)) (memory : List ℕ) (ss : List Step) → r ≡ run_answer P ts memory ss → RunOf r P ts memory ss

@@ -22,17 +22,17 @@ use Rattle.machine_pws.proofs.Facts.{put_same, put_other}
 use Rattle.file_records.specs.declared.program.Shape.{Shape}
 use Rattle.file_records.specs.declared.program.Program.{Program}
 use Rattle.file_records.specs.ProgramPart.{table_from, shape_of, program_of}
-use Rattle.run_causes.specs.declared.Answer.TheVariants.{Refused}
+use Rattle.std.specs.Prelude.{Option, Some, None, Err}
 use Rattle.run_causes.specs.declared.Cause.TheVariants.{State}
 use Rattle.run_layout.specs.declared.moves.Move.{Move}
 use Rattle.run_layout.specs.declared.moves.Move.TheVariants.{Take, Serialise, Update}
 use Rattle.run_layout.specs.declared.arrays.Run.{Run}
-use Rattle.run_causes.specs.Causes.{first_cause, take_answer, step_answer, is_permitted}
+use Rattle.run_causes.specs.Causes.{Answer, first_cause, take_answer, step_answer, is_permitted}
 use Rattle.run_layout.specs.Layout.{queue_number, snapshot_at, waiting_at, move_of}
 use Rattle.run_step.specs.Stored.{appended, lower_taken, lower_after}
 use Rattle.run_step.specs.Answering.{answer_in}
-use Rattle.run_layout.specs.After.{run_after, messages_taken, tails_taken}
-use Rattle.run_step.specs.Rows.{rows_taken, rows_after}
+use Rattle.run_step.specs.After.{run_after, messages_taken, tails_taken}
+use Rattle.run_step.specs.Rows.{rows_taken}
 use Rattle.run_layout.specs.Represents.{Represents}
 use Rattle.run_step.proofs.Lengths.{area_length}
 use Rattle.run_layout.proofs.ByteLaws.{next_is, waiting_past, snapshot_below}
@@ -44,8 +44,8 @@ use Rattle.run_replay.proofs.Holding.{MemoryHeld, memory_area, memory_append, me
 
 -- ---- the parts of what is kept
 
-module _ {S : pws.Shape} {k : ℕ} {run : Run} {rows : List (List ℕ)} {a : List ℕ} {c : Configuration} (K : Kept S k run rows a c) where
-  memory_of : MemoryHeld S run.messages rows a c.memory
+module _ {S : pws.Shape} {k : ℕ} {run : Run} {a : List ℕ} {c : Configuration} (K : Kept S k run a c) where
+  memory_of : MemoryHeld S run.messages run.rows a c.memory
   memory_of =
       record {
         count = K.represents.messages;
@@ -63,9 +63,9 @@ module _ {S : pws.Shape} {k : ℕ} {run : Run} {rows : List (List ℕ)} {a : Lis
   queues_of =
       record { values = K.represents.queues; head_count = K.heads; tail_count = K.tails; order = K.order; most = K.most }
 
-pub kept_of : {S : pws.Shape} {k : ℕ} {run : Run} {rows : List (List ℕ)} {a : List ℕ} {c : Configuration}
-    → ((p : ℕ) → p < S.processes → get_or run.states p 0 ≡ c.state p) → length run.states ≡ 4 → MemoryHeld S run.messages rows a c.memory
-    → QueuesHeld S run.heads run.tails a k c.queue → length a ≡ 16384 → run.messages ≤ k + 1 → Kept S k run rows a c
+pub kept_of : {S : pws.Shape} {k : ℕ} {run : Run} {a : List ℕ} {c : Configuration}
+    → ((p : ℕ) → p < S.processes → get_or run.states p 0 ≡ c.state p) → length run.states ≡ 4 → MemoryHeld S run.messages run.rows a c.memory
+    → QueuesHeld S run.heads run.tails a k c.queue → length a ≡ 16384 → run.messages ≤ k + 1 → Kept S k run a c
 kept_of states four M H room few =
     record {
       represents =
@@ -91,13 +91,13 @@ unfolding appended
 waiting_appended a n v x l e q j =
     rw (next_is n (omega arith)) (waiting_past a (suc n) (set (snapshot_at a n) v x) q j (omega arith) (omega arith))
 
-module _ (s : Shape) (pl : s.processes ≤ 4) (vl : s.variables ≤ 4) (xl : (v : ℕ) → v < s.variables → (shape_of s).values v ≤ 4) (k : ℕ) (run : Run) (rows : List (List ℕ)) (a : List ℕ)
-    (c : Configuration) (K : Kept (shape_of s) k run rows a c) (few : k < 1024) where
+module _ (s : Shape) (pl : s.processes ≤ 4) (vl : s.variables ≤ 4) (xl : (v : ℕ) → v < s.variables → (shape_of s).values v ≤ 4) (k : ℕ) (run : Run) (a : List ℕ)
+    (c : Configuration) (K : Kept (shape_of s) k run a c) (few : k < 1024) where
   most_messages : run.messages ≤ 1024
   most_messages = omega (arith, K.channel)
 
   memory_taken : (p : ℕ) (o : Operation) → p < s.processes → pws.OperationOf (shape_of s) o
-      → MemoryHeld (shape_of s) (messages_taken run.messages o) (rows_taken rows run.messages p o) (lower_taken a run p o) (memory_after c.memory p o)
+      → MemoryHeld (shape_of s) (messages_taken run.messages o) (rows_taken run.rows run.messages p o) (lower_taken a run p o) (memory_after c.memory p o)
   memory_taken p Nop pe oe = memory_of K
   memory_taken p (Read v x) pe oe = memory_of K
   memory_taken p (Write v x) pe oe =
@@ -107,7 +107,7 @@ module _ (s : Shape) (pl : s.processes ≤ 4) (vl : s.variables ≤ 4) (xl : (v 
   memory_taken p Mfence pe oe = memory_of K
   memory_taken p Sfence pe oe = memory_of K
   memory_taken p (Arw v x y) pe oe =
-      memory_arw (shape_of s) pl vl run.messages rows a c.memory (memory_of K) K.area most_messages p v y pe oe.0
+      memory_arw (shape_of s) pl vl run.messages run.rows a c.memory (memory_of K) K.area most_messages p v y pe oe.0
 
   queues_taken : (p : ℕ) (o : Operation) → p < s.processes → pws.OperationOf (shape_of s) o
       → QueuesHeld (shape_of s) run.heads (tails_taken run.tails p o) (lower_taken a run p o) (suc k) (queue_after c p o)
@@ -134,7 +134,7 @@ module _ (s : Shape) (pl : s.processes ≤ 4) (vl : s.variables ≤ 4) (xl : (v 
   ]
 
   kept_taken : (t : Transition) → t.process < s.processes → pws.OperationOf (shape_of s) t.operation
-      → Kept (shape_of s) (suc k) (run_after run (Take t)) (rows_after rows run.messages (Take t)) (lower_after a run (Take t)) (after_take c t)
+      → Kept (shape_of s) (suc k) (run_after run (Take t)) (lower_after a run (Take t)) (after_take c t)
   kept_taken t pe oe =
       kept_of (states_taken t.process t.to pe) (length-set run.states t.process t.to ∙ K.states) (memory_taken t.process t.operation pe oe)
       (queues_taken t.process t.operation pe oe) (area_length a run (Take t) ∙ K.area) (messages_taken_lem t.operation)
@@ -151,11 +151,11 @@ module _ (s : Shape) (pl : s.processes ≤ 4) (vl : s.variables ≤ 4) (xl : (v 
       (ap (λ (n : ℕ). get_or (table_from (waiting_at a (4 * p + v)) h n) 0 0) (sym e) ∙ ap (λ (xs : List ℕ). get_or xs 0 0) (K.represents.queues p v pe ve))
 
   kept_serialised : (p v : ℕ) → p < s.processes → v < s.variables → get_or run.heads (4 * p + v) 0 < get_or run.tails (4 * p + v) 0
-      → Kept (shape_of s) (suc k) (run_after run (Serialise p v)) (rows_after rows run.messages (Serialise p v)) (lower_after a run (Serialise p v)) (after_serialise c p v)
+      → Kept (shape_of s) (suc k) (run_after run (Serialise p v)) (lower_after a run (Serialise p v)) (after_serialise c p v)
   kept_serialised p v pe ve l =
       rw (oldest_is p v pe ve l)
       (kept_of K.represents.states K.states
-      (memory_append (shape_of s) pl vl run.messages rows a c.memory (memory_of K) K.area most_messages p v x pe ve)
+      (memory_append (shape_of s) pl vl run.messages run.rows a c.memory (memory_of K) K.area most_messages p v x pe ve)
       (queues_pop (shape_of s) pl vl run.heads run.tails a k c.queue (queues_of K) few p v pe ve (appended a run.messages v x) (waiting_appended a run.messages v x most_messages K.area) l)
       (appended_length ∙ K.area)
       (omega (arith, K.channel, next_is run.messages (omega (arith, most_messages)))))
@@ -167,30 +167,39 @@ module _ (s : Shape) (pl : s.processes ≤ 4) (vl : s.variables ≤ 4) (xl : (v 
       appended_length = ap (λ (y : ℕ). length (appended a run.messages v y)) (sym (oldest_is p v pe ve l)) ∙ area_length a run (Serialise p v)
 
   kept_updated : (p : ℕ) → p < s.processes → c.memory.pointer p < length c.memory.channel
-      → Kept (shape_of s) (suc k) (run_after run (Update p)) (rows_after rows run.messages (Update p)) (lower_after a run (Update p)) (after_update c p)
+      → Kept (shape_of s) (suc k) (run_after run (Update p)) (lower_after a run (Update p)) (after_update c p)
   kept_updated p pe l =
       kept_of K.represents.states K.states
-      (memory_update (shape_of s) pl vl run.messages rows a c.memory (memory_of K) K.area most_messages p pe l)
+      (memory_update (shape_of s) pl vl run.messages run.rows a c.memory (memory_of K) K.area most_messages p pe l)
       (queues_area (queues_of K) (λ q j. refl)) K.area (omega (arith, K.channel))
 
 -- ---- the steps of a program
 
-module _ (f : List ℕ) (p : Program) (R : pws.ProgramInRange (program_of f p)) (k : ℕ) (run : Run) (rows : List (List ℕ)) (a : List ℕ) (c : Configuration)
-    (K : Kept (shape_of p.shape) k run rows a c) where
+-- the move, if there is one
+abbrev pub move_in : Option Move → Move
+move_in None = Update 0
+move_in (Some m) = m
+
+abbrev pub answer_of : Run → List ℕ → Shape → Option Move → Answer
+answer_of run a s None = Err State
+answer_of run a s (Some m) = answer_in run a s m
+
+module _ (f : List ℕ) (p : Program) (R : pws.ProgramInRange (program_of f p)) (k : ℕ) (run : Run) (a : List ℕ) (c : Configuration)
+    (K : Kept (shape_of p.shape) k run a c) where
   -- the step's answer is the machine's
-  pub answer_is : (s : steps.Step) → answer_in run rows a p.shape (move_of f p.transitions s) ≡ step_answer (program_of f p) c s
+  pub answer_is : (s : steps.Step) → answer_of run a p.shape (move_of f p.transitions s) ≡ step_answer (program_of f p) c s
   answer_is (step.Take n) = elim (dec_lt n p.transitions.count) [
     | yes l ↦
         let t = R.well_formed.transitions n (omega (arith, transition_count f p)) in
-        ap (answer_in run rows a p.shape) (move_take f p n l)
-        ∙ take_is p.shape R.shape.processes R.shape.variables k run rows a c K (pws.transition (program_of f p) n) t.process t.operation
-        ∙ ap (λ (b : Bool). cond b (take_answer (shape_of p.shape) c (pws.transition (program_of f p) n)) (Refused State)) (sym (exists_is f p n l))
+        ap (answer_of run a p.shape) (move_take f p n l)
+        ∙ take_is p.shape R.shape.processes R.shape.variables k run a c K (pws.transition (program_of f p) n) t.process t.operation
+        ∙ ap (λ (b : Bool). cond b (take_answer (shape_of p.shape) c (pws.transition (program_of f p) n)) (Err State)) (sym (exists_is f p n l))
     | no l ↦
-        ap (answer_in run rows a p.shape) (move_absent f p n (omega arith))
-        ∙ ap (λ (b : Bool). cond b (take_answer (shape_of p.shape) c (pws.transition (program_of f p) n)) (Refused State)) (sym (exists_not f p n (omega arith)))
+        ap (answer_of run a p.shape) (move_absent f p n (omega arith))
+        ∙ ap (λ (b : Bool). cond b (take_answer (shape_of p.shape) c (pws.transition (program_of f p) n)) (Err State)) (sym (exists_not f p n (omega arith)))
   ]
-  answer_is (step.Serialise q v) = ap (first_cause true true true true) (serialise_is p.shape R.shape.processes R.shape.variables k run rows a c K q v)
-  answer_is (step.Update q) = ap (first_cause true true true true) (update_is p.shape R.shape.processes R.shape.variables k run rows a c K q)
+  answer_is (step.Serialise q v) = ap (first_cause true true true true) (serialise_is p.shape R.shape.processes R.shape.variables k run a c K q v)
+  answer_is (step.Update q) = ap (first_cause true true true true) (update_is p.shape R.shape.processes R.shape.variables k run a c K q)
 
   some_waits : (q v : ℕ) → q < p.shape.processes → v < p.shape.variables → T (not (is_empty (c.queue q v)))
       → get_or run.heads (4 * q + v) 0 < get_or run.tails (4 * q + v) 0
@@ -209,32 +218,32 @@ module _ (f : List ℕ) (p : Program) (R : pws.ProgramInRange (program_of f p)) 
 
   -- a permitted step leaves a representation of the configuration after it
   pub step_kept : k < 1024 → (s : steps.Step) → T (may (program_of f p) c s)
-      → Kept (shape_of p.shape) (suc k) (run_after run (move_of f p.transitions s)) (rows_after rows run.messages (move_of f p.transitions s))
-      (lower_after a run (move_of f p.transitions s)) (after (program_of f p) c s)
+      → Kept (shape_of p.shape) (suc k) (run_after run (move_in (move_of f p.transitions s)))
+      (lower_after a run (move_in (move_of f p.transitions s))) (after (program_of f p) c s)
   step_kept few (step.Take n) t =
       let y = and_yes (ltb n (length (program_of f p).transitions)) (may_take (shape_of p.shape) c (pws.transition (program_of f p) n)) t in
       let l : n < length (program_of f p).transitions = ltb-true n (length (program_of f p).transitions) (T_true (ltb n (length (program_of f p).transitions)) y.0) in
       let o = R.well_formed.transitions n l in
       let w = pws.transition (program_of f p) n in
-      subst (λ (m : Move). Kept (shape_of p.shape) (suc k) (run_after run m) (rows_after rows run.messages m) (lower_after a run m) (after_take c w))
+      subst (λ (o : Option Move). Kept (shape_of p.shape) (suc k) (run_after run (move_in o)) (lower_after a run (move_in o)) (after_take c w))
       (sym (move_take f p n (omega (arith, transition_count f p))))
-      (kept_taken p.shape R.shape.processes R.shape.variables R.shape.values k run rows a c K few w o.process o.operation)
+      (kept_taken p.shape R.shape.processes R.shape.variables R.shape.values k run a c K few w o.process o.operation)
   step_kept few (step.Serialise q v) t =
       let y = and_yes (ltb q p.shape.processes && ltb v p.shape.variables) (not (is_empty (c.queue q v))) t in
       let z = and_yes (ltb q p.shape.processes) (ltb v p.shape.variables) y.0 in
       let qe = ltb-true q p.shape.processes (T_true (ltb q p.shape.processes) z.0) in
       let ve = ltb-true v p.shape.variables (T_true (ltb v p.shape.variables) z.1) in
-      kept_serialised p.shape R.shape.processes R.shape.variables R.shape.values k run rows a c K few q v qe ve (some_waits q v qe ve y.1)
+      kept_serialised p.shape R.shape.processes R.shape.variables R.shape.values k run a c K few q v qe ve (some_waits q v qe ve y.1)
   step_kept few (step.Update q) t =
       let y = and_yes (ltb q p.shape.processes) (ltb (c.memory.pointer q) (length c.memory.channel)) t in
       let qe = ltb-true q p.shape.processes (T_true (ltb q p.shape.processes) y.0) in
       let l = ltb-true (c.memory.pointer q) (length c.memory.channel) (T_true (ltb (c.memory.pointer q) (length c.memory.channel)) y.1) in
-      kept_updated p.shape R.shape.processes R.shape.variables R.shape.values k run rows a c K few q qe l
+      kept_updated p.shape R.shape.processes R.shape.variables R.shape.values k run a c K few q qe l
 
   -- both: the step is permitted exactly if the machine may take it, and then what is left represents the configuration after it
   pub step_right : k < 1024 → (s : steps.Step)
-      → (is_permitted (answer_in run rows a p.shape (move_of f p.transitions s)) ≡ may (program_of f p) c s)
+      → (is_permitted (answer_of run a p.shape (move_of f p.transitions s)) ≡ may (program_of f p) c s)
       × (T (may (program_of f p) c s)
-      → Represents (shape_of p.shape) (run_after run (move_of f p.transitions s)) (rows_after rows run.messages (move_of f p.transitions s))
-      (lower_after a run (move_of f p.transitions s)) (after (program_of f p) c s))
+      → Represents (shape_of p.shape) (run_after run (move_in (move_of f p.transitions s)))
+      (lower_after a run (move_in (move_of f p.transitions s))) (after (program_of f p) c s))
   step_right few s = (ap is_permitted (answer_is s) ∙ answer_may (program_of f p) c s, (λ t. (step_kept few s t).represents))

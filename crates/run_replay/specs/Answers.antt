@@ -1,16 +1,14 @@
 -- The verdict of a run as the code gives it: with the cause, where a step is refused.
-use Rattle.std.specs.Prelude.{ℕ, suc, ◌≡◌, List, [], ◌∷◌, length}
+use Rattle.std.specs.Prelude.{ℕ, suc, ◌≡◌, List, [], ◌∷◌, length, Ok, Err}
 use Rattle.std.proofs.Math.Option.{Option, none, some}
 use Rattle.machine_pws.specs.declared.Step.{Step}
 use Rattle.machine_pws.specs.Program.{Program}
 use Rattle.machine_pws.specs.Machine.{Configuration, after}
 use Rattle.machine_pws.specs.Configurations.{start_with}
-use Rattle.run_causes.specs.declared.Answer.{Answer}
-use Rattle.run_causes.specs.declared.Answer.TheVariants.{Permitted, Refused}
 use Rattle.run_step.specs.declared.last_test.RunAnswer.{RunAnswer}
 use Rattle.run_step.specs.declared.last_test.RunAnswer.TheVariants.{Reachable, Stopped, Missed}
 use Rattle.run_replay.specs.Replay.{RunVerdict, reachable, stopped, missed, lowest_met, run_verdict}
-use Rattle.run_causes.specs.Causes.{step_answer}
+use Rattle.run_causes.specs.Causes.{Answer, step_answer}
 
 -- what document 01 says of it
 abbrev pub verdict_of_run : RunAnswer → RunVerdict
@@ -23,8 +21,8 @@ last_answer n none = Missed n
 last_answer n (some k) = Reachable n k
 
 abbrev pub answer_then : Answer → ℕ → (Unit {0} → RunAnswer) → RunAnswer
-answer_then Permitted k x = x tt
-answer_then (Refused cause) k x = Stopped k cause
+answer_then (Ok _) k x = x tt
+answer_then (Err cause) k x = Stopped k cause
 
 -- the steps from number k on, from c; n is the number of all steps
 abbrev pub answer_from : Program → List (ℕ → ℕ) → ℕ → ℕ → Configuration → List Step → RunAnswer

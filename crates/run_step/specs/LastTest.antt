@@ -1,20 +1,19 @@
 -- The last test as the code makes it, over the bytes of the program. No statement rests on these definitions: `targets_last` (replay Replaying) says
 -- that they give the lowest target met.
-use Rattle.std.specs.Prelude.{ℕ, zero, suc, ◌+◌, Bool, cond, ◌&&◌, ◌||◌, List, length, get_or, eqb, leb}
+use Rattle.std.specs.Prelude.{ℕ, zero, suc, ◌+◌, min, Bool, cond, List, [], ◌∷◌, length, get_or, eqb, leb}
+use Rattle.machine_pws.specs.Machine.{all_below}
 use Rattle.file_records.specs.declared.program.Shape.{Shape}
 use Rattle.file_records.specs.declared.program.Row.{Row}
 use Rattle.base.specs.Bytes.{choose, byte}
 use Rattle.run_step.specs.declared.last_test.RunAnswer.{RunAnswer}
 use Rattle.run_step.specs.declared.last_test.RunAnswer.TheVariants.{Reachable, Missed}
 
-unfoldable pub agrees_in : Shape → ℕ → ℕ → ℕ → Bool
-agrees_in s p x y = leb s.processes p || eqb x y
+-- the local states that the target at a place names
+abbrev pub target_at : List ℕ → ℕ → List ℕ
+target_at f at = byte f (at + 1) ∷ byte f (at + 2) ∷ byte f (at + 3) ∷ byte f (at + 4) ∷ []
 
 unfoldable pub in_target_in : List ℕ → ℕ → Shape → List ℕ → Bool
-in_target_in f at s states =
-    agrees_in s 0 (get_or states 0 0) (byte f (at + 1))
-    && (agrees_in s 1 (get_or states 1 0) (byte f (at + 2))
-    && (agrees_in s 2 (get_or states 2 0) (byte f (at + 3)) && agrees_in s 3 (get_or states 3 0) (byte f (at + 4))))
+in_target_in f at s states = all_below (min s.processes 4) (λ p. eqb (get_or states p 0) (get_or (target_at f at) p 0))
 
 unfoldable pub next_target : List ℕ → ℕ → ℕ
 next_target f at = cond (leb (length f) at) at (at + 5)

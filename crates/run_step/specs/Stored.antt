@@ -4,7 +4,7 @@ use Rattle.std.specs.Prelude.{ℕ, List, get_or, set}
 use Rattle.machine_pws.specs.declared.Operation.{Operation}
 use Rattle.machine_pws.specs.declared.Operation.TheVariants.{Nop, Read, Write, Mfence, Sfence, Arw}
 use Rattle.run_layout.specs.declared.moves.Move.{Move}
-use Rattle.run_layout.specs.declared.moves.Move.TheVariants.{Absent, Take, Serialise, Update}
+use Rattle.run_layout.specs.declared.moves.Move.TheVariants.{Take, Serialise, Update}
 use Rattle.run_layout.specs.declared.arrays.Run.{Run}
 use Rattle.run_layout.specs.Layout.{next_number, queue_number, snapshot_at, put_snapshot, waiting_at, put_waiting}
 
@@ -20,7 +20,6 @@ lower_taken a run p Sfence = a
 lower_taken a run p (Arw v old new) = appended a run.messages v new
 
 abbrev pub lower_after : List ℕ → Run → Move → List ℕ
-lower_after a run Absent = a
 lower_after a run (Take t) = lower_taken a run t.process t.operation
 lower_after a run (Serialise p v) = appended a run.messages v (waiting_at a (queue_number p v) (get_or run.heads (queue_number p v) 0))
 lower_after a run (Update p) = a

@@ -1,9 +1,10 @@
-// A step of a run of the PWS machine (document 01, "The machine"): may it be taken, and if not why; what it gives of pointers and
-// LastWrite numbers; what it writes into the lent bytes. And the last test of a run.
+// A step of a run of the PWS machine (document 01, "The machine"): may it be taken, and if not why; what it gives of the arrays; what it
+// writes into the lent bytes. And the last test of a run.
 
 #![tactic(auto)]
 
+pub mod after;
 pub mod answering;
 pub mod last_test;
-pub mod rows;
+mod rows;
 pub mod storing;

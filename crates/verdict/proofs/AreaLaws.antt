@@ -1,4 +1,6 @@
 -- Laws of the work area: what the reading leaves past the bytes that belong to the judgement, and what is cleared.
+use Rattle.std.specs.Prelude.{Result, Ok, Err, ⊤}
+use Rattle.file_records.specs.declared.program.Refusal.{Refusal}
 use Prim.Native.Nat.{ℕ, zero, suc, ◌+◌, ◌*◌, ◌-◌, ◌/◌, ◌%◌, ◌<◌, ◌≤◌}
 use mathlib.Core.Path.{◌≡◌, refl, sym, ap, ◌∙◌}
 use mathlib.Core.Bool.{Bool, true, false}
@@ -10,12 +12,10 @@ use lib.Dec.{eqb, leb}
 use borrow.Author.Tests.{lt-ltb, le-ltb}
 use Rattle.machine_pws.specs.Machine.{Configuration}
 use Rattle.file_records.specs.declared.program.Shape.{Shape}
-use Rattle.file_records.specs.declared.program.Checked.{Checked}
-use Rattle.file_records.specs.declared.program.Checked.TheVariants.{Fine, Refused}
 use Rattle.file_records.specs.declared.program.Program.{Program}
 use Rattle.base.specs.Bytes.{choose, byte, put32}
 use Rattle.file_records.specs.Records.{checked, claim_number, start_number, entry_number}
-use Rattle.file_records.specs.ProgramPart.{unless_end, program_from}
+use Rattle.file_records.specs.ProgramPart.{unless_end, program_from, whether, program_read}
 use Rattle.file_contents.specs.EvidencePart.{EntryRead, whole, bad, entry_read, EntriesRead, head_then, entry_then, entries_from, entries_allowed, wrote_from}
 use Rattle.file_contents.specs.Reading as reading
 use Rattle.file_contents.specs.Reading.{Input, evidence_at, Evidence, refusal, entries, steps, claim_then, run_evidence, evidence_from, Parts, parts_of, evidence_area}
@@ -97,10 +97,10 @@ Few n (steps claim m c) = Unit {0}
 abbrev FewEntries : ℕ → EntriesRead → Type 0
 FewEntries n r = length r.offsets ≤ n
 
-head_few : (n : ℕ) (x : Checked) (offsets : List ℕ) (es : List Configuration) (y : Unit {0} → EntriesRead) → length offsets ≤ n → FewEntries n (y tt)
+head_few : (n : ℕ) (x : Result ⊤ Refusal) (offsets : List ℕ) (es : List Configuration) (y : Unit {0} → EntriesRead) → length offsets ≤ n → FewEntries n (y tt)
     → FewEntries n (head_then x offsets es y)
-head_few n Fine offsets es y h k = k
-head_few n (Refused r) offsets es y h k = h
+head_few n (Ok _) offsets es y h k = k
+head_few n (Err r) offsets es y h k = h
 
 entry_few : (n : ℕ) (x : EntryRead) (offsets : List ℕ) (es : List Configuration) (y : Configuration → ℕ → EntriesRead) → length offsets ≤ n
     → ((e : Configuration) (next : ℕ) → FewEntries n (y e next)) → FewEntries n (entry_then x offsets es y)
@@ -122,9 +122,9 @@ entries_few n (suc left) s states f at offsets es l =
     (entry_few n (entry_read s f at) offsets es _ (omega arith) (λ e next.
     entries_few n left s states f next (offsets ++ (at ∷ [])) (es ++ (e ∷ [])) (omega (arith, one_more offsets at)))))
 
-claim_few : (n : ℕ) (x : Checked) (y : Unit {0} → Evidence) → Few n (y tt) → Few n (claim_then x y)
-claim_few n Fine y h = h
-claim_few n (Refused r) y h = tt
+claim_few : (n : ℕ) (x : Result ⊤ Refusal) (y : Unit {0} → Evidence) → Few n (y tt) → Few n (claim_then x y)
+claim_few n (Ok _) y h = h
+claim_few n (Err r) y h = tt
 
 run_few : (n : ℕ) (f : List ℕ) (claim at : ℕ) (p : Program) → Few n (run_evidence f claim at p)
 unfolding run_evidence
@@ -151,18 +151,18 @@ drop_more a b x y l e =
 
 pub reading_kept : (x : Input) (w : List ℕ) → 65536 ≤ length w → drop (used_of (length w)) (reading.area_read (parts_of x (length w)) w) ≡ drop (used_of (length w)) w
 unfolding used_of
-reading_kept x w l = go (program_from x.alone x.code 0).answer refl
+reading_kept x w l = go (whether (program_from x.alone x.code 0)) refl
   where
     p : Program
-    p = (program_from x.alone x.code 0).program
+    p = program_read (program_from x.alone x.code 0)
 
-    go : (y : Checked) → (program_from x.alone x.code 0).answer ≡ y
+    go : (y : Result ⊤ Refusal) → whether (program_from x.alone x.code 0) ≡ y
         → drop (16384 + 12 * entries_allowed (length w)) (reading.area_read (parts_of x (length w)) w) ≡ drop (16384 + 12 * entries_allowed (length w)) w
-    go Fine e =
+    go (Ok _) e =
         ap (λ (y : Parts). drop (16384 + 12 * entries_allowed (length w)) (reading.area_read y w)) (parts_both x (length w) l e)
         ∙ drop_more (16384 + 4 * entries_allowed (length w)) (16384 + 12 * entries_allowed (length w)) _ w (omega arith)
         (evidence_kept (entries_allowed (length w)) (evidence_from x.file (evidence_at x p) p (length w)) w (omega arith) (evidence_few x.file (evidence_at x p) p (length w)))
-    go (Refused r) e = ap (λ (y : Parts). drop (16384 + 12 * entries_allowed (length w)) (reading.area_read y w)) (parts_refused x (length w) r l e)
+    go (Err r) e = ap (λ (y : Parts). drop (16384 + 12 * entries_allowed (length w)) (reading.area_read y w)) (parts_refused x (length w) r l e)
 
 -- the replay's part came back, and the judgement's part is more than that
 pub replay_kept : (n : ℕ) (w v a : List ℕ) → drop (used_of n) w ≡ drop (used_of n) v → 16384 ≤ length w → a ≡ replicate (length (take 16384 w)) 0

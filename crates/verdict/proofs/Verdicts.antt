@@ -31,10 +31,11 @@ use Rattle.run_step.specs.declared.last_test.RunAnswer.TheVariants.{Reachable, S
 use Rattle.run_replay.specs.Answers.{run_answer}
 use Rattle.pso_replay.specs.Answers.{pso_steps, pso_run_answer}
 use Rattle.verdict.specs.declared.answer.Answer.{Answer}
-use Rattle.verdict.specs.declared.answer.Found.{Found}
+use Rattle.verdict.specs.declared.answer.Answer.TheVariants.{Unread}
+use Rattle.file_records.specs.declared.program.Refusal.{Refusal}
 use Rattle.verdict.specs.declared.answer.Verdict as declared
 use Rattle.verdict.specs.Judge.{Verdict, safe, reachable, pso, refused, entered, of_list, of_run, of_pso_run, FileJudged, Judged, of_file, judged}
-use Rattle.verdict.specs.Answers.{verdict_in, in_c, found_in, offending_in, file_number, with_record, answer_in_c}
+use Rattle.verdict.specs.Answers.{verdict_in, in_c, offending_in, file_number, with_record, answer_in_c}
 
 -- ---- verdicts that differ
 
@@ -179,8 +180,8 @@ entered_step u area k s e = go (reading.read_file u area) refl
 -- ---- the verdict in C's form
 
 -- put together as C has it
-pub shown_is : (x : Input) (a : Answer) (F : Found) (v : declared.Verdict) (own : Part) (file at : ℕ) (bytes : List ℕ) → F ≡ found_in a → v ≡ in_c (verdict_in a)
-    → own ≡ part_said_by F.part F.number → file ≡ file_number x.alone own
-    → at ≡ (offending_by x.code x.file F.part F.number F.place).at → bytes ≡ (offending_by x.code x.file F.part F.number F.place).bytes
+pub shown_is : (x : Input) (a : Answer) (w : Part) (r : Refusal) (v : declared.Verdict) (own : Part) (file at : ℕ) (bytes : List ℕ) → a ≡ Unread w r → v ≡ in_c (verdict_in a)
+    → own ≡ part_said_by w r.number → file ≡ file_number x.alone own
+    → at ≡ (offending_by x.code x.file w r.number r.place).at → bytes ≡ (offending_by x.code x.file w r.number r.place).bytes
     → with_record v file at (length bytes) ≡ answer_in_c x (verdict_in a) (offending_in x a)
-shown_is x a F v own file at bytes f e o n k c = rw (e, n, o ∙ sym (part_by x.code x.file F.part F.number F.place), k, c, f)
+shown_is x a w r v own file at bytes q e o n k c = rw (e, q, n, o ∙ sym (part_by x.code x.file w r.number r.place), k, c)

@@ -3,12 +3,11 @@ use Rattle.std.specs.Prelude.{ℕ, ◌≡◌, Bool, cond, length}
 use Rattle.machine_pws.specs.declared.Step.TheVariants.{Take, Serialise, Update}
 use Rattle.verdict.specs.declared.answer.Answer.{Answer}
 use Rattle.verdict.specs.declared.answer.Answer.TheVariants.{Safe, Reachable, Pso, Unread, Unheld, Started, Entered, Stopped, Missed}
-use Rattle.verdict.specs.declared.answer.Found.{Found}
 use Rattle.verdict.specs.declared.answer.Verdict as declared
 use Rattle.file_contents.specs.declared.evidence.Part.{Part}
 use Rattle.file_contents.specs.declared.evidence.Part.TheVariants.{InProgram, InEvidence}
 use Rattle.file_contents.specs.Reading.{Input, read_file}
-use Rattle.file_again.specs.Offending.{Offending, offending_by, offending}
+use Rattle.file_again.specs.Offending.{Offending, end_of_file, offending_by, offending}
 use Rattle.run_causes.specs.Causes.{cause_number}
 use Rattle.verdict.specs.Judge.{Verdict, safe, reachable, pso, refused, entered, Judged, judged}
 
@@ -43,20 +42,17 @@ in_c (entered k (Update p)) = entered_by k 34 p 0
 
 -- ---- the record that is handed back
 
--- what an answer says of the reading: a refusal of its own, or none
-abbrev pub found_in : Answer → Found
-found_in (Unread w r) = record { part = w; number = r.number; place = r.place }
-found_in (Safe n) = record { part = InEvidence; number = 0; place = 0 }
-found_in (Reachable n k) = record { part = InEvidence; number = 0; place = 0 }
-found_in (Pso n k) = record { part = InEvidence; number = 0; place = 0 }
-found_in (Unheld k) = record { part = InEvidence; number = 0; place = 0 }
-found_in (Started k) = record { part = InEvidence; number = 0; place = 0 }
-found_in (Entered k s) = record { part = InEvidence; number = 0; place = 0 }
-found_in (Stopped k cause) = record { part = InEvidence; number = 0; place = 0 }
-found_in (Missed n) = record { part = InEvidence; number = 0; place = 0 }
-
+-- an answer that refuses the reading hands back the record of its refusal, and every other the empty end of the evidence
 abbrev pub offending_in : Input → Answer → Offending
-offending_in x a = offending_by x.code x.file (found_in a).part (found_in a).number (found_in a).place
+offending_in x (Unread w r) = offending_by x.code x.file w r.number r.place
+offending_in x (Safe n) = end_of_file x.code x.file InEvidence
+offending_in x (Reachable n k) = end_of_file x.code x.file InEvidence
+offending_in x (Pso n k) = end_of_file x.code x.file InEvidence
+offending_in x (Unheld k) = end_of_file x.code x.file InEvidence
+offending_in x (Started k) = end_of_file x.code x.file InEvidence
+offending_in x (Entered k s) = end_of_file x.code x.file InEvidence
+offending_in x (Stopped k cause) = end_of_file x.code x.file InEvidence
+offending_in x (Missed n) = end_of_file x.code x.file InEvidence
 
 -- the number of the file that a part stands in: 0 the program file or the combined one, 1 the evidence file
 abbrev pub file_number : Bool → Part → ℕ

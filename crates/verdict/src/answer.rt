@@ -1,15 +1,14 @@
 // The answers of the judge, and the verdict as C has it.
 ghost use Rattle.std.specs.Prelude.{◌≡◌};
 ghost use Rattle.verdict.specs.Judge.{entered};
-ghost use Rattle.file_contents.specs.declared.evidence.Part.TheVariants.{InEvidence};
 ghost use Rattle.file_contents.specs.Reading.{input};
-ghost use Rattle.verdict.specs.Answers.{verdict_in, stepless, entered_by, in_c, found_in, offending_in, file_number, with_record, answer_in_c};
+ghost use Rattle.verdict.specs.Answers.{verdict_in, stepless, entered_by, in_c, offending_in, file_number, answer_in_c};
 
 use file_again::offending::{offending, offending_part, offending_place};
 use file_contents::evidence::Part;
 use file_records::program::Refusal;
 use machine_pws::Step;
-use run_causes::{Cause, cause_number};
+use run_causes::Cause;
 use run_step::last_test::RunAnswer;
 
 // The number and the values of each are given by `verdict_in`.
@@ -47,9 +46,9 @@ fn stepless(kind: u64, first: u64, second: u64) -> Verdict
     ensures { result ≡ stepless kind first second }
 {
     Verdict {
-        kind: kind,
-        first: first,
-        second: second,
+        kind,
+        first,
+        second,
         step_kind: 0,
         step_first: 0,
         step_second: 0,
@@ -59,25 +58,20 @@ fn stepless(kind: u64, first: u64, second: u64) -> Verdict
     }
 }
 
-fn refused(number: u64, place: usize) -> Verdict
+fn refused(number: u8, place: usize) -> Verdict
     ensures { result ≡ stepless 2 number place }
 {
-    stepless(2, number, place as u64)
+    stepless(2, u64::from(number), place as u64)
 }
 
 fn entered_by(entry: usize, kind: u64, first: usize, second: usize) -> Verdict
     ensures { result ≡ entered_by entry kind first second }
 {
     Verdict {
-        kind: 2,
-        first: 11,
-        second: entry as u64,
         step_kind: kind,
         step_first: first as u64,
         step_second: second as u64,
-        record_file: 0,
-        record_at: 0,
-        record_length: 0,
+        ..refused(11, entry)
     }
 }
 
@@ -98,56 +92,12 @@ fn verdict_of(answer: Answer) -> Verdict
         Answer::Safe { entries } => stepless(0, entries as u64, 0),
         Answer::Reachable { steps, target } => stepless(1, steps as u64, target as u64),
         Answer::Pso { steps, target } => stepless(3, steps as u64, target as u64),
-        Answer::Unread { part: _, refusal } => refused(refusal.number as u64, refusal.place),
+        Answer::Unread { refusal, .. } => refused(refusal.number, refusal.place),
         Answer::Unheld { target } => refused(9, target),
         Answer::Started { entry } => refused(10, entry),
         Answer::Entered { entry, step } => entered(entry, step),
-        Answer::Stopped { step, cause } => refused(cause_number(cause) as u64, step),
+        Answer::Stopped { step, cause } => refused(u8::from(cause), step),
         Answer::Missed { steps } => refused(13, steps),
-    }
-}
-
-// What an answer says of the reading: the part, number and place of its refusal; number 0 if it was not refused there.
-#[derive(Clone, Copy)]
-pub(crate) struct Found {
-    pub part: Part,
-    pub number: u8,
-    pub place: usize,
-}
-
-fn none_found() -> Found
-    ensures { result ≡ record { part = InEvidence; number = 0; place = 0 } }
-{
-    Found {
-        part: Part::InEvidence,
-        number: 0,
-        place: 0,
-    }
-}
-
-fn found_in(answer: Answer) -> Found
-    ensures { result ≡ found_in answer }
-{
-    match answer {
-        Answer::Unread { part, refusal } => Found {
-            part: part,
-            number: refusal.number,
-            place: refusal.place,
-        },
-        Answer::Safe { entries: _ } => none_found(),
-        Answer::Reachable {
-            steps: _,
-            target: _,
-        } => none_found(),
-        Answer::Pso {
-            steps: _,
-            target: _,
-        } => none_found(),
-        Answer::Unheld { target: _ } => none_found(),
-        Answer::Started { entry: _ } => none_found(),
-        Answer::Entered { entry: _, step: _ } => none_found(),
-        Answer::Stopped { step: _, cause: _ } => none_found(),
-        Answer::Missed { steps: _ } => none_found(),
     }
 }
 
@@ -160,33 +110,31 @@ fn file_number(alone: bool, part: Part) -> u64
     }
 }
 
-fn with_record(verdict: Verdict, file: u64, at: u64, length: u64) -> Verdict
-    ensures { result ≡ with_record verdict file at length }
-{
-    let mut next = verdict;
-    next.record_file = file;
-    next.record_at = at;
-    next.record_length = length;
-    next
-}
-
 // The verdict as C has it. `code` is the file that holds the program and `file` the one that holds the evidence: the record is a part of
 // one of them.
 pub fn shown<'a>(alone: bool, code: &'a [u8], file: &'a [u8], answer: Answer) -> Verdict
     ensures { result ≡ answer_in_c (input alone code.now file.now) (verdict_in answer) (offending_in (input alone code.now file.now) answer) }
 {
-    let found = found_in(answer);
-    let part = found.part;
-    let number = found.number;
-    let place = found.place;
-    let record = offending(code, file, part, number, place);
-    let size = record.len();
-    let at = offending_place(code, file, part, number, place);
-    let own = offending_part(part, number);
-    with_record(
-        verdict_of(answer),
-        file_number(alone, own),
-        at as u64,
-        size as u64,
-    )
+    let verdict = verdict_of(answer);
+    match answer {
+        Answer::Unread { part, refusal } => {
+            let Refusal { number, place } = refusal;
+            let own = offending_part(part, number);
+            let at = offending_place(code, file, part, number, place);
+            let record = offending(code, file, part, number, place);
+            Verdict {
+                record_file: file_number(alone, own),
+                record_at: at as u64,
+                record_length: record.len() as u64,
+                ..verdict
+            }
+        }
+        // what was not refused in the reading hands back the empty end of the evidence
+        _ => Verdict {
+            record_file: file_number(alone, Part::InEvidence),
+            record_at: file.len() as u64,
+            record_length: 0,
+            ..verdict
+        },
+    }
 }

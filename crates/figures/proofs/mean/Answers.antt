@@ -1,20 +1,19 @@
 use mathlib.Core.Path.{sym, ◌∙◌}
-use borrow.Author.Tests.{not-true, not-false, eq-eqb, ne_eqb}
+use borrow.Author.Tests.{ne_eqb}
 use native.Mathlib.Omega.{arith}
-use Rattle.figures.specs.Collections.{mean_of}
+use Rattle.figures.specs.Collections.{plausible, mean_of}
+use Rattle.figures.proofs.Bounds.{figure_refused, figure_allowed}
 use Rattle.figures.proofs.mean.Goals as goal
 
-pub returns-then-not-is_plausible : goal.returns-then-not-is_plausible
+pub returns-in-Some : goal.returns-in-Some
 unfolding mean_of
-returns-then-not-is_plausible c = rw (sym c.is_plausible.ensures ∙ not-true _ c.if-not-is_plausible.true-raw) c.refused.ensures
-
-pub returns-then-c-eq0 : goal.returns-then-c-eq0
-unfolding mean_of
-returns-then-c-eq0 c = rw (sym c.is_plausible.ensures ∙ not-false _ c.if-not-is_plausible.false-raw, eq-eqb _ _ c.if-c-eq0.true) c.refused-then-c-eq0.ensures
+returns-in-Some c = c.refused.ensures ∙ figure_refused (plausible c.args.c) c.args.c.safe _ _ _ (sym c.refusal.ensures ∙ c.in-Some.is)
 
 pub reduced-requires : goal.reduced-requires
-reduced-requires c = omega (arith, c.if-c-eq0.false)
+reduced-requires c = (figure_allowed (plausible c.args.c) c.args.c.safe (sym c.refusal.ensures ∙ c.in-None.is)).1
 
-pub returns : goal.returns
+pub returns-in-None : goal.returns-in-None
 unfolding mean_of
-returns c = rw (sym c.is_plausible.ensures ∙ not-false _ c.if-not-is_plausible.false-raw, ne_eqb _ _ c.if-c-eq0.false) c.reduced.ensures
+returns-in-None c =
+    let d = figure_allowed (plausible c.args.c) c.args.c.safe (sym c.refusal.ensures ∙ c.in-None.is) in
+    rw (d.0, ne_eqb c.args.c.safe 0 (λ e. omega (arith, e, d.1))) c.reduced.ensures

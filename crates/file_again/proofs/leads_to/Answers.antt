@@ -33,7 +33,7 @@ pub bounds-file-at-then-not-cut : goal.bounds-file-at-then-not-cut
 bounds-file-at-then-not-cut c = omega (arith, cut_fits c.args.file.now c.args.program.transitions.at (8 * c.args.i + 7) (sym c.cut.ensures ∙ not-true c.cut.result c.if-not-cut.true-raw))
 
 pub returns-then-not-cut : goal.returns-then-not-cut
-returns-then-not-cut c = ap₂ eqb (c.of_four.ensures ∙ ap (λ (k : ℕ). get_or c.args.states k 0) c.wide.ensures) refl
+returns-then-not-cut c = ap₂ eqb (c.at_or.ensures ∙ ap (λ (k : ℕ). get_or c.args.states k 0) c.from.ensures) refl
 
 pub returns : goal.returns
-returns c = place_leads c.args.file.now (c.args.program.transitions.at + 8 * c.args.i) c.args.states c.transition_place-at.ensures (c.wide-2.ensures ∙ c.field.ensures) c.field-2.ensures c.of_four-2.ensures refl
+returns c = place_leads c.args.file.now (c.args.program.transitions.at + 8 * c.args.i) c.args.states c.transition_place-at.ensures (c.from-2.ensures ∙ c.field.ensures) c.field-2.ensures c.at_or-2.ensures refl

@@ -1,7 +1,7 @@
+use mathlib.Core.Path.{refl, ◌∙◌}
 use Prim.Native.Nat.{◌+◌, ◌*◌}
 use Rattle.file_again.proofs.PlaceLaws.{place_target}
 use Rattle.file_again.proofs.target_of.Goals as goal
 
 pub returns : goal.returns
-returns c = place_target c.args.file.now (c.args.program.targets.at + 5 * c.args.k) c.target_place-at.ensures
-    c.field.ensures c.field-2.ensures c.field-3.ensures c.field-4.ensures
+returns c = c.four_at.ensures ∙ place_target c.args.file.now (c.args.program.targets.at + 5 * c.args.k) c.target_place-at.ensures refl refl refl refl

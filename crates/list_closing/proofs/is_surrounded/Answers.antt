@@ -1,8 +1,7 @@
-use Prim.Native.Nat.{ℕ, ◌-◌}
+use Prim.Native.Nat.{ℕ}
 use mathlib.Core.Path.{sym, ap, ◌∙◌}
 use mathlib.Core.Bool.{false≢true}
 use mathlib.Core.List.{List}
-use borrow.Author.Tests.{not-true, not-false}
 use Rattle.list_known.specs.FullStates.{is_full}
 use Rattle.list_closing.proofs.FullLaws.{around_begin, around_next, around_end}
 use native.Mathlib.Omega.{arith}
@@ -15,28 +14,28 @@ pub returns-then-not-is_full : goal.returns-then-not-is_full
 returns-then-not-is_full c = λ e. absurd (false≢true e)
 
 pub loop-j-init : goal.loop-j-init
-loop-j-init c = around_begin c.args.full.now c.args.code.now c.args.program c.args.states c.least-m.result (sym c.is_full.ensures ∙ not-false c.is_full.result c.if-not-is_full.false-raw)
+loop-j-init c = around_begin c.args.closing.now.full.now c.args.closing.now.code.now c.args.closing.now.program c.args.states c.min-m.result (sym c.is_full.ensures ∙ c.if-not-is_full.false)
 
 pub overflow_step-j : goal.overflow_step-j
-overflow_step-j c = omega (arith, c.loop-j-test.true, c.least-m.ensures)
+overflow_step-j c = omega (arith, c.loop-j-test.true, c.min-m.ensures)
 
 pub loop-j-smaller-then-not-leads_to : goal.loop-j-smaller-then-not-leads_to
 loop-j-smaller-then-not-leads_to c = omega (arith, c.loop-j-test.true)
 
 pub loop-j-preserved-then-not-leads_to : goal.loop-j-preserved-then-not-leads_to
-loop-j-preserved-then-not-leads_to c = around_next c.args.full.now c.args.code.now c.args.program c.args.states c.least-m.result c.loop-j.invariant c.loop-j-test.true (transition_of c.args.code.now c.args.program c.loop-j.j) refl (λ e. absurd (leads_elsewhere c.args.states (transition_of c.args.code.now c.args.program c.loop-j.j) c.leads_to.ensures (not-true c.leads_to.result c.if-not-leads_to.true-raw) e))
+loop-j-preserved-then-not-leads_to c = around_next c.args.closing.now.full.now c.args.closing.now.code.now c.args.closing.now.program c.args.states c.min-m.result c.loop-j.invariant c.loop-j-test.true (transition_of c.args.closing.now.code.now c.args.closing.now.program c.loop-j.j) refl (λ e. absurd (leads_elsewhere c.args.states (transition_of c.args.closing.now.code.now c.args.closing.now.program c.loop-j.j) c.leads_to.ensures (c.if-not-leads_to.true) e))
 
 pub returns-then-not-is_full-2 : goal.returns-then-not-is_full-2
 returns-then-not-is_full-2 c = λ e. absurd (false≢true e)
 
 pub overflow_step-j-in-loop-j : goal.overflow_step-j-in-loop-j
-overflow_step-j-in-loop-j c = omega (arith, c.loop-j-test.true, c.least-m.ensures)
+overflow_step-j-in-loop-j c = omega (arith, c.loop-j-test.true, c.min-m.ensures)
 
 pub loop-j-smaller : goal.loop-j-smaller
 loop-j-smaller c = omega (arith, c.loop-j-test.true)
 
 pub loop-j-preserved : goal.loop-j-preserved
-loop-j-preserved c = around_next c.args.full.now c.args.code.now c.args.program c.args.states c.least-m.result c.loop-j.invariant c.loop-j-test.true c.transition_of-leading.result c.transition_of-leading.ensures (λ e. sym (ap (λ (z : List ℕ). is_full c.args.full.now c.args.program.shape z) c.states_from-before.ensures) ∙ sym c.is_full-in-loop-j.ensures ∙ not-false c.is_full-in-loop-j.result c.if-not-is_full-2.false-raw)
+loop-j-preserved c = around_next c.args.closing.now.full.now c.args.closing.now.code.now c.args.closing.now.program c.args.states c.min-m.result c.loop-j.invariant c.loop-j-test.true c.transition_of-leading.result c.transition_of-leading.ensures (λ e. sym (ap (λ (z : List ℕ). is_full c.args.closing.now.full.now c.args.closing.now.program.shape z) c.states_from-before.ensures) ∙ sym c.is_full-in-loop-j.ensures ∙ c.if-not-is_full-2.false)
 
 pub returns : goal.returns
-returns c = λ e. around_end c.args.full.now c.args.code.now c.args.program c.args.states c.least-m.result c.loop-j.invariant (omega (arith, c.loop-j-test.false)) c.least-m.ensures
+returns c = λ e. around_end c.args.closing.now.full.now c.args.closing.now.code.now c.args.closing.now.program c.args.states c.min-m.result c.loop-j.invariant (omega (arith, c.loop-j-test.false)) c.min-m.ensures

@@ -1,9 +1,5 @@
-use Prim.Native.Nat.{◌-◌}
 use Rattle.list_judge.proofs.FullLaws.{Going}
 use Rattle.list_judge.proofs.lowest_entered.Given as goal
 
 abbrev pub invariant-loop-k : goal.invariant-loop-k
-invariant-loop-k l = Going l.code l.file l.list l.n l.program l.table l.shut l.families l.k
-
-abbrev pub decreases-loop-k : goal.decreases-loop-k
-decreases-loop-k l = l.n - l.k
+invariant-loop-k l = Going l.judged.code.now l.judged.listing.file.now l.judged.listing.offsets.now l.judged.listing.count l.judged.program l.table l.shut l.families l.k

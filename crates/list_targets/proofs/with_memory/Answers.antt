@@ -7,11 +7,10 @@ use Rattle.list_cube.proofs.NewestLaws.{values_newest}
 use Rattle.list_targets.proofs.EntryLaws.{topped_is, with_memory_is}
 use Rattle.list_targets.proofs.with_memory.Goals as goal
 
-pub returns-then-n-eq0 : goal.returns-then-n-eq0
-returns-then-n-eq0 c a b l m = absurd (omega (arith, c.if-n-eq0.true))
-
-pub returns-then-n-gt20 : goal.returns-then-n-gt20
-returns-then-n-gt20 c a b l m = absurd (omega (arith, c.if-n-gt20.true))
-
 pub returns : goal.returns
-returns c a b l m = let room : length c.args.shape.messages ≡ 20 = search (rules, length_mapped) in (with_memory_is c.args.entry c.args.shape c.newest_values-values.result _ (c.newest_values-values.ensures ∙ values_newest c.args.entry a b) (topped_is c.args.shape.messages c.args.shape.count c.newest_values-values.result l (omega (arith, room))), (refl, refl))
+returns c a b l m =
+    let room : length c.args.shape.messages ≡ 20 = search (rules, length_mapped) in (
+      with_memory_is c.args.entry c.args.shape c.newest_values.result _ (c.newest_values.ensures ∙ values_newest c.args.entry a b)
+          (topped_is c.args.shape.messages c.args.shape.count c.newest_values.result l (omega (arith, room))),
+      (refl, refl),
+    )

@@ -1,4 +1,3 @@
-use native.Mathlib.Omega.{arith}
 use Rattle.pattern_index.proofs.IndexLaws.{indexed_short, indexed_full, indexed_many, adding_begin, adding_next, adding_end}
 use Rattle.pattern_index.proofs.index_patterns.Goals as goal
 
@@ -14,17 +13,8 @@ returns-then-n-gt524288 c = indexed_many c.args.file.now c.args.upper.now c.args
 pub loop-k-init : goal.loop-k-init
 loop-k-init c = adding_begin c.args.file.now c.args.upper.now c.args.shape c.args.at c.args.n c.if-upper-at.false
 
-pub add_pattern-requires : goal.add_pattern-requires
-add_pattern-requires c = (c.loop-k.invariant.room, omega (arith, c.loop-k-test.true, c.if-n-gt524288.false))
-
-pub loop-k-smaller : goal.loop-k-smaller
-loop-k-smaller c = omega (arith, c.loop-k-test.true)
-
 pub loop-k-preserved : goal.loop-k-preserved
 loop-k-preserved c = adding_next c.args.file.now c.args.upper.now c.args.shape c.args.at c.args.n c.if-upper-at.false c.loop-k.invariant c.loop-k-test.true c.add_pattern.ensures
-
-pub shape_of-upper : goal.shape_of-upper
-shape_of-upper c = c.loop-k.invariant.same
 
 pub returns : goal.returns
 returns c = adding_end c.args.file.now c.args.upper.now c.args.shape c.args.at c.args.n c.if-upper-at.false c.if-upper-at-2.false c.if-n-gt524288.false c.loop-k.invariant c.loop-k-test.false

@@ -1,7 +1,8 @@
-use mathlib.Core.Path.{ap, ◌∙◌}
-use Rattle.pattern_index.specs.Index.{falling, next_of}
+use Rattle.std.proofs.Common.{arith}
+use Rattle.std.proofs.lemmas.Grind.{common_steps}
+use Rattle.pattern_index.specs.Index.{next_of}
 use Rattle.pattern_index.proofs.next_of.Goals as goal
 
-pub returns : goal.returns
+pub returns-clause-value : goal.returns-clause-value
 unfolding next_of
-returns c = record { value = c.falling.ensures.value ∙ ap (falling c.args.k) c.link_at.ensures; upper_bound = c.falling.ensures.upper_bound }
+returns-clause-value c = grind (arith, common_steps)

@@ -1,7 +1,17 @@
-use Rattle.drawing.specs.Reading.{is_digit_byte, is_small}
-use mathlib.Core.Path.{◌∙◌}
+use borrow.Author.Tests.{le-leb, lt-leb}
+use native.Mathlib.Omega.{arith}
+use Rattle.base.specs.Bytes.{byte}
+use Rattle.drawing.specs.Reading.{is_digit_byte}
 use Rattle.drawing.proofs.label.is_digit.Goals as goal
 
-pub returns : goal.returns
-unfolding is_digit_byte is_small
-returns c = c.both.ensures ∙ rw c.byte_at-b.ensures
+pub returns-in-48-to-57 : goal.returns-in-48-to-57
+unfolding is_digit_byte
+returns-in-48-to-57 c = let b = byte c.args.text.now c.args.at in rw (le-leb 48 b (omega arith), le-leb b 57 (omega arith))
+
+pub returns-in_default : goal.returns-in_default
+unfolding is_digit_byte
+returns-in_default c = let b = byte c.args.text.now c.args.at in rw (lt-leb 48 b (omega arith))
+
+pub returns-in_default-2 : goal.returns-in_default-2
+unfolding is_digit_byte
+returns-in_default-2 c = let b = byte c.args.text.now c.args.at in rw (le-leb 48 b (omega arith), lt-leb b 57 (omega arith))

@@ -1,14 +1,7 @@
 use Rattle.drawing.specs.Reading.{second_digit, number_at}
 use mathlib.Core.Path.{sym, ap, ◌∙◌}
 use Prim.Native.Nat.{ℕ, ◌+◌}
-use native.Mathlib.Omega.{arith}
 use Rattle.drawing.proofs.label.number_at.Goals as goal
-
-pub overflow_add-at : goal.overflow_add-at
-overflow_add-at c = omega (arith, c.requires)
-
-pub second_digit-requires : goal.second_digit-requires
-second_digit-requires c = (omega (arith, c.requires), c.value_at.ensures.1)
 
 pub returns-then-is_digit : goal.returns-then-is_digit
 unfolding number_at

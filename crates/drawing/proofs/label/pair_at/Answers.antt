@@ -1,11 +1,7 @@
 use Rattle.drawing.specs.Reading.{variable_at, pair_at}
 use mathlib.Core.Path.{sym, ap, ◌∙◌}
 use Prim.Native.Nat.{ℕ, ◌+◌}
-use native.Mathlib.Omega.{arith}
 use Rattle.drawing.proofs.label.pair_at.Goals as goal
-
-pub variable_at-requires : goal.variable_at-requires
-variable_at-requires c = omega (arith, c.requires)
 
 pub returns-then-is_small : goal.returns-then-is_small
 unfolding pair_at

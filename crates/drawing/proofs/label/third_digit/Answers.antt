@@ -1,19 +1,24 @@
+use borrow.Author.Tests.{le-leb, lt-leb}
 use Rattle.drawing.specs.Reading.{value_at, third_digit}
-use mathlib.Core.Path.{◌≡◌, sym, ap, ◌∙◌}
+use mathlib.Core.Path.{◌≡◌, ap}
 use Prim.Native.Nat.{ℕ, ◌+◌, ◌*◌}
 use native.Mathlib.Omega.{arith}
 use Rattle.drawing.proofs.label.third_digit.Goals as goal
+use Rattle.drawing.proofs.label.third_digit.Goals.{else-is_digit-via-then-is_digit+else-c-le255, else-is_digit-via-else-is_digit}
 
-pub overflow_add-c : goal.overflow_add-c
-overflow_add-c c = omega (arith, c.value_at.ensures.1, c.requires.1)
-
-pub overflow_add-result : goal.overflow_add-result
-overflow_add-result c = omega (arith, c.requires.0)
-
-pub returns-then-both : goal.returns-then-both
+pub returns-then-c-le255 : goal.returns-then-c-le255
 unfolding third_digit
-returns-then-both c = let t = c.args.text.now in let v : 10 * c.args.b + c.value_at.result ≡ 10 * c.args.b + value_at t c.args.at = ap (λ (x : ℕ). 10 * c.args.b + x) c.value_at.ensures.0 in rw (← v, ← c.is_digit.ensures, sym c.both.ensures ∙ c.if-both.true)
+returns-then-c-le255 c =
+    let t = c.args.text.now in
+    let v : 10 * c.args.b + c.value_at.result ≡ 10 * c.args.b + value_at t c.args.at = ap (λ (x : ℕ). 10 * c.args.b + x) c.value_at.ensures.0 in
+    rw (← v, ← c.is_digit.ensures, c.if-is_digit.true, le-leb (10 * c.args.b + c.value_at.result) 255 c.if-c-le255.true)
 
-pub returns : goal.returns
+pub returns-else-is_digit : goal.returns-else-is_digit
 unfolding third_digit
-returns c = let t = c.args.text.now in let v : 10 * c.args.b + c.value_at.result ≡ 10 * c.args.b + value_at t c.args.at = ap (λ (x : ℕ). 10 * c.args.b + x) c.value_at.ensures.0 in rw (← v, ← c.is_digit.ensures, sym c.both.ensures ∙ c.if-both.false)
+returns-else-is_digit c =
+    let t = c.args.text.now in
+    let v : 10 * c.args.b + c.value_at.result ≡ 10 * c.args.b + value_at t c.args.at = ap (λ (x : ℕ). 10 * c.args.b + x) c.value_at.ensures.0 in
+    elim c.else-is_digit.branch [
+      | else-is_digit-via-then-is_digit+else-c-le255 w ↦ rw (← v, ← c.is_digit.ensures, w.if-is_digit.true, lt-leb (10 * c.args.b + c.value_at.result) 255 (omega (arith, w.if-c-le255.false)))
+      | else-is_digit-via-else-is_digit w ↦ rw (← c.is_digit.ensures, w.if-is_digit.false)
+    ]

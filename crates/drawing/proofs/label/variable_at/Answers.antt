@@ -1,17 +1,12 @@
 use Rattle.machine_pws.specs.declared.Step.TheVariants.{Serialise}
-use Rattle.drawing.specs.declared.label.EdgeRead.TheVariants.{Edge}
-use Rattle.drawing.specs.Reading.{variable_at}
+use Rattle.drawing.specs.Reading.{edge_of, variable_at}
 use mathlib.Core.Path.{sym, ap, ◌∙◌}
 use Prim.Native.Nat.{ℕ, ◌+◌}
-use native.Mathlib.Omega.{arith}
 use Rattle.drawing.proofs.label.variable_at.Goals as goal
-
-pub overflow_add-result : goal.overflow_add-result
-overflow_add-result c = omega (arith, c.requires)
 
 pub returns-then-is_small : goal.returns-then-is_small
 unfolding variable_at
-returns-then-is_small c = rw (sym c.is_small.ensures ∙ c.if-is_small.true) (ap (λ (x : ℕ). Edge (Serialise c.args.p x) (c.args.at + 1)) c.value_at.ensures.0)
+returns-then-is_small c = rw (sym c.is_small.ensures ∙ c.if-is_small.true) (ap (λ (x : ℕ). edge_of (Serialise c.args.p x) (c.args.at + 1)) c.value_at.ensures.0)
 
 pub returns : goal.returns
 unfolding variable_at

@@ -3,9 +3,6 @@ use Rattle.drawing.proofs.NumberLaws.{decimal_short}
 use native.Mathlib.Omega.{arith}
 use Rattle.drawing.proofs.put.letters_length.Goals as goal
 
-pub number_length-requires : goal.number_length-requires
-number_length-requires c = let h = rw c.in-Take.is at c.requires in omega (arith, h)
-
 pub overflow_add-result : goal.overflow_add-result
 overflow_add-result c = let h = rw c.in-Take.is at c.requires in omega (arith, c.number_length.ensures, decimal_short c.in-Take.transition (omega (arith, h)))
 

@@ -11,18 +11,9 @@ pub put_number-requires : goal.put_number-requires
 unfolding letters
 put_number-requires c = let h = rw c.in-Take.is at c.requires.1 in let g = rw c.in-Take.is at c.requires.0 in (omega (arith, g), omega (arith, h, c.put-next.ensures.after, c.put-next.auto.out))
 
-pub digit-requires : goal.digit-requires
-digit-requires c = let g = rw c.in-Serialise.is at c.requires.0 in omega (arith, g.0)
-
-pub digit-requires-in-Serialise : goal.digit-requires-in-Serialise
-digit-requires-in-Serialise c = let g = rw c.in-Serialise.is at c.requires.0 in omega (arith, g.1)
-
 pub put-requires : goal.put-requires
 unfolding letters
 put-requires c = let h = rw c.in-Serialise.is at c.requires.1 in omega (arith, h)
-
-pub digit-requires-in-Update : goal.digit-requires-in-Update
-digit-requires-in-Update c = let g = rw c.in-Update.is at c.requires.0 in omega (arith, g)
 
 pub put-requires-in-Update : goal.put-requires-in-Update
 unfolding letters

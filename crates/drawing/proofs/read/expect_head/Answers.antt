@@ -1,16 +1,12 @@
 use Rattle.drawing.proofs.PutLaws.{put_taken}
 use Rattle.drawing.proofs.LineLaws.{head_short}
 use Rattle.drawing.specs.Reading.{expect_at}
-use lib.Seq.{length-take-le}
-use mathlib.Core.Path.{sym, ap, ◌∙◌}
+use mathlib.Core.Path.{ap, ◌∙◌}
 use native.Mathlib.Omega.{arith}
 use Rattle.drawing.proofs.read.expect_head.Goals as goal
 
 pub put_head-n-requires : goal.put_head-n-requires
 put_head-n-requires c = (c.requires, omega (arith, head_short c.args.k c.requires))
-
-pub slice_bounds-expect-end : goal.slice_bounds-expect-end
-slice_bounds-expect-end c = sym (length-take-le _ _ (omega (arith, c.put_head-n.ensures.after, c.put_head-n.ensures.room, c.put_head-n.auto.out)))
 
 pub returns : goal.returns
 returns c = c.expect.ensures ∙ ap (expect_at c.args.text.now c.args.at) (put_taken c.put_head-n.ensures)

@@ -1,9 +1,5 @@
 use Rattle.drawing.proofs.ScanLaws.{Scanning}
-use Prim.Native.Nat.{◌-◌}
 use Rattle.drawing.proofs.read.nodes_at.Given as goal
 
 abbrev pub invariant-loop-n : goal.invariant-loop-n
 invariant-loop-n l = Scanning l.text l.start l.at l.n
-
-abbrev pub decreases-loop-n : goal.decreases-loop-n
-decreases-loop-n l = 1024 - l.n

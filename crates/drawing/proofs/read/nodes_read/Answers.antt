@@ -1,16 +1,18 @@
-use Rattle.drawing.specs.declared.read.NodesRead.TheVariants.{NoNodes}
-use Rattle.drawing.specs.Reading.{nodes_read, way_place}
-use mathlib.Core.Path.{sym, ap, ◌∙◌}
+use Rattle.std.proofs.lemmas.Result.{err_from_is_err_and}
+use Rattle.drawing.specs.Reading.{nodes_read}
+use mathlib.Core.Path.{sym, ◌∙◌}
 use Rattle.drawing.proofs.read.nodes_read.Goals as goal
 
-pub returns-in_default : goal.returns-in_default
+pub returns-in_err-first : goal.returns-in_err-first
 unfolding nodes_read
-returns-in_default c = rw (sym c.expect_opening-way.ensures ∙ c.in_default.is) (ap NoNodes (c.way_place.ensures ∙ ap way_place c.in_default.is))
+returns-in_err-first c = let p = err_from_is_err_and c.from_residual.result c.from_residual.ensures.1 in rw (p.1, p.2, sym c.expect.ensures ∙ c.in_err-first.was)
 
-pub returns-in_default-node : goal.returns-in_default-node
+pub returns-in_err-second : goal.returns-in_err-second
 unfolding nodes_read
-returns-in_default-node c = rw (sym c.expect_opening-way.ensures ∙ c.in-On.is, sym c.expect_node-node.ensures ∙ c.in_default-node.is) (ap NoNodes (c.way_place-in_default-node.ensures ∙ ap way_place c.in_default-node.is))
+returns-in_err-second c =
+    let p = err_from_is_err_and c.from_residual-in_err-second.result c.from_residual-in_err-second.ensures.1 in
+    rw (p.1, p.2, sym c.expect.ensures ∙ c.in_ok-first.was, sym c.expect_node.ensures ∙ c.in_err-second.was)
 
 pub returns : goal.returns
 unfolding nodes_read
-returns c = rw (sym c.expect_opening-way.ensures ∙ c.in-On.is, sym c.expect_node-node.ensures ∙ c.in-On-node.is) c.more_at.ensures
+returns c = rw (sym c.expect.ensures ∙ c.in_ok-first.was, sym c.expect_node.ensures ∙ c.in_ok-second.was) c.more_at.ensures

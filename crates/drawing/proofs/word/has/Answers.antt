@@ -1,11 +1,8 @@
-use borrow.Author.Tests.{lt-ltb, le-ltb}
+use Rattle.std.proofs.Common.{arith}
+use Rattle.std.proofs.lemmas.Grind.{common_steps}
 use Rattle.drawing.specs.Reading.{has_byte}
 use Rattle.drawing.proofs.word.has.Goals as goal
 
-pub returns-then-at-text : goal.returns-then-at-text
+pub returns : goal.returns
 unfolding has_byte
-returns-then-at-text c = rw (lt-ltb _ _ c.if-at-text.true)
-
-pub returns-else-at-text : goal.returns-else-at-text
-unfolding has_byte
-returns-else-at-text c = rw (le-ltb _ _ c.if-at-text.false)
+returns c = grind (arith, common_steps)

@@ -1,9 +1,5 @@
 use Rattle.drawing.proofs.LineLaws.{Counting}
-use Prim.Native.Nat.{◌-◌}
 use Rattle.drawing.proofs.write.text_length.Given as goal
 
 abbrev pub invariant-loop-i : goal.invariant-loop-i
 invariant-loop-i l = Counting l.steps l.n l.total l.at l.i
-
-abbrev pub decreases-loop-i : goal.decreases-loop-i
-decreases-loop-i l = l.n - l.i

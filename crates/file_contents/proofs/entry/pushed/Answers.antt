@@ -8,4 +8,4 @@ returns-then-n-ge9 c = rw (le-leb _ _ c.if-n-ge9.true)
 
 pub returns : goal.returns
 unfolding pushed
-returns c = rw (lt-leb _ _ c.if-n-ge9.false) (rw c.wide-at.ensures)
+returns c = rw (lt-leb _ _ c.if-n-ge9.false) (rw c.from-at.ensures)

@@ -1,3 +1,6 @@
+use Rattle.std.proofs.lemmas.Result.{err_from_is_err_and}
+use Rattle.std.specs.Prelude.{Result, Ok, Err, ⊤}
+use Rattle.file_records.specs.declared.program.Refusal.{Refusal}
 use Prim.Native.Nat.{ℕ, ◌+◌, ◌-◌}
 use mathlib.Core.Path.{◌≡◌, sym, ap, ◌∙◌, refl}
 use mathlib.Core.Bool.{Bool, true, false}
@@ -8,11 +11,7 @@ use lib.Dec.{leb}
 use borrow.Author.Rules.{rules}
 use borrow.Author.Tests.{le-leb, lt-leb, leb-false}
 use Rattle.file_records.specs.declared.program.Shape.{Shape}
-use Rattle.file_records.specs.declared.program.Checked.{Checked}
-use Rattle.file_records.specs.declared.program.Checked.TheVariants.{Fine, Refused}
-use Rattle.file_records.specs.declared.program.Counted.TheVariants.{Stopped}
 use Rattle.file_records.specs.Records.{checked, step_body, step_number}
-use Rattle.file_records.specs.ProgramPart.{refusal_of}
 use Rattle.file_contents.specs.EvidencePart.{steps_from}
 use Rattle.base.proofs.ByteLaws.{cut_fits}
 use Rattle.file_records.proofs.RecordLaws.{step_fine, row_ends, row_stops, row_step}
@@ -21,22 +20,22 @@ use Rattle.file_contents.proofs.steps.steps_from.Goals as goal
 abbrev ends : List ℕ → ℕ → ℕ → Bool
 ends f k n = leb (length f) k
 
-abbrev check : Shape → ℕ → List ℕ → ℕ → ℕ → Checked
+abbrev check : Shape → ℕ → List ℕ → ℕ → ℕ → Result ⊤ Refusal
 check s transitions f k n = checked (step_number s transitions f k n) k
 
 pub loop-k-init : goal.loop-k-init
 unfolding steps_from
 loop-k-init c = (search rules, refl)
 
-pub returns-in_default : goal.returns-in_default
+pub returns-in_err-check_step : goal.returns-in_err-check_step
 unfolding steps_from
-returns-in_default c = let a = c.args in
+returns-in_err-check_step c = let a = c.args in
     let f = a.file.now in
     let k = c.loop-k.k in
     let n = c.loop-k.n in
-    let e : check a.shape a.transitions f k n ≡ Refused c.in_default.field-0 = sym c.check_step-answer.ensures ∙ c.in_default.is in
-    ap Stopped (c.refusal_of.ensures ∙ ap refusal_of c.in_default.is)
-    ∙ sym (row_stops (ends f) (check a.shape a.transitions f) (λ k. 1 + step_body f k) (1024 - n) k n c.in_default.field-0 (lt-leb (length f) k c.loop-k-test.true) e)
+    let p = err_from_is_err_and c.from_residual.result c.from_residual.ensures.1 in
+    let e : check a.shape a.transitions f k n ≡ Err p.0 = rw p.2 (sym c.check_step.ensures ∙ c.in_err-check_step.was) in
+    p.1 ∙ sym (row_stops (ends f) (check a.shape a.transitions f) (λ k. 1 + step_body f k) (1024 - n) k n p.0 (lt-leb (length f) k c.loop-k-test.true) e)
     ∙ c.loop-k.invariant.1
 
 pub overflow_add-k : goal.overflow_add-k
@@ -45,7 +44,7 @@ overflow_add-k c = let a = c.args in
     let f = a.file.now in
     let k = c.loop-k.k in
     let n = c.loop-k.n in
-    let e : check a.shape a.transitions f k n ≡ Fine = sym c.check_step-answer.ensures ∙ c.in-Fine.is in
+    let e : check a.shape a.transitions f k n ≡ Ok tt = sym c.check_step.ensures ∙ c.in_ok-check_step.was in
     let g = step_fine f k a.shape a.transitions n e in
     omega (arith, c.step_body.ensures, cut_fits f k (step_body f k) g.whole)
 
@@ -55,7 +54,7 @@ overflow_add-k-in-loop-k c = let a = c.args in
     let f = a.file.now in
     let k = c.loop-k.k in
     let n = c.loop-k.n in
-    let e : check a.shape a.transitions f k n ≡ Fine = sym c.check_step-answer.ensures ∙ c.in-Fine.is in
+    let e : check a.shape a.transitions f k n ≡ Ok tt = sym c.check_step.ensures ∙ c.in_ok-check_step.was in
     let g = step_fine f k a.shape a.transitions n e in
     omega (arith, c.step_body.ensures, cut_fits f k (step_body f k) g.whole)
 
@@ -65,7 +64,7 @@ loop-k-smaller c = let a = c.args in
     let f = a.file.now in
     let k = c.loop-k.k in
     let n = c.loop-k.n in
-    let e : check a.shape a.transitions f k n ≡ Fine = sym c.check_step-answer.ensures ∙ c.in-Fine.is in
+    let e : check a.shape a.transitions f k n ≡ Ok tt = sym c.check_step.ensures ∙ c.in_ok-check_step.was in
     let g = step_fine f k a.shape a.transitions n e in
     omega (arith, leb-false 1024 n g.room)
 
@@ -75,7 +74,7 @@ loop-k-preserved c = let a = c.args in
     let f = a.file.now in
     let k = c.loop-k.k in
     let n = c.loop-k.n in
-    let e : check a.shape a.transitions f k n ≡ Fine = sym c.check_step-answer.ensures ∙ c.in-Fine.is in
+    let e : check a.shape a.transitions f k n ≡ Ok tt = sym c.check_step.ensures ∙ c.in_ok-check_step.was in
     let g = step_fine f k a.shape a.transitions n e in
     let l = leb-false 1024 n g.room in
     let s : k + (1 + c.step_body.result) ≡ k + (1 + step_body f k) = ap (λ (i : ℕ). k + (1 + i)) c.step_body.ensures in

@@ -1,3 +1,5 @@
+use Rattle.std.specs.Prelude.{Result, ⊤}
+use Rattle.file_records.specs.declared.program.Refusal.{Refusal}
 use Prim.Native.Nat.{ℕ, ◌+◌, ◌≤◌, ◌-◌}
 use mathlib.Core.Path.{◌≡◌}
 use mathlib.Core.Bool.{Bool}
@@ -5,7 +7,6 @@ use mathlib.Core.List.{List}
 use lib.ListN.{length}
 use lib.Dec.{leb}
 use Rattle.file_records.specs.declared.program.Shape.{Shape}
-use Rattle.file_records.specs.declared.program.Checked.{Checked}
 use Rattle.file_records.specs.Records.{checked, step_body, step_number}
 use Rattle.file_records.specs.ProgramPart.{row_from}
 use Rattle.file_contents.specs.EvidencePart.{steps_from}
@@ -14,7 +15,7 @@ use Rattle.file_contents.proofs.steps.steps_from.Given as goal
 abbrev ends : List ℕ → ℕ → ℕ → Bool
 ends f k n = leb (length f) k
 
-abbrev check : Shape → ℕ → List ℕ → ℕ → ℕ → Checked
+abbrev check : Shape → ℕ → List ℕ → ℕ → ℕ → Result ⊤ Refusal
 check s transitions f k n = checked (step_number s transitions f k n) k
 
 abbrev pub invariant-loop-k : goal.invariant-loop-k

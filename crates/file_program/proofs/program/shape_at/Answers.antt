@@ -1,4 +1,4 @@
 use Rattle.file_program.proofs.program.shape_at.Goals as goal
 
 pub returns : goal.returns
-returns c = rw (c.wide-2.ensures, c.field-6.ensures, c.wide.ensures, c.field-5.ensures, c.field-4.ensures, c.field-3.ensures, c.field-2.ensures, c.field.ensures)
+returns c = rw (c.four_at.ensures, c.from-2.ensures, c.field-2.ensures, c.from.ensures, c.field.ensures)

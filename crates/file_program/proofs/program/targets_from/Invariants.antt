@@ -1,10 +1,11 @@
+use Rattle.std.specs.Prelude.{Result, ⊤}
+use Rattle.file_records.specs.declared.program.Refusal.{Refusal}
 use Prim.Native.Nat.{ℕ, ◌≤◌, ◌-◌}
 use mathlib.Core.Path.{◌≡◌}
 use mathlib.Core.Bool.{Bool}
 use mathlib.Core.List.{List}
 use Rattle.file_records.specs.declared.program.Format.{Format}
 use Rattle.file_records.specs.declared.program.Shape.{Shape}
-use Rattle.file_records.specs.declared.program.Checked.{Checked}
 use Rattle.file_records.specs.Format.{most_targets}
 use Rattle.file_records.specs.Records.{checked, target_number}
 use Rattle.file_records.specs.ProgramPart.{unless_end, row_from, at_end, targets_from}
@@ -13,7 +14,7 @@ use Rattle.file_program.proofs.program.targets_from.Given as goal
 abbrev ends : Bool → List ℕ → ℕ → ℕ → Bool
 ends alone f = at_end alone f
 
-abbrev check : Format → Shape → List ℕ → List ℕ → ℕ → ℕ → Checked
+abbrev check : Format → Shape → List ℕ → List ℕ → ℕ → ℕ → Result ⊤ Refusal
 check format s states f k n = unless_end f k (checked (target_number format s states f k n) k)
 
 abbrev pub invariant-loop-format : goal.invariant-loop-format

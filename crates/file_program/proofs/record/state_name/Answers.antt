@@ -4,7 +4,7 @@ use Rattle.file_program.proofs.record.state_name.Goals as goal
 
 pub returns-then-p-shape : goal.returns-then-p-shape
 unfolding state_name
-returns-then-p-shape c = rw (lt-ltb _ _ c.if-p-shape.true, c.of_four.ensures)
+returns-then-p-shape c = rw (lt-ltb _ _ c.if-p-shape.true, c.at_or.ensures)
 
 pub returns : goal.returns
 unfolding state_name

@@ -3,4 +3,4 @@ use Rattle.file_program.proofs.record.value_exists.Goals as goal
 
 pub returns : goal.returns
 unfolding value_exists
-returns c = rw (c.both.ensures, c.value_count.ensures, c.wide-v.ensures)
+returns c = rw (c.both.ensures, c.value_count.ensures, c.from-v.ensures)

@@ -1,22 +1,45 @@
-use Rattle.file_contents.proofs.ReadingLaws.{shape_range, parts_short, parts_refused, parts_both}
-use Rattle.file_contents.specs.Reading.{input, evidence_at, Parts, evidence_from, evidence_reading, evidence_area, reading_refused, reading_of, area_read}
-use Rattle.file_records.specs.ProgramPart.{refusal_of}
-use Rattle.file_records.specs.declared.program.ProgramRead.{ProgramRead}
-use Rattle.file_contents.specs.declared.evidence.Part.TheVariants.{InProgram}
-use lib.ListN.{length}
 use Prim.Native.Nat.{ℕ}
-use native.Mathlib.Omega.{arith}
 use mathlib.Core.Path.{◌≡◌, sym, ap, ◌∙◌}
+use native.Mathlib.Omega.{arith}
+use lib.ListN.{length}
+use Rattle.std.specs.Prelude.{Result, Ok, Err}
+use Rattle.std.proofs.lemmas.Result.{err_from_is_err_and}
+use Rattle.file_records.specs.ProgramPart.{whether, program_from}
+use Rattle.file_contents.specs.declared.evidence.Part.TheVariants.{InProgram}
+use Rattle.file_contents.specs.declared.evidence.Unread.{Unread}
+use Rattle.file_contents.specs.Reading.{input, evidence_at, Parts, evidence_from, evidence_reading, evidence_area, in_part, reading_of, area_read}
+use Rattle.file_contents.proofs.ReadingLaws.{parts_short, parts_refused, in_part_ok, in_part_err, read_range}
+use Rattle.file_reading.proofs.EvidenceLaws.{read_both}
 use Rattle.file_reading.proofs.evidence.read.Goals as goal
 
 pub returns-then-work-lt65536 : goal.returns-then-work-lt65536
-returns-then-work-lt65536 c = let a = c.args in let x = input a.alone a.code.now a.file.now in let w = a.work.now in let e = parts_short x (length w) c.if-work-lt65536.true in record { value = c.reading_refused.ensures ∙ sym (ap (reading_of x) e); work_after = sym (ap (λ (y : Parts). area_read y w) e) }
+returns-then-work-lt65536 c = let a = c.args in let x = input a.alone a.code.now a.file.now in let w = a.work.now in let e = parts_short x (length w) c.if-work-lt65536.true in record { value = sym (ap (reading_of x) e); work_after = sym (ap (λ (y : Parts). area_read y w) e) }
 
-pub returns-in_default : goal.returns-in_default
-returns-in_default c = let a = c.args in let x = input a.alone a.code.now a.file.now in let w = a.work.now in let r = c.in_default.field-0 in let e = parts_refused x (length w) r c.if-work-lt65536.false (sym (ap (λ (x : ProgramRead). x.answer) c.read_program-part.ensures) ∙ c.in_default.is) in record { value = c.reading_refused-in_default.ensures ∙ ap (reading_refused InProgram) (c.refusal_of.ensures ∙ ap refusal_of c.in_default.is) ∙ sym (ap (reading_of x) e); work_after = sym (ap (λ (y : Parts). area_read y w) e) }
+pub returns-in_err-program : goal.returns-in_err-program
+returns-in_err-program c = let a = c.args in
+    let x = input a.alone a.code.now a.file.now in
+    let w = a.work.now in
+    let p = err_from_is_err_and c.from_residual.result c.from_residual.ensures.1 in
+    let d : in_part InProgram (program_from a.alone a.code.now 0) ≡ Err p.0 = rw p.2 (sym (c.in_part.ensures ∙ ap (in_part InProgram) c.read_program.ensures) ∙ c.in_err-program.was) in
+    let q = in_part_err InProgram (program_from a.alone a.code.now 0) p.0 d in
+    let e = parts_refused x (length w) q.0 c.if-work-lt65536.false (ap whether q.1) in
+    record { value = p.1 ∙ ap (λ (u : Unread). Err u) q.2 ∙ sym (ap (reading_of x) e); work_after = sym (ap (λ (y : Parts). area_read y w) e) }
 
 pub read_evidence-requires : goal.read_evidence-requires
-read_evidence-requires c = let a = c.args in let q = sym (ap (λ (x : ProgramRead). x.answer) c.read_program-part.ensures) ∙ c.in-Fine.is in let w = shape_range a.alone a.code.now 0 q in (omega (arith, c.if-work-lt65536.false), rw c.read_program-part.ensures w.0, rw c.read_program-part.ensures w.1)
+read_evidence-requires c = let a = c.args in
+    let d = in_part_ok InProgram _ _ (sym (c.in_part.ensures ∙ ap (in_part InProgram) c.read_program.ensures) ∙ c.in_ok-program.was) in
+    let w = read_range a.alone a.code.now c.in_ok-program.program d in
+    (omega (arith, c.if-work-lt65536.false), w.0, w.1)
 
 pub returns : goal.returns
-returns c = let a = c.args in let x = input a.alone a.code.now a.file.now in let w = a.work.now in let r = c.read_program-part.ensures in let p = c.read_program-part.result.program in let v : c.evidence_at-at.result ≡ evidence_at x p = c.evidence_at-at.ensures in let e = parts_both x (length w) c.if-work-lt65536.false (sym (ap (λ (y : ProgramRead). y.answer) r) ∙ c.in-Fine.is) in record { value = c.read_evidence.ensures.value ∙ ap (λ (k : ℕ). evidence_reading k p (evidence_from a.file.now k p (length w))) v ∙ ap (λ (y : ProgramRead). evidence_reading (evidence_at x y.program) y.program (evidence_from a.file.now (evidence_at x y.program) y.program (length w))) r ∙ sym (ap (reading_of x) e); work_after = c.read_evidence.ensures.work_after ∙ ap (λ (k : ℕ). evidence_area (evidence_from a.file.now k p (length w)) w) v ∙ ap (λ (y : ProgramRead). evidence_area (evidence_from a.file.now (evidence_at x y.program) y.program (length w)) w) r ∙ sym (ap (λ (y : Parts). area_read y w) e) }
+returns c = let a = c.args in
+    let x = input a.alone a.code.now a.file.now in
+    let w = a.work.now in
+    let p = c.in_ok-program.program in
+    let d = in_part_ok InProgram _ p (sym (c.in_part.ensures ∙ ap (in_part InProgram) c.read_program.ensures) ∙ c.in_ok-program.was) in
+    let v : c.evidence_at-at.result ≡ evidence_at x p = c.evidence_at-at.ensures in
+    let e = read_both x (length w) c.if-work-lt65536.false p d in
+    record {
+      value = c.in_part-2.ensures ∙ c.read_evidence.ensures.value ∙ ap (λ (k : ℕ). evidence_reading k p (evidence_from a.file.now k p (length w))) v ∙ sym (ap (reading_of x) e);
+      work_after = c.read_evidence.ensures.work_after ∙ ap (λ (k : ℕ). evidence_area (evidence_from a.file.now k p (length w)) w) v ∙ sym (ap (λ (y : Parts). area_read y w) e);
+    }

@@ -4,7 +4,7 @@ use Rattle.file_reading.proofs.list.pointer_fits.Goals as goal
 
 pub returns-then-p-shape : goal.returns-then-p-shape
 unfolding pointer_inside
-returns-then-p-shape c = rw (lt-ltb _ _ c.if-p-shape.true, c.both.ensures, c.wide.ensures)
+returns-then-p-shape c = rw (lt-ltb _ _ c.if-p-shape.true, c.both.ensures, c.from.ensures)
 
 pub returns : goal.returns
 unfolding pointer_inside

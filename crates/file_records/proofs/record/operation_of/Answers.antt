@@ -4,11 +4,11 @@ use Rattle.file_records.proofs.record.operation_of.Goals as goal
 
 pub returns-in-1 : goal.returns-in-1
 unfolding operation_of
-returns-in-1 c = rw (c.in-1.is, c.wide.ensures)
+returns-in-1 c = rw (c.in-1.is, c.from.ensures)
 
 pub returns-in-2 : goal.returns-in-2
 unfolding operation_of
-returns-in-2 c = rw (c.in-2.is, c.wide-in-2.ensures)
+returns-in-2 c = rw (c.in-2.is, c.from-in-2.ensures)
 
 pub returns-in-3 : goal.returns-in-3
 unfolding operation_of
@@ -20,7 +20,7 @@ returns-in-4 c = rw c.in-4.is
 
 pub returns-in-5 : goal.returns-in-5
 unfolding operation_of
-returns-in-5 c = rw (c.in-5.is, c.wide-in-5.ensures)
+returns-in-5 c = rw (c.in-5.is, c.from-in-5.ensures)
 
 pub returns-in_default : goal.returns-in_default
 unfolding operation_of

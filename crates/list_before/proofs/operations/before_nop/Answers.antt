@@ -1,4 +1,5 @@
-use mathlib.Core.Path.{◌≡◌, refl}
+use Rattle.list_cube.specs.Editing.{by_number}
+use mathlib.Core.Path.{◌≡◌, refl, ap, ◌∙◌}
 use lib.ListN.{length}
 use Rattle.machine_pws.specs.declared.Operation.TheVariants.{Nop}
 use Rattle.list_theory.specs.Predecessors.{undone}
@@ -10,8 +11,5 @@ use native.Mathlib.Omega.{arith}
 use borrow.Author.Rules.{rules}
 use Rattle.list_before.proofs.operations.before_nop.Goals as goal
 
-pub returns-then-p-ge4 : goal.returns-then-p-ge4
-returns-then-p-ge4 c = λ s w a. absurd (omega (arith, c.if-p-ge4.true, few w c.args.p a))
-
 pub returns : goal.returns
-returns c = λ s w a. let n : length c.args.cube.states ≡ 4 = search rules in made (take_before (configuration_of c.args.cube) c.args.p c.args.from Nop undone) (four_put c.args.cube.states c.args.p c.args.from (omega (arith, few w c.args.p a))) refl refl refl (room w) (nine w)
+returns c = λ s w a. let n : length c.args.cube.states ≡ 4 = search rules in made (take_before (configuration_of c.args.cube) c.args.p c.args.from Nop undone) (ap by_number c.with_at.ensures ∙ four_put c.args.cube.states c.args.p c.args.from (omega (arith, few w c.args.p a))) refl refl refl (room w) (nine w)

@@ -11,19 +11,7 @@ use native.Mathlib.Omega.{arith}
 use Rattle.list_before.proofs.operations.may_read.Goals as goal
 
 pub returns-then-p-ge4 : goal.returns-then-p-ge4
-returns-then-p-ge4 c = λ s w g a b. absurd (omega (arith, c.if-p-ge4.true, few w c.args.p a))
-
-pub returns-then-v-ge4 : goal.returns-then-v-ge4
-returns-then-v-ge4 c = λ s w g a b. absurd (omega (arith, c.if-v-ge4.true, less w c.args.v b))
-
-pub overflow_mul-p : goal.overflow_mul-p
-overflow_mul-p c = omega (arith, c.if-p-ge4.false, c.if-v-ge4.false)
-
-pub overflow_add-p : goal.overflow_add-p
-overflow_add-p c = omega (arith, c.if-p-ge4.false, c.if-v-ge4.false)
-
-pub bounds-writes-p : goal.bounds-writes-p
-bounds-writes-p c = omega (arith, c.if-p-ge4.false, c.if-v-ge4.false)
+returns-then-p-ge4 c = λ s w g a b. absurd (omega (arith, c.then-p-ge4.either, few w c.args.p a, less w c.args.v b))
 
 pub returns : goal.returns
-returns c = λ s w g a b. let e : c.wide-last.result ≡ last_write (configuration_of c.args.cube).memory c.args.p c.args.v = c.wide-last.ensures ∙ g c.args.p c.args.v (few w c.args.p a) (less w c.args.v b) in let z = write_some w c.args.p c.args.v a in c.related.ensures ∙ ap (λ (y : ℕ). alike y c.args.x) (c.newest_or-seen.ensures ∙ ap₂ (λ (xs : List ℕ) (y : ℕ). newest_or (newest_waiting xs) y) c.queue_at-queue.ensures.0 (c.value_in.ensures (room w) (omega (arith, z.0)) (omega (arith, z.1)) ∙ ap (λ (i : ℕ). get_or (message (configuration_of c.args.cube).memory.channel i).snapshot c.args.v 0) e))
+returns c = λ s w g a b. let e : c.from-last.result ≡ last_write (configuration_of c.args.cube).memory c.args.p c.args.v = c.from-last.ensures ∙ g c.args.p c.args.v (few w c.args.p a) (less w c.args.v b) in let z = write_some w c.args.p c.args.v a in c.related.ensures ∙ ap (λ (y : ℕ). alike y c.args.x) (c.newest_or-seen.ensures ∙ ap₂ (λ (xs : List ℕ) (y : ℕ). newest_or (newest_waiting xs) y) c.queue_at.ensures.0 (c.value_in.ensures (room w) (omega (arith, z.0)) (omega (arith, z.1)) ∙ ap (λ (i : ℕ). get_or (message (configuration_of c.args.cube).memory.channel i).snapshot c.args.v 0) e))

@@ -6,4 +6,4 @@ use Rattle.list_theory.specs.Predecessors.{ends_alike}
 use Rattle.list_before.proofs.operations.may_write.Goals as goal
 
 pub returns : goal.returns
-returns c = c.ends_alike.ensures ∙ ap (λ (xs : List ℕ). ends_alike (newest_waiting xs) c.args.x) c.queue_at-queue.ensures.0
+returns c = c.ends_alike.ensures ∙ ap (λ (xs : List ℕ). ends_alike (newest_waiting xs) c.args.x) c.queue_at.ensures.0

@@ -1,13 +1,8 @@
-use mathlib.Core.Path.{ap}
-use Rattle.list_before.proofs.CubeLaws.{requeue}
-use native.Mathlib.Omega.{arith}
+use mathlib.Core.Path.{ap₂}
+use mathlib.Core.List.{List}
+use Prim.Native.Nat.{ℕ}
+use Rattle.file_contents.specs.declared.entry.Queue.{Queue}
 use Rattle.list_before.proofs.operations.with_queue.Goals as goal
 
-pub returns-then-p-ge4 : goal.returns-then-p-ge4
-returns-then-p-ge4 c = λ a b. absurd (omega (arith, c.if-p-ge4.true))
-
-pub returns-then-v-ge4 : goal.returns-then-v-ge4
-returns-then-v-ge4 c = λ a b. absurd (omega (arith, c.if-v-ge4.true))
-
 pub returns : goal.returns
-returns c = λ a b. ap (requeue c.args.cube c.args.p c.args.from) (c.put_queue-queues.ensures a b)
+returns c = λ a b. ap₂ (λ (ss : List ℕ) (qs : List Queue). record { states = ss; pointers = c.args.cube.pointers; queues = qs; messages = c.args.cube.messages; count = c.args.cube.count }) c.with_at.ensures (c.put_queue.ensures a b)

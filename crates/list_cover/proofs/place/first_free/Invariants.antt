@@ -1,6 +1,6 @@
 use Prim.Native.Nat.{◌-◌}
 use mathlib.Core.Bool.{false}
-use Rattle.list_key.proofs.Below.{Each}
+use Rattle.base.proofs.Tests.{Each}
 use Rattle.list_cover.specs.Places.{is_free, place_at}
 use Rattle.list_cover.proofs.place.first_free.Given as goal
 

@@ -1,19 +1,12 @@
-use mathlib.Core.Path.{refl}
 use native.Mathlib.Omega.{arith}
-use borrow.Author.Tests.{lt-ltb, le-ltb}
-use Rattle.list_key.proofs.ValueLaws.{waits}
+use Rattle.std.proofs.lemmas.Grind.{common_steps}
 use Rattle.list_cover.specs.Places.{value_free}
-use borrow.Author.Rules.{rules}
 use Rattle.list_cover.proofs.place.value_free.Goals as goal
 
-pub returns-then-waiting-number : goal.returns-then-waiting-number
+pub returns-then-number-waiting : goal.returns-then-number-waiting
 unfolding value_free
-returns-then-waiting-number c = rw (le-ltb _ _ (rw c.waiting.ensures at c.if-waiting-number.true)) refl
+returns-then-number-waiting c = grind (arith, common_steps)
 
-pub bounds-queue-number : goal.bounds-queue-number
+pub returns-else-number-waiting : goal.returns-else-number-waiting
 unfolding value_free
-bounds-queue-number c = omega (arith, waits c.args.queue (search rules), c.waiting.ensures, c.if-waiting-number.false)
-
-pub returns : goal.returns
-unfolding value_free
-returns c = rw (lt-ltb _ _ (rw c.waiting.ensures at c.if-waiting-number.false)) (rw (lt-ltb c.args.number 9 (omega (arith, waits c.args.queue (search rules), c.waiting.ensures, c.if-waiting-number.false))) refl)
+returns-else-number-waiting c = grind (arith, common_steps)

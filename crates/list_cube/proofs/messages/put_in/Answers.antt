@@ -3,12 +3,6 @@ use native.Mathlib.Omega.{arith}
 use borrow.Author.Rules.{rules}
 use Rattle.list_cube.proofs.messages.put_in.Goals as goal
 
-pub returns-then-count-ge20 : goal.returns-then-count-ge20
-returns-then-count-ge20 c l m = absurd (omega (arith, c.if-count-ge20.true))
-
-pub returns-then-count-at : goal.returns-then-count-at
-returns-then-count-at c l m = absurd (omega (arith, c.if-count-at.true))
-
 pub loop-i-init : goal.loop-i-init
 loop-i-init c = shift_begin c.args.messages c.args.at (search rules)
 

@@ -8,11 +8,5 @@ use Rattle.file_contents.proofs.CubeParts.{channel_message}
 use native.Mathlib.Omega.{arith}
 use Rattle.list_cube.proofs.messages.value_in.Goals as goal
 
-pub returns-then-i-eq0 : goal.returns-then-i-eq0
-returns-then-i-eq0 c = λ a b d. absurd (omega (arith, c.if-i-eq0.true))
-
-pub returns-then-i-gt20 : goal.returns-then-i-gt20
-returns-then-i-gt20 c = λ a b d. absurd (omega (arith, c.if-i-gt20.true))
-
 pub returns : goal.returns
-returns c = λ a b d. let e : suc (c.args.i - 1) ≡ c.args.i = omega arith in c.of_four.ensures ∙ ap (λ (m : Message). get_or m.snapshot c.args.v 0) (sym (channel_message c.args.cube.messages c.args.cube.count (c.args.i - 1) (omega arith)) ∙ ap (message (configuration_of c.args.cube).memory.channel) e)
+returns c = λ a b d. let e : suc (c.args.i - 1) ≡ c.args.i = omega arith in c.at_or.ensures ∙ ap (λ (m : Message). get_or m.snapshot c.args.v 0) (sym (channel_message c.args.cube.messages c.args.cube.count (c.args.i - 1) (omega arith)) ∙ ap (message (configuration_of c.args.cube).memory.channel) e)

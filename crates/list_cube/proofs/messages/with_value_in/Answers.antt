@@ -11,11 +11,5 @@ use native.Mathlib.Omega.{arith}
 use borrow.Author.Rules.{rules}
 use Rattle.list_cube.proofs.messages.with_value_in.Goals as goal
 
-pub returns-then-i-eq0 : goal.returns-then-i-eq0
-returns-then-i-eq0 c = λ a b d. absurd (omega (arith, c.if-i-eq0.true))
-
-pub returns-then-i-gt20 : goal.returns-then-i-gt20
-returns-then-i-gt20 c = λ a b d. absurd (omega (arith, c.if-i-gt20.true))
-
 pub returns : goal.returns
-returns c = λ a b d. let e : suc (c.args.i - 1) ≡ c.args.i = omega arith in ap (λ (xs : List ℕ). channel_of (set c.args.cube.messages (c.args.i - 1) (with_values (get_or c.args.cube.messages (c.args.i - 1) no_message) xs)) c.args.cube.count) c.with_value-values.ensures ∙ set_value c.args.cube.messages (c.args.i - 1) c.args.v c.args.x c.args.cube.count (search (rules, length_mapped)) (omega arith) a ∙ ap (λ (j : ℕ). value_put (configuration_of c.args.cube).memory.channel j c.args.v c.args.x) e
+returns c = λ a b d. let e : suc (c.args.i - 1) ≡ c.args.i = omega arith in ap (λ (xs : List ℕ). channel_of (set c.args.cube.messages (c.args.i - 1) (with_values (get_or c.args.cube.messages (c.args.i - 1) no_message) xs)) c.args.cube.count) c.with_at-snapshot.ensures ∙ set_value c.args.cube.messages (c.args.i - 1) c.args.v c.args.x c.args.cube.count (search (rules, length_mapped)) (omega arith) a ∙ ap (λ (j : ℕ). value_put (configuration_of c.args.cube).memory.channel j c.args.v c.args.x) e

@@ -8,11 +8,5 @@ use mathlib.Core.Path.{◌≡◌, sym, ap, ◌∙◌}
 use Prim.Native.Nat.{ℕ, suc, ◌-◌}
 use Rattle.list_cube.proofs.newest.alike_older.Goals as goal
 
-pub returns-then-n-lt2 : goal.returns-then-n-lt2
-returns-then-n-lt2 c l = let z : 0 ≡ c.args.cube.count - 1 = omega (arith, c.if-n-lt2.true) in ap (λ (n : ℕ). alike_newest (channel_of c.args.cube.messages n) c.args.values) z ∙ sym (ap (λ (ms : List Message). alike_newest ms c.args.values) (older_channel c.args.cube.messages c.args.cube.count))
-
-pub returns-then-n-gt20 : goal.returns-then-n-gt20
-returns-then-n-gt20 c l = absurd (omega (arith, c.if-n-gt20.true))
-
 pub returns : goal.returns
 returns c l = let z : suc (c.args.cube.count - 2) ≡ c.args.cube.count - 1 = omega (arith, c.if-n-lt2.false) in c.values_related.ensures ∙ ap (λ (n : ℕ). alike_newest (channel_of c.args.cube.messages n) c.args.values) z ∙ sym (ap (λ (ms : List Message). alike_newest ms c.args.values) (older_channel c.args.cube.messages c.args.cube.count))

@@ -6,11 +6,5 @@ use native.Mathlib.Omega.{arith}
 use borrow.Author.Rules.{rules}
 use Rattle.list_cube.proofs.newest.met_older.Goals as goal
 
-pub returns-then-n-lt2 : goal.returns-then-n-lt2
-returns-then-n-lt2 c = λ a b. absurd (omega (arith, c.if-n-lt2.true))
-
-pub returns-then-n-gt20 : goal.returns-then-n-gt20
-returns-then-n-gt20 c = λ a b. absurd (omega (arith, c.if-n-gt20.true))
-
-pub returns : goal.returns
-returns c = λ a b. let e : c.args.cube.count ≡ suc (suc (c.args.cube.count - 2)) = omega arith in met_channel c.args.cube.messages c.args.values (c.args.cube.count - 2) c.args.cube.count c.met_with.result e b (search (rules, length_mapped)) c.met_with.ensures
+pub returns-then-n-le20 : goal.returns-then-n-le20
+returns-then-n-le20 c = λ a b. let e : c.args.cube.count ≡ suc (suc (c.args.cube.count - 2)) = omega arith in met_channel c.args.cube.messages c.args.values (c.args.cube.count - 2) c.args.cube.count c.met_with.result e b (search (rules, length_mapped)) c.met_with.ensures

@@ -9,4 +9,4 @@ pub returns-then-role : goal.returns-then-role
 returns-then-role c = message_role (min c.args.variables 4) c.args.r c.args.role c.args.message c.if-role.true c.value_bits.ensures
 
 pub returns : goal.returns
-returns c = message_none (min c.args.variables 4) c.args.r c.args.role c.args.message c.if-role.false c.value_bits-2.ensures (c.bit_at.ensures ∙ ap bit_at (omega (arith, c.wide-2.ensures, c.wide.ensures)))
+returns c = message_none (min c.args.variables 4) c.args.r c.args.role c.args.message c.if-role.false c.value_bits-2.ensures (c.bit_at.ensures ∙ ap bit_at (omega (arith, c.from-2.ensures, c.from.ensures)))

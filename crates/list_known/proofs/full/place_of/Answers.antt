@@ -1,6 +1,7 @@
 use Prim.Native.Nat.{ℕ, ◌*◌, ◌%◌, ◌<◌}
 use mathlib.Core.Path.{◌≡◌}
 use native.Mathlib.Omega.{arith}
+use borrow.Author.Rules.{rules}
 use Rattle.list_known.specs.FullStates.{place_of}
 use Rattle.list_known.proofs.full.place_of.Goals as goal
 
@@ -12,4 +13,6 @@ quarter x = omega arith
 
 pub returns : goal.returns
 unfolding place_of
-returns c = (rw (quarter, shifted c.number-b.result c.number-b.ensures.1, c.third_place.ensures, c.fourth_place.ensures, c.number-a.ensures.0, c.number-b.ensures.0, c.number-c.ensures.0, c.number-d.ensures.0), rw quarter (omega arith))
+returns c =
+    let few : c.from-b.result < 256 = search rules in
+    (rw (quarter, shifted c.from-b.result few, c.third_place.ensures, c.fourth_place.ensures, c.from-a.ensures, c.from-b.ensures, c.from-c.ensures, c.from-d.ensures), rw quarter (omega arith))

@@ -1,4 +1,3 @@
-use borrow.Author.Tests.{not-false}
 use Rattle.list_known.proofs.MemberLaws.{kept_same, newest_yes}
 use Rattle.list_known.proofs.members.put_newest.Goals as goal
 
@@ -6,4 +5,4 @@ pub returns-then-not-family_held : goal.returns-then-not-family_held
 returns-then-not-family_held c = kept_same _
 
 pub returns : goal.returns
-returns c = let d = c.put_family.ensures in record { room = d.0; full = λ l h F. d.1 _ _ (newest_yes c.args.shape c.args.k c.args.file.now c.args.list.now c.args.sum.now c.args.n l h (c.family_held.ensures l h) (not-false _ c.if-not-family_held.false-raw)) F }
+returns c = let d = c.put_family.ensures in record { room = d.0; full = λ l h F. d.1 _ _ (newest_yes c.args.listing.now c.args.k l h (c.family_held.ensures l h) c.if-not-family_held.false) F }

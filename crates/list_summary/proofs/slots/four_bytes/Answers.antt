@@ -2,6 +2,6 @@ use native.Mathlib.Omega.{arith}
 use Rattle.base.specs.Bytes.{le32}
 use Rattle.list_summary.proofs.slots.four_bytes.Goals as goal
 
-pub returns : goal.returns
+pub returns-clause-value : goal.returns-clause-value
 unfolding le32
-returns c = record { value = omega arith; upper_bound = omega arith }
+returns-clause-value c = omega arith

@@ -8,4 +8,4 @@ pub with_link-requires-2 : goal.with_link-requires-2
 with_link-requires-2 c = c.head_link-old.ensures.upper_bound
 
 pub returns : goal.returns
-returns c = hang_is _ _ _ _ _ _ _ _ _ _ _ _ c.head_link-old.ensures.value c.low_word-first.ensures.value c.link_to.ensures.0 c.with_link.ensures c.put_low.ensures c.high_word-own.ensures.value c.with_link-2.ensures c.put_high.ensures
+returns c = hang_is _ _ _ _ _ _ _ _ _ _ _ _ c.head_link-old.ensures.value c.half_at-first.ensures.value c.link_to.ensures.0 c.with_link.ensures c.put_half.ensures c.half_at-own.ensures.value c.with_link-2.ensures c.put_half-2.ensures

@@ -1,7 +1,9 @@
+use mathlib.Core.Path.{ap}
+use Rattle.list_summary.specs.Slots.{word, head_link}
 use native.Mathlib.Omega.{arith}
-use Rattle.list_summary.specs.Slots.{head_link}
+use Rattle.list_summary.proofs.SlotLaws.{low_is}
 use Rattle.list_summary.proofs.slots.head_link.Goals as goal
 
-pub returns : goal.returns
+pub returns-clause-value : goal.returns-clause-value
 unfolding head_link
-returns c = record { value = omega (arith, c.low_word.ensures.value); upper_bound = omega arith }
+returns-clause-value c = omega (arith, c.half_at.ensures.value, ap (word c.args.sum.now) (low_is c.args.k))

@@ -1,16 +1,8 @@
-use native.Mathlib.Omega.{arith}
-use Rattle.list_summary.proofs.SlotLaws.{zeros_few, home_few, home_low, home_high, home_none}
-use borrow.Author.Rules.{rules}
+use Rattle.list_summary.proofs.SlotLaws.{home_few, home_low, home_high, home_none}
 use Rattle.list_summary.proofs.slots.home_of.Goals as goal
 
 pub returns-then-n-lt2 : goal.returns-then-n-lt2
 returns-then-n-lt2 c = home_few c.args.number c.args.n c.if-n-lt2.true
-
-pub overflow_cast-y : goal.overflow_cast-y
-overflow_cast-y c = record { fits = omega (arith, zeros_few c.args.n c.if-n-lt2.false (search rules)) }
-
-pub overflow_shr-y : goal.overflow_shr-y
-overflow_shr-y c = zeros_few c.args.n c.if-n-lt2.false (search rules)
 
 pub returns-then-y-n : goal.returns-then-y-n
 returns-then-y-n c = home_low c.args.number c.args.n c.if-n-lt2.false c.if-y-n.true

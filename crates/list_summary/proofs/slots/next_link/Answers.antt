@@ -4,4 +4,4 @@ use Rattle.list_summary.proofs.slots.next_link.Goals as goal
 
 pub returns : goal.returns
 unfolding next_link
-returns c = omega (arith, c.high_word.ensures.value)
+returns c = omega (arith, c.half_at.ensures.value)

@@ -1,18 +1,16 @@
-use borrow.Author.Tests.{not-true, not-false}
+use mathlib.Core.Path.{sym}
+use Rattle.list_targets.proofs.JudgeLaws.{judges_is}
 use Rattle.list_targets.proofs.SeenLaws.{no_room, seeing, values_unheld, values_held}
 use Rattle.list_targets.proofs.seen.seen_held.Goals as goal
 
 pub returns-then-not-has_room : goal.returns-then-not-has_room
-returns-then-not-has_room c = no_room c.args.shape c.args.aim c.args.cube c.has_room.ensures (not-true _ c.if-not-has_room.true-raw)
+returns-then-not-has_room c = no_room c.args.listing.now.shape c.args.sight c.args.cube c.has_room.ensures c.if-not-has_room.true
 
-pub values_held-valued-requires : goal.values_held-valued-requires
-values_held-valued-requires c = seeing c.args.shape c.args.aim c.args.cube c.has_room.ensures (not-false _ c.if-not-has_room.false-raw) c.requires c.last_writes-writes.ensures
+pub values_held-requires : goal.values_held-requires
+values_held-requires c = seeing c.args.listing.now.shape c.args.sight c.args.cube c.has_room.ensures c.if-not-has_room.false c.requires c.last_writes.ensures
 
-pub returns-then-not-valued : goal.returns-then-not-valued
-returns-then-not-valued c = values_unheld c.args.shape c.args.aim c.args.cube c.has_room.ensures (not-false _ c.if-not-has_room.false-raw) c.values_held-valued.ensures (not-true _ c.if-not-valued.true-raw)
+pub returns-then-values_held : goal.returns-then-values_held
+returns-then-values_held c = values_held c.args.listing.now.shape c.args.sight c.args.cube c.has_room.ensures c.if-not-has_room.false (judges_is c.if-values_held.true c.values_held.ensures) c.witnesses_held.ensures
 
-pub witnesses_held-requires : goal.witnesses_held-requires
-witnesses_held-requires c = seeing c.args.shape c.args.aim c.args.cube c.has_room.ensures (not-false _ c.if-not-has_room.false-raw) c.requires c.last_writes-writes.ensures
-
-pub returns : goal.returns
-returns c = values_held c.args.shape c.args.aim c.args.cube c.has_room.ensures (not-false _ c.if-not-has_room.false-raw) c.values_held-valued.ensures (not-false _ c.if-not-valued.false-raw) c.witnesses_held.ensures
+pub returns-else-values_held : goal.returns-else-values_held
+returns-else-values_held c = judges_is (sym c.if-values_held.false) (values_unheld c.args.listing.now.shape c.args.sight c.args.cube c.has_room.ensures c.if-not-has_room.false (judges_is c.if-values_held.false c.values_held.ensures))

@@ -3,8 +3,8 @@ use lib.ListN.{length}
 use Rattle.pattern_pass.proofs.SeenLaws.{Sofar}
 use Rattle.pattern_pass.proofs.pass.pattern_from.Given as goal
 
-abbrev pub invariant-loop-answer : goal.invariant-loop-answer
-invariant-loop-answer l = Sofar l.shape l.file l.start l.seen l.k
+abbrev pub invariant-loop-shape : goal.invariant-loop-shape
+invariant-loop-shape l = Sofar l.shape l.file l.start l.seen l.k
 
-abbrev pub decreases-loop-answer : goal.decreases-loop-answer
-decreases-loop-answer l = length l.file - l.k
+abbrev pub decreases-loop-shape : goal.decreases-loop-shape
+decreases-loop-shape l = length l.file - l.k

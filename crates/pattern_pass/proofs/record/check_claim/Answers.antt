@@ -3,4 +3,4 @@ use Rattle.pattern_pass.proofs.record.check_claim.Goals as goal
 
 pub returns : goal.returns
 unfolding claim_number
-returns c = rw (c.answer.ensures, c.first_number.ensures, c.field.ensures, c.cut.ensures, c.is_kind.ensures)
+returns c = rw (c.checked.ensures, c.first_number.ensures, c.field.ensures, c.cut.ensures, c.is_kind.ensures)

@@ -20,7 +20,7 @@ fits f at e = omega (arith, cut_fits f at 8 e)
 
 pub returns-then-cut : goal.returns-then-cut
 unfolding pattern_number
-returns-then-cut c = rw (c.answer.ensures, c.first_number.ensures, c.is_kind-other.ensures, sym c.cut.ensures ∙ c.if-cut.true) (ap (λ (k : ℕ). checked k c.args.at) (cut_first _ _ _ _))
+returns-then-cut c = rw (c.checked.ensures, c.first_number.ensures, c.is_kind-other.ensures, sym c.cut.ensures ∙ c.if-cut.true) (ap (λ (k : ℕ). checked k c.args.at) (cut_first _ _ _ _))
 
 pub states_inside-requires : goal.states_inside-requires
 unfolding pattern_number
@@ -32,4 +32,4 @@ newest_inside-requires c = fits c.args.file.now c.args.at (sym c.cut.ensures ∙
 
 pub returns : goal.returns
 unfolding pattern_number
-returns c = rw (c.answer-2.ensures, c.first_number-2.ensures, c.both-names.ensures, c.newest_inside.ensures, c.states_inside.ensures, c.is_kind-other.ensures, sym c.cut.ensures ∙ c.if-cut.false)
+returns c = rw (c.checked-2.ensures, c.first_number-2.ensures, c.both-names.ensures, c.newest_inside.ensures, c.states_inside.ensures, c.is_kind-other.ensures, sym c.cut.ensures ∙ c.if-cut.false)

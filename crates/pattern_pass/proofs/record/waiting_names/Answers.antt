@@ -3,4 +3,4 @@ use Rattle.pattern_pass.proofs.record.waiting_names.Goals as goal
 
 pub returns : goal.returns
 unfolding waiting_names
-returns c = rw (c.both.ensures, c.value_name.ensures, c.field-2.ensures, c.wide.ensures, c.pair_exists.ensures, c.field.ensures, c.field-variable.ensures)
+returns c = rw (c.both.ensures, c.value_name.ensures, c.field-2.ensures, c.from.ensures, c.pair_exists.ensures, c.field.ensures, c.field-variable.ensures)

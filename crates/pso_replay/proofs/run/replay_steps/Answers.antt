@@ -1,52 +1,9 @@
-use Prim.Native.Nat.{ℕ}
-use mathlib.Core.Path.{◌≡◌, sym, ap, ◌∙◌}
-use native.Mathlib.Omega.{arith}
-use lib.ListN.{replicate}
-use Rattle.pso_layout.specs.Layout.{pso_move_of}
-use Rattle.pso_step.specs.Answering.{answer_in}
-use Rattle.pso_replay.specs.Loop.{run_from, replay_in}
-use Rattle.pso_replay.proofs.LoopLaws.{replaying_begin, replaying_done, replaying_stopped, replaying_next}
-use Rattle.pso_replay.proofs.Replaying.{replay_right}
+use mathlib.Core.Path.{◌∙◌}
 use borrow.Author.Rules.{rules}
+use Rattle.pso_replay.proofs.Replaying.{replay_right}
 use Rattle.pso_replay.proofs.run.replay_steps.Goals as goal
-use Rattle.pso_replay.proofs.run.replay_steps.Goals.{then-count-i, else-count-i+in_default}
 
-pub loop-i-init : goal.loop-i-init
-loop-i-init c = replaying_begin _ _ _ _ _ _ _ _ _
-
-pub enum_told-1 : goal.enum_told-1
-enum_told-1 c = c.in-Permitted.in-Permitted-own.keys1
-
-pub enum_told-in_default : goal.enum_told-in_default
-enum_told-in_default c = c.in_default.in_default-own.keys2
-
-pub overflow_add-i : goal.overflow_add-i
-overflow_add-i c = omega (arith, c.if-count-i.false, c.ranges.count)
-
-pub loop-i-smaller : goal.loop-i-smaller
-loop-i-smaller c = omega (arith, c.if-count-i.false)
-
-pub loop-i-preserved : goal.loop-i-preserved
-loop-i-preserved c = let g = c.args.code.now in
-    replaying_next c.loop-i.invariant c.pso_move-step.result c.if-count-i.false
-    (c.pso_move-step.ensures ∙ ap (pso_move_of g c.args.program.transitions) c.step_at.ensures)
-    (sym c.step_answer-answer.ensures ∙ c.in-Permitted.is) c.next_step-k.ensures c.run_after-next.ensures c.store.ensures
-
-pub returns : goal.returns
-returns c =
+pub returns-clause-value_2 : goal.returns-clause-value_2
+returns-clause-value_2 c = λ R few room.
     let a = c.args in
-    let I = c.loop-i.invariant in
-    let said : c.if-count-i.verdict ≡ replay_in a.code.now a.file.now a.program a.memory a.at a.count a.lower.now =
-    (elim c.if-count-i.branch [
-      | then-count-i w ↦ w.verdict-is ∙ w.last_answer-verdict.ensures ∙ replaying_done I w.if-count-i.true
-      | else-count-i+in_default w ↦ w.verdict-is ∙ w.stopped_by-verdict.ensures
-          ∙ replaying_stopped I w.step_answer-answer.result w.in_default.field-0 w.if-count-i.false
-          (w.step_answer-answer.ensures ∙ ap (answer_in c.loop-i.run c.loop-i.lower a.program.shape) (w.pso_move-step.ensures ∙ ap (pso_move_of a.code.now a.program.transitions) w.step_at.ensures))
-          w.in_default.is
-    ])
-    ∙ (λ i. run_from a.code.now a.file.now a.program.shape a.program.transitions a.program.targets a.count 0 a.at (c.first_run-run.ensures i) a.lower.now a.count) in
-    record {
-      value = said;
-      lower_after = c.clear.ensures ∙ ap (λ (k : ℕ). replicate k 0) I.same;
-      value_2 = (λ R few room. said ∙ replay_right a.code.now a.file.now a.program R (search rules) a.memory a.at a.count few a.lower.now room);
-    }
+    c.replay_held-answer.ensures.value ∙ replay_right a.code.now a.file.now a.program R (search rules) a.memory a.at a.count few a.lower.now room

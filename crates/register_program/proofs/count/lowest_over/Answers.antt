@@ -9,14 +9,14 @@ use Rattle.register_program.proofs.count.lowest_over.Goals as goal
 pub loop-p-init : goal.loop-p-init
 loop-p-init c = let a = c.args in let z : a.program.shape.processes - 0 ≡ a.program.shape.processes = omega arith in (omega arith, ap (lowest_over (needed a.has a.program.states) 0) z)
 
-pub returns-then-times-gt32 : goal.returns-then-times-gt32
-returns-then-times-gt32 c = let a = c.args in
+pub returns-then-needed-gt32 : goal.returns-then-needed-gt32
+returns-then-needed-gt32 c = let a = c.args in
     let v = c.loop-p.invariant in
     let l = c.loop-p-test.true in
     let p = c.loop-p.p in
-    let e : c.times.result ≡ needed a.has a.program.states p =
-    c.times.ensures ∙ ap₂ states_of c.has_at.ensures (c.wide.ensures ∙ c.of_four.ensures) in
-    sym (over_here (needed a.has a.program.states) a.program.shape.processes p l (omega (arith, e, c.if-times-gt32.true))) ∙ v.1
+    let e : c.times-needed.result ≡ needed a.has a.program.states p =
+    c.times-needed.ensures ∙ ap₂ states_of c.at_or-in-loop-p.ensures (c.from-states.ensures ∙ c.at_or.ensures) in
+    sym (over_here (needed a.has a.program.states) a.program.shape.processes p l (omega (arith, e, c.if-needed-gt32.true))) ∙ v.1
     ∙ ap (λ (S : ℕ → ℕ). lowest_over S 0 a.program.shape.processes) (needed_is c.requires.0 c.requires.1)
 
 pub loop-p-preserved : goal.loop-p-preserved
@@ -24,9 +24,9 @@ loop-p-preserved c = let a = c.args in
     let v = c.loop-p.invariant in
     let l = c.loop-p-test.true in
     let p = c.loop-p.p in
-    let e : c.times.result ≡ needed a.has a.program.states p =
-    c.times.ensures ∙ ap₂ states_of c.has_at.ensures (c.wide.ensures ∙ c.of_four.ensures) in
-    (omega (arith, l), sym (over_not (needed a.has a.program.states) a.program.shape.processes p l (omega (arith, e, c.if-times-gt32.false))) ∙ v.1)
+    let e : c.times-needed.result ≡ needed a.has a.program.states p =
+    c.times-needed.ensures ∙ ap₂ states_of c.at_or-in-loop-p.ensures (c.from-states.ensures ∙ c.at_or.ensures) in
+    (omega (arith, l), sym (over_not (needed a.has a.program.states) a.program.shape.processes p l (omega (arith, e, c.if-needed-gt32.false))) ∙ v.1)
 
 pub returns : goal.returns
 returns c = let a = c.args in

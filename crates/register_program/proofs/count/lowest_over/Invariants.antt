@@ -5,7 +5,6 @@ use Rattle.register_program.proofs.CountLaws.{needed}
 use Rattle.register_program.proofs.count.lowest_over.Given as goal
 
 abbrev pub invariant-loop-p : goal.invariant-loop-p
-invariant-loop-p l = (l.p ≤ l.n) × (lowest_over (needed l.has l.states) l.p (l.n - l.p) ≡ lowest_over (needed l.has l.states) 0 l.n)
-
-abbrev pub decreases-loop-p : goal.decreases-loop-p
-decreases-loop-p l = l.n - l.p
+invariant-loop-p l =
+    let n = l.program.shape.processes in
+    (l.p ≤ n) × (lowest_over (needed l.has l.program.states) l.p (n - l.p) ≡ lowest_over (needed l.has l.program.states) 0 n)

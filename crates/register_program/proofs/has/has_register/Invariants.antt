@@ -1,4 +1,4 @@
-use Prim.Native.Nat.{◌+◌, ◌-◌, ◌*◌, ◌≤◌}
+use Prim.Native.Nat.{◌-◌, ◌≤◌}
 use mathlib.Core.Path.{◌≡◌}
 use Rattle.file_records.specs.ProgramPart.{table_from}
 use Rattle.register_machine.specs.Program.{some_uses}
@@ -6,7 +6,7 @@ use Rattle.register_program.proofs.HasLaws.{transitions_at}
 use Rattle.register_program.proofs.has.has_register.Given as goal
 
 abbrev pub invariant-loop-i : goal.invariant-loop-i
-invariant-loop-i l = (l.k ≡ l.initial.k + 8 * l.i) × (l.i ≤ l.n) × (some_uses (table_from (transitions_at l.file l.initial.k) l.i (l.n - l.i)) l.p ≡ some_uses (table_from (transitions_at l.file l.initial.k) 0 l.n) l.p)
-
-abbrev pub decreases-loop-i : goal.decreases-loop-i
-decreases-loop-i l = l.n - l.i
+invariant-loop-i l =
+    let n = l.program.transitions.count in
+    let t = transitions_at l.file l.program.transitions.at in
+    (l.i ≤ n) × (some_uses (table_from t l.i (n - l.i)) l.p ≡ some_uses (table_from t 0 n) l.p)

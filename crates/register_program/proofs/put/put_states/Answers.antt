@@ -6,7 +6,7 @@ use lib.ListN.{length}
 use Rattle.file_records.specs.ProgramPart.{table_from}
 use Rattle.drawing.proofs.PutLaws.{put_as}
 use Rattle.register_machine.specs.Written.{joined}
-use Rattle.register_program.proofs.Joined.{table_next, table_all, table_done, going_begin, going_same, going_as, going_first, going_next, going_end}
+use Rattle.register_program.proofs.Joined.{table_next, table_all, table_done, going_begin, going_as, going_first, going_next, going_end}
 use Rattle.register_program.proofs.Found.{found_read}
 use Rattle.register_program.proofs.CountLaws.{states_most}
 use Rattle.register_program.proofs.LoopLaws.{states_row, states_rows}
@@ -20,18 +20,18 @@ loop-p-init c = let A = c.args in
     subst (λ (g : ℕ → List ℕ). A.start + length (joined g (table_from (λ q. q) 0 m)) ≤ length A.out.now) (sym (states_rows c.requires.0 c.requires.1)) c.requires.2 in
     (omega arith, going_as (going_begin L) (sym (ap (joined row) (table_all (λ (q : ℕ). q) m))))
 
-pub times-count-requires : goal.times-count-requires
-times-count-requires c = let A = c.args in
-    omega (arith, c.wide.ensures, c.of_four.ensures, (found_read c.requires.0).states c.loop-p.p c.loop-p-test.true)
+pub times-states-requires : goal.times-states-requires
+times-states-requires c = let A = c.args in
+    omega (arith, c.from.ensures, c.at_or.ensures, (found_read c.requires.0).states c.loop-p.p c.loop-p-test.true)
 
-pub overflow_cast-count : goal.overflow_cast-count
-overflow_cast-count c = omega (arith, c.times-count.ensures, states_most c.has_at-b.result c.wide.result, c.wide.ensures, c.of_four.ensures, (found_read c.requires.0).states c.loop-p.p c.loop-p-test.true)
+pub overflow_cast-states : goal.overflow_cast-states
+overflow_cast-states c = omega (arith, c.times-states.ensures, states_most c.at_or-has_register.result c.from.result, c.from.ensures, c.at_or.ensures, (found_read c.requires.0).states c.loop-p.p c.loop-p-test.true)
 
-pub pair-requires : goal.pair-requires
-pair-requires c = let R = found_read c.requires.0 in
+pub pair-initial-requires : goal.pair-initial-requires
+pair-initial-requires c = let R = found_read c.requires.0 in
     let p = c.loop-p.p in
     let l = c.loop-p-test.true in
-    (omega (arith, c.of_four-in-loop-p.ensures, R.initial p l, R.states p l), omega arith)
+    (omega (arith, c.at_or-in-loop-p.ensures, R.initial p l, R.states p l), omega arith)
 
 pub put-at-requires : goal.put-at-requires
 put-at-requires c = let A = c.args in
@@ -44,9 +44,6 @@ put-at-requires c = let A = c.args in
     let eq : joined row (table_from (λ q. q) p (m - p)) ≡ row p ++ rest = ap (joined row) (table_next (λ (q : ℕ). q) p m l) in
     going_first (row p) rest v.1 eq
 
-pub loop-p-smaller : goal.loop-p-smaller
-loop-p-smaller c = omega (arith, c.loop-p-test.true)
-
 pub loop-p-preserved : goal.loop-p-preserved
 loop-p-preserved c = let A = c.args in
     let row = states_row A.has A.program.states A.program.initial in
@@ -56,10 +53,7 @@ loop-p-preserved c = let A = c.args in
     let p = c.loop-p.p in
     let rest = joined row (table_from (λ q. q) (p + 1) (m - (p + 1))) in
     let eq : joined row (table_from (λ q. q) p (m - p)) ≡ row p ++ rest = ap (joined row) (table_next (λ (q : ℕ). q) p m l) in
-    (omega (arith, l), going_next (row p) rest v.1 eq (put_as c.put-at.ensures (rw (c.pair.ensures, c.of_four-in-loop-p.ensures, c.times-count.ensures, c.wide.ensures, c.of_four.ensures, c.has_at-b.ensures))))
-
-pub shape_of-out : goal.shape_of-out
-shape_of-out c = going_same c.loop-p.invariant.1
+    (omega (arith, l), going_next (row p) rest v.1 eq (put_as c.put-at.ensures (rw (c.pair-initial.ensures, c.at_or-in-loop-p.ensures, c.times-states.ensures, c.from.ensures, c.at_or.ensures, c.at_or-has_register.ensures))))
 
 pub returns : goal.returns
 returns c = let A = c.args in

@@ -1,5 +1,4 @@
-use Prim.Native.Nat.{◌+◌, ◌-◌, ◌*◌, ◌≤◌}
-use mathlib.Core.Path.{◌≡◌}
+use Prim.Native.Nat.{ℕ, ◌-◌, ◌≤◌}
 use Rattle.file_records.specs.ProgramPart.{table_from}
 use Rattle.register_machine.specs.Written.{joined}
 use Rattle.register_program.proofs.Joined.{Going}
@@ -7,8 +6,7 @@ use Rattle.register_program.proofs.LoopLaws.{target_rows}
 use Rattle.register_program.proofs.put.put_targets.Given as goal
 
 abbrev pub invariant-loop-i : goal.invariant-loop-i
-invariant-loop-i l = (l.k ≡ l.initial.k + 5 * l.i) × (l.i ≤ l.n)
-    × Going l.initial.out l.out l.start l.at (joined (target_rows l.has l.file l.initial.k) (table_from (λ j. j) 0 l.n)) (joined (target_rows l.has l.file l.initial.k) (table_from (λ j. j) l.i (l.n - l.i)))
-
-abbrev pub decreases-loop-i : goal.decreases-loop-i
-decreases-loop-i l = l.n - l.i
+invariant-loop-i l =
+    let n = l.program.targets.count in
+    let row = target_rows l.has l.file l.program.targets.at in
+    (l.i ≤ n) × Going l.initial.out l.out l.start l.at (joined row (table_from (λ (j : ℕ). j) 0 n)) (joined row (table_from (λ (j : ℕ). j) l.i (n - l.i)))

@@ -1,5 +1,4 @@
-use Prim.Native.Nat.{◌+◌, ◌-◌, ◌*◌, ◌≤◌}
-use mathlib.Core.Path.{◌≡◌}
+use Prim.Native.Nat.{◌-◌, ◌≤◌}
 use Rattle.file_records.specs.ProgramPart.{table_from}
 use Rattle.register_machine.specs.Written.{joined}
 use Rattle.register_program.proofs.Joined.{Going}
@@ -8,8 +7,7 @@ use Rattle.register_program.proofs.LoopLaws.{transition_rows}
 use Rattle.register_program.proofs.put.put_transitions.Given as goal
 
 abbrev pub invariant-loop-i : goal.invariant-loop-i
-invariant-loop-i l = (l.k ≡ l.initial.k + 8 * l.i) × (l.i ≤ l.n)
-    × Going l.initial.out l.out l.start l.at (joined (transition_rows l.has) (table_from (transitions_at l.file l.initial.k) 0 l.n)) (joined (transition_rows l.has) (table_from (transitions_at l.file l.initial.k) l.i (l.n - l.i)))
-
-abbrev pub decreases-loop-i : goal.decreases-loop-i
-decreases-loop-i l = l.n - l.i
+invariant-loop-i l =
+    let n = l.program.transitions.count in
+    let t = transitions_at l.file l.program.transitions.at in
+    (l.i ≤ n) × Going l.initial.out l.out l.start l.at (joined (transition_rows l.has) (table_from t 0 n)) (joined (transition_rows l.has) (table_from t l.i (n - l.i)))

@@ -3,4 +3,4 @@ use Rattle.report_reading.proofs.records.check_mark.Goals as goal
 
 pub returns : goal.returns
 unfolding mark_number
-returns c = rw (c.answer.ensures, c.first_number.ensures, c.wide.ensures, c.field.ensures, c.cut.ensures, c.is_kind.ensures)
+returns c = rw (c.checked.ensures, c.first_number.ensures, c.from.ensures, c.field.ensures, c.cut.ensures, c.is_kind.ensures)

@@ -1,29 +1,14 @@
-use borrow.Author.Tests.{lt-ltb, le-ltb}
-use lib.ListN.{length-set}
+use lib.ListN.{length}
+use mathlib.Core.Path.{◌≡◌, ◌∙◌}
 use native.Mathlib.Omega.{arith}
-use Rattle.run_layout.specs.Layout.{put_snapshot}
+use borrow.Author.Rules.{rules}
+use Rattle.std.proofs.lemmas.Slice.{put_mid-paste}
+use Rattle.run_layout.proofs.ByteLaws.{put_copied}
 use Rattle.run_layout.proofs.area.put_snapshot.Goals as goal
 
-pub returns-then-lower-at : goal.returns-then-lower-at
-unfolding put_snapshot
-returns-then-lower-at c = rw (← c.widen-at.ensures, lt-ltb _ _ c.if-lower-at.true)
-
-pub bounds-lower-at-2 : goal.bounds-lower-at-2
-unfolding put_snapshot
-bounds-lower-at-2 c = simp length-set (omega arith)
-
-pub bounds-lower-at-3 : goal.bounds-lower-at-3
-unfolding put_snapshot
-bounds-lower-at-3 c = simp length-set (omega arith)
-
-pub bounds-lower-at-4 : goal.bounds-lower-at-4
-unfolding put_snapshot
-bounds-lower-at-4 c = simp length-set (omega arith)
-
-pub shape_of-lower : goal.shape_of-lower
-unfolding put_snapshot
-shape_of-lower c = simp length-set
-
-pub returns : goal.returns
-unfolding put_snapshot
-returns c = rw (← c.widen-at.ensures, le-ltb _ _ c.if-lower-at.false)
+pub returns-then-at-lower : goal.returns-then-at-lower
+returns-then-at-lower c =
+    let four : length c.args.snapshot ≡ 4 = search rules in
+    rw c.from-at.ensures
+    (put_mid-paste _ _ _ _ c.args.snapshot 4 c.copy_from_slice.ensures.after (omega arith) (omega (arith, four))
+    ∙ put_copied c.args.lower.now c.args.i c.args.snapshot (omega (arith, c.from-at.ensures, c.if-at-lower.true)) four)

@@ -1,5 +1,11 @@
-use Rattle.run_replay.proofs.Replaying.{run_of}
+use mathlib.Core.Path.{◌∙◌}
+use borrow.Author.Rules.{rules}
+use Rattle.run_replay.proofs.Replaying.{replay_right, run_of}
 use Rattle.run_replay.proofs.run.replay.Goals as goal
 
-pub returns : goal.returns
-returns c = let e = c.replay_steps.ensures in record { value = e.value; lower_after = e.lower_after; run_of = (λ R few room. run_of _ _ _ _ (e.value_2 R few room)) }
+pub returns-clause-run_of : goal.returns-clause-run_of
+returns-clause-run_of c = λ R few room.
+    let a = c.args in
+    let x = a.contents in
+    run_of _ _ _ _ (c.replay_steps-answer.ensures.value
+    ∙ replay_right a.code.now a.file.now x.program R (search rules) x.memory (search rules) x.evidence.at x.evidence.count few a.lower.now room)

@@ -1,7 +1,0 @@
-use Rattle.file_records.proofs.program.refusal_of.Goals as goal
-
-pub returns-in-Fine : goal.returns-in-Fine
-returns-in-Fine c = rw c.in-Fine.is
-
-pub returns-in-Refused : goal.returns-in-Refused
-returns-in-Refused c = rw c.in-Refused.is

@@ -1,7 +1,0 @@
-use Rattle.pattern_pass.proofs.pass.end_refusal.Goals as goal
-
-pub returns-in-Next : goal.returns-in-Next
-returns-in-Next c = rw c.in-Next.is
-
-pub returns-in-Bad : goal.returns-in-Bad
-returns-in-Bad c = rw c.in-Bad.is
