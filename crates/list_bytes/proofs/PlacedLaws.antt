@@ -21,7 +21,7 @@ use Rattle.list_theory.specs.Matching.{message_matches}
 use Rattle.list_key.specs.Relation.{relation}
 use Rattle.list_key.specs.Tags.{label_number, tags_of, lowest_below, lowest_pointer}
 use Rattle.list_key.specs.Word.{Word}
-use Rattle.list_key.proofs.ValueLaws.{same_bytes}
+use Rattle.list_key.proofs.ValueLaws.{same_bytes, same_four}
 use Rattle.list_key.specs.Match.{channel_matches}
 use Rattle.base.proofs.Tests.{and_false}
 use Rattle.list_key.proofs.TagLaws.{tag_is}
@@ -70,6 +70,22 @@ module _ (exact : Bool) (f : List ℕ) (k : ℕ) {cue label rest : ℕ} (m : Mes
 
     their_low : K.label < 65536
     their_low = omega (arith, K.labels.is, K.labels.first, K.labels.second)
+
+    pub cue_same : label + 65536 * rest ≡ cue / 2 → true ≡ message_matches (relation exact) (message_at f k) m
+    cue_same e =
+        let a = same_bytes lw K.labels (omega (arith, half, low, their_low)) in
+        let b = same_bytes rw K.snapshot (omega (arith, half, low, their_low)) in
+        label_same (relation exact) (message_at f k) m a.first a.second
+        (same_four exact (message_at f k).snapshot m.snapshot refl K.four b)
+
+    pub cue_other : (label ≡ cue / 2 % 65536 → ⊥) → false ≡ message_matches (relation exact) (message_at f k) m
+    cue_other e = at (message_matches (relation exact) (message_at f k) m) refl
+      where
+        at : (b : Bool) → message_matches (relation exact) (message_at f k) m ≡ b → false ≡ b
+        at false q = refl
+        at true q =
+            let M = met (relation exact) (message_at f k) m q in
+            absurd (e (omega (arith, half, lw.is, K.labels.is, M.process, M.variable, their_low, low)))
 
     pub cue_values : {own : List ℕ} {r : Bool} → label ≡ cue / 2 % 65536 → own ≡ cue / 2 / 65536 % 256 ∷ cue / 2 / 65536 / 256 % 256 ∷ cue / 2 / 65536 / 65536 % 256 ∷ cue / 2 / 65536 / 16777216 % 256 ∷ []
         → r ≡ pairwise (relation exact) (message_at f k).snapshot own → r ≡ message_matches (relation exact) (message_at f k) m

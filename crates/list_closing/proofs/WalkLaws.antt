@@ -257,9 +257,9 @@ module _ (g f list sum : List ℕ) (n : ℕ) (p : Program) (c : Cube) (W : Walka
   count_least : min p.transitions.count 256 ≡ length (program_of g p).transitions
   count_least = omega (arith, count_is g p, W.transitions)
 
-  pub opening_is : {r : ℕ} → FailsFirst (walked (min p.transitions.count 256)) (min p.transitions.count 256 + 20) r
+  pub opens_is : {r : ℕ} → FailsFirst (walked (min p.transitions.count 256)) (min p.transitions.count 256 + 20) r
       → opening_at (min p.transitions.count 256) r ≡ opening_of (program_of g p) (entries_of f list n) (configuration_of c)
-  opening_is {r} w =
+  opens_is {r} w =
       ap (λ (m : ℕ). opening_at m r) count_least
       ∙ lowest_opening (program_of g p) W.stepping.program.shape (entries_of f list n) (configuration_of c)
       (subst (λ (m : ℕ). FailsFirst (walked m) (m + 20) r) count_least w)
@@ -269,6 +269,16 @@ module _ (g f list sum : List ℕ) (n : ℕ) (p : Program) (c : Cube) (W : Walka
   shut_is a =
       no_opening (program_of g p) W.stepping.program.shape (entries_of f list n) (configuration_of c)
       (subst (λ (m : ℕ). (j : ℕ) → j < m + 20 → walked m j ≡ true) count_least a)
+
+  -- the lowest that fails, or the end of the walk if none does
+  pub opening_is : (o : Option ℕ)
+      → LowestFailing (walked (min p.transitions.count 256)) (min p.transitions.count 256 + 20) o
+      → opening_at (min p.transitions.count 256) (unwrap_or o (min p.transitions.count 256 + 20))
+      ≡ opening_of (program_of g p) (entries_of f list n) (configuration_of c)
+  opening_is (Some r) w = opens_is w
+  opening_is None w =
+      let m : ℕ = min p.transitions.count 256 in
+      sym (opening_none m (m + 20) (omega arith)) ∙ shut_is w
 
 -- what an opening says
 

@@ -108,6 +108,15 @@ module _ {z : ℕ → ℕ} {ms : List Message} {writes : List ℕ} {i : ℕ} (w 
   pub writes_none : WritePlace m None → WritesTo z ms writes (i + 1)
   writes_none = strange
 
+  pub writes_older : {q : ℕ} → WritePlace m (Some q) → i + 1 ≤ get_or writes q 0 → WritesTo z ms writes (i + 1)
+  writes_older W l = kept W.0 W.1 (subst (λ (k : ℕ). i + 1 ≤ get_or writes k 0) W.2 l)
+
+  pub writes_newer : {q : ℕ} → WritePlace m (Some q) → get_or writes q 0 < i + 1
+      → WritesTo z ms (set writes q (i + 1)) (i + 1)
+  writes_newer W l =
+      subst (λ (k : ℕ). WritesTo z ms (set writes k (i + 1)) (i + 1)) (sym W.2)
+      (moved W.0 W.1 (subst (λ (k : ℕ). get_or writes k 0 < i + 1) W.2 l))
+
   pub writes_next : {q x : ℕ} → WritePlace m (Some q) → x ≡ max (get_or writes q 0) (i + 1) → WritesTo z ms (set writes q x) (i + 1)
   writes_next {q} {x} W e = elim (dec_le (i + 1) (get_or writes place 0)) [
     | yes d ↦ subst (λ (ws : List ℕ). WritesTo z ms ws (i + 1)) (sym (ap₂ (set writes) W.2 (e ∙ ap (λ (k : ℕ). max (get_or writes k 0) (i + 1)) W.2 ∙ omega arith) ∙ set-get_or writes place 0)) (kept W.0 W.1 d)

@@ -1,9 +1,12 @@
 -- The steps of the walk over queues.
 use Prim.Native.Nat.{ℕ, ◌+◌, ◌<◌, ◌≤◌}
-use mathlib.Core.Path.{◌≡◌, sym, subst}
-use mathlib.Core.Bool.{Bool, true, false}
+use mathlib.Core.Path.{◌≡◌, sym, subst, ◌∙◌}
+use mathlib.Core.Bool.{Bool, true, false, ◌&&◌}
 use mathlib.Core.List.{List}
 use native.Mathlib.Omega.{arith}
+use lib.Dec.{leb}
+use borrow.Author.Tests.{leb-true}
+use Rattle.file_records.proofs.ProgramLaws.{and_true}
 use Rattle.machine_pws.specs.declared.Message.{Message}
 use Rattle.file_records.specs.declared.program.Shape.{Shape}
 use Rattle.file_contents.specs.declared.entry.Cube.{Cube}
@@ -14,6 +17,13 @@ use Rattle.list_targets.specs.Walk.{Judges, queue_cubes, target_leaf}
 use Rattle.list_targets.specs.Depth.{SmallShape, AtQueue}
 use Rattle.list_targets.proofs.JudgeLaws.{Answers, judges_same, judges_one, judges_both, judges_first}
 use Rattle.list_targets.proofs.QueueWalk.{cubes_branch, cubes_row, cubes_end, cubes_all, roomy_waiting}
+
+-- no queue comes after this one
+pub last_queue : (s : Shape) (p v : ℕ) {r : Bool} → r ≡ (leb s.variables (v + 1) && leb s.processes (p + 1)) → r ≡ true
+    → (s.variables ≤ v + 1) × (s.processes ≤ p + 1)
+last_queue s p v e f =
+    let w = and_true (leb s.variables (v + 1)) (leb s.processes (p + 1)) (sym e ∙ f) in
+    (leb-true s.variables (v + 1) w.0, leb-true s.processes (p + 1) w.1)
 
 module _ {s : Shape} {c : Cube} {p v : ℕ} (w : AtQueue s c p v) where
   pub next_queue : v < s.variables → AtQueue s c p (v + 1)

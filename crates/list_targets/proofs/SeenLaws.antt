@@ -289,10 +289,17 @@ module _ (s : Shape) (sight : Sight) (e : Cube) where
       (ap₂ ◌&&◌ (lt-ltb sight.process 4 a) (lt-ltb sight.variable 4 b))))
       ∙ sym (each_map (outline_memory (shape_of s)) (outlines (shape_of s) (suc (longest (shape_of s))) 0 [] (λ q. 0)) seen_of)
 
-pub sees_yes : (L : Listing) (k : ℕ) (sight : Sight) {a : Bool} → sight.process < 4 → sight.variable < 4 → (L.shape.variables < 4) ⊎ (L.shape.processes < 4)
-    → Judges L (all_cubes L.shape (seen_leaf L.shape sight (entry_of L k))) a → Searched L
-    → ((c : Configuration) → Memᴰ c (seen_cubes (shape_of L.shape) sight.process sight.variable sight.value (configuration_of (entry_of L k))) → Fits (ValueOrFF (shape_of L.shape)) (shape_of L.shape) c)
-    → a ≡ true → every (held (shape_of L.shape) (listed L)) (seen_cubes (shape_of L.shape) sight.process sight.variable sight.value (configuration_of (entry_of L k))) ≡ true
-sees_yes L k sight l m u j h A y =
-    let q = seen_all L.shape sight (entry_of L k) l m (roomy_shape L.shape.processes L.shape.variables h.shape.processes h.shape.variables u) in
+-- of any cube
+pub sees_yes : (L : Listing) (sight : Sight) (e : Cube) {a : Bool} → sight.process < 4 → sight.variable < 4
+    → (L.shape.variables < 4) ⊎ (L.shape.processes < 4)
+    → Judges L (all_cubes L.shape (seen_leaf L.shape sight e)) a → Searched L
+    → ((c : Configuration)
+    → Memᴰ c (seen_cubes (shape_of L.shape) sight.process sight.variable sight.value (configuration_of e))
+    → Fits (ValueOrFF (shape_of L.shape)) (shape_of L.shape) c)
+    → a ≡ true
+    → every (held (shape_of L.shape) (listed L))
+    (seen_cubes (shape_of L.shape) sight.process sight.variable sight.value (configuration_of e)) ≡ true
+sees_yes L sight e l m u j h A y =
+    let r = roomy_shape L.shape.processes L.shape.variables h.shape.processes h.shape.variables u in
+    let q = seen_all L.shape sight e l m r in
     sym (ap (every (held (shape_of L.shape) (listed L))) q) ∙ sym (j.judged h (λ c i. A c (subst (Memᴰ c) q i))) ∙ y
