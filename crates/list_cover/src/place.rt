@@ -39,7 +39,8 @@ fn with_sent(mut cube: Cube, message: usize, variable: usize, x: u8) -> Cube
     cube
 }
 
-// The part of the cube that has x at a place.
+// The part of the cube that has x at a place. Not inlined: its copies of the cube would stand in each frame of the search.
+#[inline(never)]
 pub(crate) fn part_of(cube: Cube, place: Place, x: u8) -> Cube
     ensures { result ≡ part_of cube place x }
 {

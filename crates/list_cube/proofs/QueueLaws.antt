@@ -1,21 +1,23 @@
 -- Waiting values of a cube: the newest, and those before a write.
-use Prim.Native.Nat.{ℕ, zero, suc, ◌+◌, ◌-◌, ◌<◌, ◌≤◌}
+use Prim.Native.Nat.{ℕ, zero, suc, ◌+◌, ◌-◌, ◌<◌, ◌≤◌, min}
 use mathlib.Core.Path.{◌≡◌, refl, sym, ap, ap₂, subst, ◌∙◌}
 use mathlib.Core.Logic.{◌≢◌}
-use mathlib.Core.Bool.{true, false, ◌&&◌}
+use mathlib.Core.Bool.{Bool, true, false, ◌&&◌}
 use mathlib.Core.List.{List, [], ◌∷◌}
 use native.Mathlib.Omega.{arith}
-use native.Mathlib.Decide.{ℕ_discrete}
+use native.Mathlib.Decide.{ℕ_discrete, dec_lt}
 use lib.ListN.{length, get_or, set, take}
 use lib.Seq.{get_or-set_same, get_or-set_other, take-take}
 use lib.Dec.{T, eqb, ltb}
-use borrow.Author.Tests.{ne_eqb, lt-ltb}
-use Rattle.machine_pws.specs.Machine.{is_empty, newest_waiting, newest_or}
+use borrow.Author.Tests.{ne_eqb, lt-ltb, le-ltb}
+use Rattle.machine_pws.specs.Machine.{is_empty, all_below, newest_waiting, newest_or}
 use Rattle.list_theory.specs.Values.{alike}
 use Rattle.list_theory.specs.Cubes.{without_last, with_last}
 use Rattle.list_theory.specs.Predecessors.{ends_alike}
 use Rattle.file_contents.specs.declared.entry.Queue.{Queue}
-use Rattle.file_contents.specs.Cube.{no_queue, waiting_of}
+use Rattle.file_contents.specs.Cube.{no_queue, waiting_of, queue_of}
+use Rattle.file_contents.proofs.CubeParts.{queue_none}
+use Rattle.base.proofs.Tests.{few_all, and_false}
 use Rattle.list_key.proofs.ValueLaws.{newest_at}
 use Rattle.list_cube.specs.Editing.{Waits}
 
@@ -123,3 +125,26 @@ put_sizes qs at q e f l i k = elim (ℕ_discrete i at) [
   | yes d ↦ subst (λ (r : Queue). r.count ≤ 9) (sym (ap (λ (j : ℕ). get_or (set qs at q) j no_queue) d ∙ get_or-set_same qs at q no_queue (omega arith))) l
   | no d ↦ subst (λ (r : Queue). r.count ≤ 9) (sym (get_or-set_other qs at i q no_queue d)) (f i k)
 ]
+
+-- ---- the queues of a process
+
+and_true : (a : Bool) → a ≡ a && true
+and_true true = refl
+and_true false = refl
+
+first_four : (n : ℕ) (f : ℕ → Bool) → ((i : ℕ) → 4 ≤ i → f i ≡ true) → all_below (min n 4) f ≡ all_below n f
+first_four zero f h = refl
+first_four (suc m) f h = elim (dec_lt m 4) [
+  | yes l ↦ few_all (suc m) f (omega arith)
+  | no d ↦
+      let e : min (suc m) 4 ≡ min m 4 = omega arith in
+      ap (λ (k : ℕ). all_below k f) e ∙ first_four m f h ∙ and_true (all_below m f)
+      ∙ ap (◌&&◌ (all_below m f)) (sym (h m (omega arith)))
+]
+
+-- past the fourth nothing waits
+pub row_first : (qs : List Queue) (p n : ℕ) → all_below (min n 4) (λ v. is_empty (queue_of qs p v)) ≡ all_below n (λ v. is_empty (queue_of qs p v))
+row_first qs p n = first_four n (λ v. is_empty (queue_of qs p v)) (λ i l. ap is_empty (queue_none qs p i (past i l)))
+  where
+    past : (i : ℕ) → 4 ≤ i → (ltb p 4 && ltb i 4) ≡ false
+    past i l = rw (le-ltb i 4 l) (and_false (ltb p 4))

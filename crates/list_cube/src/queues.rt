@@ -1,6 +1,6 @@
 // Waiting values of a cube.
 ghost use Rattle.std.specs.Prelude.{◌≡◌, ◌∷◌, ◌+◌, ◌*◌, ◌≤◌, ◌<◌, get_or, set};
-ghost use Rattle.machine_pws.specs.Machine.{is_empty, newest_waiting, newest_or, none_waiting};
+ghost use Rattle.machine_pws.specs.Machine.{is_empty, newest_waiting, newest_or, none_waiting, all_below};
 ghost use Rattle.list_theory.specs.Cubes.{without_last, with_last};
 ghost use Rattle.list_theory.specs.Predecessors.{ends_alike};
 ghost use Rattle.file_records.specs.ProgramPart.{shape_of};
@@ -89,15 +89,29 @@ pub fn put_queue(mut queues: [Queue; 16], p: usize, v: usize, queue: Queue) -> [
     queues
 }
 
+// Nothing waits in the queue of p and v, which is looked at where it stands: no queue is copied.
+fn empty_at(queues: &[Queue; 16], p: usize, v: usize) -> bool
+    ensures { result ≡ is_empty (queue_of queues.now p v) }
+{
+    4 <= p || 4 <= v || is_empty(queues[4 * p + v])
+}
+
+// Nothing waits in the first n queues of p, of which there are four.
+pub fn row_empty(n: usize, queues: &[Queue; 16], p: usize) -> bool
+    ensures { result ≡ all_below n (λ v. is_empty (queue_of queues.now p v)) }
+{
+    all_below(n.min(4), |v| empty_at(queues, p, v))
+}
+
 pub fn queue_empty(cube: Cube, p: usize, v: usize) -> bool
     ensures { result ≡ is_empty ((configuration_of cube).queue p v) }
 {
-    is_empty(queue_at(cube.queues, p, v))
+    empty_at(&cube.queues, p, v)
 }
 
 // No value of p waits.
 pub fn none_waiting(shape: Shape, cube: Cube, p: usize) -> bool
     ensures { result ≡ none_waiting (shape_of shape) (configuration_of cube) p }
 {
-    all_below(shape.variables, |v| queue_empty(cube, p, v))
+    row_empty(shape.variables, &cube.queues, p)
 }

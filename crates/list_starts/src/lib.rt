@@ -11,7 +11,7 @@ use base::below::all_below;
 use file_again::entry_at;
 use file_contents::entry::Cube;
 use file_records::program::Shape;
-use list_cube::queues::none_waiting;
+use list_cube::queues::row_empty;
 use list_key::states_match;
 use list_summary::states_at;
 
@@ -20,7 +20,10 @@ fn looks_started(shape: Shape, initial: [u8; 4], cube: Cube) -> bool
     ensures { Small shape → result ≡ looks_started (starts_of shape initial) (configuration_of cube) }
 {
     states_match(shape.processes, cube.states, initial)
-        && all_below(shape.processes, |p| none_waiting(shape, cube, p))
+        && all_below(
+            shape.processes.min(4),
+            |p| row_empty(shape.variables, &cube.queues, p),
+        )
         && cube.count == 1
 }
 
