@@ -14,8 +14,9 @@ use crate::serialise::serialised_held;
 use crate::take::before_held;
 use crate::update::updated_held;
 use file_again::{leads_to, transition_of};
+use file_records::program::Program;
 use list_cube::newest::newest;
-use list_known::full::states_from;
+use list_known::full::{is_full, states_from};
 use machine_pws::Step;
 
 mod closing;
@@ -115,20 +116,20 @@ fn opening_at(m: usize, j: usize) -> Option<Step>
 }
 
 // These local states are full, and so are those from which a transition leads there.
-pub fn is_surrounded(closing: &Closing, states: [u8; 4]) -> bool
-    ensures { result ≡ true → Surrounded closing.now.full.now closing.now.code.now closing.now.program states }
+pub fn is_surrounded(full: &[u8], code: &[u8], program: Program, states: [u8; 4]) -> bool
+    ensures { result ≡ true → Surrounded full.now code.now program states }
 {
-    if !closing.is_full(states) {
+    if !is_full(full, program.shape, states) {
         return false;
     }
-    let m = closing.program.transitions.count.min(256);
+    let m = program.transitions.count.min(256);
     for j in 0..m {
-        if !leads_to(closing.code, closing.program, j, states) {
+        if !leads_to(code, program, j, states) {
             continue;
         }
-        let leading = transition_of(closing.code, closing.program, j);
+        let leading = transition_of(code, program, j);
         let before = states_from(states, leading.process, leading.from);
-        if !closing.is_full(before) {
+        if !is_full(full, program.shape, before) {
             return false;
         }
     }

@@ -79,6 +79,10 @@ module _ (f list sum : List ℕ) (n : ℕ) (s : Shape) (states : List ℕ) (numb
     pub walked_shorter : {i : ℕ} → next ≡ Some i → v.below + cond v.led 0 1 < w.below + cond w.led 0 1
     walked_shorter {i} e = onward_whole.shorter i e
 
+    -- at the end of the walk everything was seen
+    pub walked_end : next ≡ None → (k : ℕ) → Start k → Seen k
+    walked_end e k l = ⊎_elim (λ x. x) (λ y. absurd (onward_whole.none e k y)) (W.each k l)
+
 -- how far a walk can still go
 abbrev pub far : Walk → ℕ
 far w = w.below + cond w.led 0 1

@@ -88,7 +88,7 @@ fn is_shut(closing: &Closing, k: usize, shut: &mut [u8]) -> bool
     if has_states(shut, states) {
         return true;
     }
-    if !is_surrounded(closing, states) {
+    if !is_surrounded(closing.full, closing.code, closing.program, states) {
         return false;
     }
     put_full(shut, states);

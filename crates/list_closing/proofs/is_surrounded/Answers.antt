@@ -14,7 +14,7 @@ pub returns-then-not-is_full : goal.returns-then-not-is_full
 returns-then-not-is_full c = λ e. absurd (false≢true e)
 
 pub loop-j-init : goal.loop-j-init
-loop-j-init c = around_begin c.args.closing.now.full.now c.args.closing.now.code.now c.args.closing.now.program c.args.states c.min-m.result (sym c.is_full.ensures ∙ c.if-not-is_full.false)
+loop-j-init c = around_begin c.args.full.now c.args.code.now c.args.program c.args.states c.min-m.result (sym c.is_full.ensures ∙ c.if-not-is_full.false)
 
 pub overflow_step-j : goal.overflow_step-j
 overflow_step-j c = omega (arith, c.loop-j-test.true, c.min-m.ensures)
@@ -23,7 +23,7 @@ pub loop-j-smaller-then-not-leads_to : goal.loop-j-smaller-then-not-leads_to
 loop-j-smaller-then-not-leads_to c = omega (arith, c.loop-j-test.true)
 
 pub loop-j-preserved-then-not-leads_to : goal.loop-j-preserved-then-not-leads_to
-loop-j-preserved-then-not-leads_to c = around_next c.args.closing.now.full.now c.args.closing.now.code.now c.args.closing.now.program c.args.states c.min-m.result c.loop-j.invariant c.loop-j-test.true (transition_of c.args.closing.now.code.now c.args.closing.now.program c.loop-j.j) refl (λ e. absurd (leads_elsewhere c.args.states (transition_of c.args.closing.now.code.now c.args.closing.now.program c.loop-j.j) c.leads_to.ensures (c.if-not-leads_to.true) e))
+loop-j-preserved-then-not-leads_to c = around_next c.args.full.now c.args.code.now c.args.program c.args.states c.min-m.result c.loop-j.invariant c.loop-j-test.true (transition_of c.args.code.now c.args.program c.loop-j.j) refl (λ e. absurd (leads_elsewhere c.args.states (transition_of c.args.code.now c.args.program c.loop-j.j) c.leads_to.ensures (c.if-not-leads_to.true) e))
 
 pub returns-then-not-is_full-2 : goal.returns-then-not-is_full-2
 returns-then-not-is_full-2 c = λ e. absurd (false≢true e)
@@ -35,7 +35,7 @@ pub loop-j-smaller : goal.loop-j-smaller
 loop-j-smaller c = omega (arith, c.loop-j-test.true)
 
 pub loop-j-preserved : goal.loop-j-preserved
-loop-j-preserved c = around_next c.args.closing.now.full.now c.args.closing.now.code.now c.args.closing.now.program c.args.states c.min-m.result c.loop-j.invariant c.loop-j-test.true c.transition_of-leading.result c.transition_of-leading.ensures (λ e. sym (ap (λ (z : List ℕ). is_full c.args.closing.now.full.now c.args.closing.now.program.shape z) c.states_from-before.ensures) ∙ sym c.is_full-in-loop-j.ensures ∙ c.if-not-is_full-2.false)
+loop-j-preserved c = around_next c.args.full.now c.args.code.now c.args.program c.args.states c.min-m.result c.loop-j.invariant c.loop-j-test.true c.transition_of-leading.result c.transition_of-leading.ensures (λ e. sym (ap (λ (z : List ℕ). is_full c.args.full.now c.args.program.shape z) c.states_from-before.ensures) ∙ sym c.is_full-in-loop-j.ensures ∙ c.if-not-is_full-2.false)
 
 pub returns : goal.returns
-returns c = λ e. around_end c.args.closing.now.full.now c.args.closing.now.code.now c.args.closing.now.program c.args.states c.min-m.result c.loop-j.invariant (omega (arith, c.loop-j-test.false)) c.min-m.ensures
+returns c = λ e. around_end c.args.full.now c.args.code.now c.args.program c.args.states c.min-m.result c.loop-j.invariant (omega (arith, c.loop-j-test.false)) c.min-m.ensures
